@@ -7,6 +7,7 @@ use lib.ListN.{length, getD, set, replicate}
 use lib.Dec.{eqb, ltb, leb}
 use Rattle.rules.specs.Size.{slots, deepest}
 use Rattle.rules.specs.Octets.{Octets, same, less}
+use Rattle.rules.specs.Entries.{lowest}
 use Rattle.rules.specs.Path.{Domain, isControl, Name, Names}
 
 -- access: n 0, r 1, w 2, b 3
@@ -66,17 +67,6 @@ unfoldable pub reach : Table → Names → Reached
 reach t ns = reachFrom ns t 0
 
 -- ── making ──
-
--- the lowest free place of a table, or its length where none is free
-unfoldable pub lowest : {A : Type 0} → List (Option A) → ℕ
-lowest [] = 0
-lowest (none ∷ xs) = 0
-lowest (some x ∷ xs) = suc (lowest xs)
-
-unfoldable pub freeCount : Table → ℕ
-freeCount [] = 0
-freeCount (none ∷ ss) = suc (freeCount ss)
-freeCount (some n ∷ ss) = freeCount ss
 
 -- "its parent's entries, with the sender as owner unless the sender is 0"
 unfoldable pub heir : Domain → Entry → Entry

@@ -86,6 +86,7 @@ pub record Bits : Type 0 where
   pub width : ℕ
   pub holds : ℕ
 
+infixl 70 _bits_
 abbrev pub _bits_ : ℕ → ℕ → Bits
 _bits_ w n = record { width = w; holds = n }
 

@@ -3,6 +3,7 @@ use mathlib.Core.Bool.{Bool, true, false, cond, not, _&&_, _||_}
 use mathlib.Core.List.{List, [], _∷_}
 use Prim.Native.Nat.{ℕ, zero, suc, _%_}
 use lib.Dec.{eqb, ltb, leb}
+use Rattle.rules.specs.Entries.{isEmpty}
 use Rattle.rules.specs.Path.{Domain, isControl, Names}
 use Rattle.rules.specs.Node.{Entry, Node, Table, nodeAt, reach}
 
@@ -39,10 +40,6 @@ mayWrite d n = leb 2 (accessOf d n .access)
 
 unfoldable pub mayOwn : Domain → Node → Bool
 mayOwn d n = isControl d || eqb d (n .owner .domain)
-
-unfoldable pub isEmpty : {A : Type 0} → List A → Bool
-isEmpty [] = true
-isEmpty (a ∷ rest) = false
 
 -- a path is there, and domain d may read it
 unfoldable pub readable : Table → Domain → Names → Bool
