@@ -1,1 +1,3 @@
 pub mod WorkedLines
+pub mod Tables
+pub mod Fields
