@@ -6,7 +6,7 @@ use native.Mathlib.Nat.{add-zero, zero-add, add-suc, suc-add, le-of-suc-le-suc, 
 use native.Mathlib.Numerals.{add-one}
 use native.Mathlib.Omega.{arith}
 use lib.ListN.{length, getD, take, drop, length-append}
-use lib.Seq.{take-at, drop-at, drop-cons, drop-drop, drop-append-add}
+use lib.Seq.{take-at, drop-at, drop-cons, drop-drop}
 use Rattle.rules.specs.Octets.{Octets, bigEndian, bigFrom, field}
 
 pub length-big : (k n : ℕ) → length (bigEndian k n) ≡ k
@@ -31,10 +31,10 @@ pub field-first : (k n : ℕ) (rest : Octets) → n < 256 ^ k → field (bigEndi
 unfolding field
 field-first k n rest h = ap (bigFrom 0) (take-at (bigEndian k n) rest k (length-big k n)) ∙ big-read k n h
 
--- a field past a first part
-pub field-past : (p q : Octets) (i k : ℕ) → field (p ++ q) (length p + i) k ≡ field q i k
+-- a field that begins where a first part of i bytes ends
+pub field-at : (p q : Octets) (i k : ℕ) → length p ≡ i → field (p ++ q) i k ≡ field q 0 k
 unfolding field
-field-past p q i k = ap (λ (r : Octets). bigFrom 0 (take k r)) (drop-append-add p q i)
+field-at p q i k h = ap (λ (r : Octets). bigFrom 0 (take k r)) (drop-at p q i h)
 
 take-drop-take : {A : Type 0} (k j n : ℕ) (l : List A) → j + k ≤ n → take k (drop j (take n l)) ≡ take k (drop j l)
 take-drop-take zero j n l h = refl

@@ -13,6 +13,27 @@ getD-any [] i a b h = absurd (not-suc-le-zero h)
 getD-any (x ∷ xs) zero a b h = refl
 getD-any (x ∷ xs) (suc i) a b h = getD-any xs i a b (le-of-suc-le-suc h)
 
+-- ── what holds of each entry ──
+
+module _ {A : Type 0} where
+  abbrev pub Each : (A → Type 0) → List A → Type 0
+  Each P [] = Unit {0}
+  Each P (x ∷ xs) = P x × Each P xs
+
+  pub each-at : (P : A → Type 0) (xs : List A) (i : ℕ) (d : A) → Each P xs → i < length xs → P (getD xs i d)
+  each-at P [] i d e h = absurd (not-suc-le-zero h)
+  each-at P (x ∷ xs) zero d e h = e .0
+  each-at P (x ∷ xs) (suc i) d e h = each-at P xs i d (e .1) (le-of-suc-le-suc h)
+
+  pub each-set : (P : A → Type 0) (xs : List A) (i : ℕ) (y : A) → Each P xs → P y → Each P (set xs i y)
+  each-set P [] i y e p = tt
+  each-set P (x ∷ xs) zero y e p = (p, e .1)
+  each-set P (x ∷ xs) (suc i) y e p = (e .0, each-set P xs i y (e .1) p)
+
+  pub each-map : (P Q : A → Type 0) → ((x : A) → P x → Q x) → (xs : List A) → Each P xs → Each Q xs
+  each-map P Q f [] e = tt
+  each-map P Q f (x ∷ xs) e = (f x (e .0), each-map P Q f xs (e .1))
+
 -- ── bytes taken as entries ──
 
 pub length-chunks : (n k : ℕ) (s : Octets) → length (chunks n k s) ≡ n
@@ -41,36 +62,39 @@ paste-past p q ys i =
     ap₂ _++_ (take-append-add p q i) (ap (λ (m : ℕ). ys ++ drop m (p ++ q)) (add-assoc (length p) i (length ys)) ∙ ap (λ (r : Octets). ys ++ r) (drop-append-add p q (i + length ys)))
     ∙ append-assoc p (take i q) (ys ++ drop (i + length ys) q)
 
-module _ {A : Type 0} (encode : A → Octets) (k : ℕ) (width : (x : A) → length (encode x) ≡ k) where
-  pub length-encoded : (xs : List A) → length (flatMap encode xs) ≡ length xs * k
-  unfolding flatMap
-  length-encoded [] = sym (zero-mul k)
-  length-encoded (x ∷ xs) = length-append (encode x) (flatMap encode xs) ∙ rw (width x, length-encoded xs, suc-mul, add-comm k)
+module _ {A : Type 0} (encode : A → Octets) (k : ℕ) where
+  -- the entry takes k bytes
+  abbrev pub Wide : A → Type 0
+  Wide x = length (encode x) ≡ k
 
-  skip : (x : A) (rest : Octets) (i : ℕ) → drop (suc i * k) (encode x ++ rest) ≡ drop (i * k) rest
-  skip x rest i = sym (place-next k i (encode x ++ rest)) ∙ ap (drop (i * k)) (drop-at (encode x) rest k (width x))
+  pub length-encoded : (xs : List A) → Each Wide xs → length (flatMap encode xs) ≡ length xs * k
+  unfolding flatMap
+  length-encoded [] w = sym (zero-mul k)
+  length-encoded (x ∷ xs) w = length-append (encode x) (flatMap encode xs) ∙ rw (w .0, length-encoded xs (w .1), suc-mul, add-comm k)
+
+  skip : (x : A) → Wide x → (rest : Octets) (i : ℕ) → drop (suc i * k) (encode x ++ rest) ≡ drop (i * k) rest
+  skip x w rest i = sym (place-next k i (encode x ++ rest)) ∙ ap (drop (i * k)) (drop-at (encode x) rest k w)
 
   -- the bytes of the entry in place i
-  pub encoded-at : (xs : List A) (i : ℕ) (d : A) → i < length xs → take k (drop (i * k) (flatMap encode xs)) ≡ encode (getD xs i d)
+  pub encoded-at : (xs : List A) (i : ℕ) (d : A) → Each Wide xs → i < length xs → take k (drop (i * k) (flatMap encode xs)) ≡ encode (getD xs i d)
   unfolding flatMap
-  encoded-at [] i d h = absurd (not-suc-le-zero h)
-  encoded-at (x ∷ xs) zero d h = rw zero-mul (take-at (encode x) (flatMap encode xs) k (width x))
-  encoded-at (x ∷ xs) (suc i) d h = ap (take k) (skip x (flatMap encode xs) i) ∙ encoded-at xs i d (le-of-suc-le-suc h)
+  encoded-at [] i d w h = absurd (not-suc-le-zero h)
+  encoded-at (x ∷ xs) zero d w h = rw zero-mul (take-at (encode x) (flatMap encode xs) k (w .0))
+  encoded-at (x ∷ xs) (suc i) d w h = ap (take k) (skip x (w .0) (flatMap encode xs) i) ∙ encoded-at xs i d (w .1) (le-of-suc-le-suc h)
 
   -- a written entry changes its own bytes alone
-  pub written : (xs : List A) (i : ℕ) (y : A) → i < length xs → flatMap encode (set xs i y) ≡ paste (i * k) (encode y) (flatMap encode xs)
+  pub written : (xs : List A) (i : ℕ) (y : A) → Each Wide xs → Wide y → i < length xs →
+      flatMap encode (set xs i y) ≡ paste (i * k) (encode y) (flatMap encode xs)
   unfolding flatMap paste
-  written [] i y h = absurd (not-suc-le-zero h)
-  written (x ∷ xs) zero y h = rw (zero-mul, zero-add, width y, drop-at (encode x) (flatMap encode xs) k (width x))
-  written (x ∷ xs) (suc i) y h =
-      rw (written xs i y (le-of-suc-le-suc h), suc-mul, add-comm (i * k) k, ← width x, paste-past)
+  written [] i y w v h = absurd (not-suc-le-zero h)
+  written (x ∷ xs) zero y w v h = rw (zero-mul, zero-add, v, drop-at (encode x) (flatMap encode xs) k (w .0))
+  written (x ∷ xs) (suc i) y w v h = rw (written xs i y (w .1) v (le-of-suc-le-suc h), suc-mul, add-comm (i * k) k, ← w .0, paste-past)
 
   -- decoding undoes encoding, where it does so at each entry
-  pub decoded : (decode : Octets → A) (xs : List A) (d : A) → ((i : ℕ) → i < length xs → decode (encode (getD xs i d)) ≡ getD xs i d) →
+  pub decoded : (decode : Octets → A) (xs : List A) → Each Wide xs → Each (λ (x : A). decode (encode x) ≡ x) xs →
       map decode (chunks (length xs) k (flatMap encode xs)) ≡ xs
   unfolding flatMap chunks
-  decoded decode [] d each = refl
-  decoded decode (x ∷ xs) d each =
-      ap₂ _∷_ (ap decode (take-at (encode x) (flatMap encode xs) k (width x)) ∙ each 0 (suc-le-suc zero-le))
-      (ap (λ (r : Octets). map decode (chunks (length xs) k r)) (drop-at (encode x) (flatMap encode xs) k (width x))
-      ∙ decoded decode xs d (λ i h. each (suc i) (suc-le-suc h)))
+  decoded decode [] w e = refl
+  decoded decode (x ∷ xs) w e =
+      ap₂ _∷_ (ap decode (take-at (encode x) (flatMap encode xs) k (w .0)) ∙ e .0)
+      (ap (λ (r : Octets). map decode (chunks (length xs) k r)) (drop-at (encode x) (flatMap encode xs) k (w .0)) ∙ decoded decode xs (w .1) (e .1))
