@@ -1,0 +1,2 @@
+// The node table, on lent bytes.
+mod slots;
