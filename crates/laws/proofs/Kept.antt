@@ -25,10 +25,13 @@ getD-set-none [] j = refl
 getD-set-none (x ∷ xs) zero = refl
 getD-set-none (x ∷ xs) (suc j) = getD-set-none xs j
 
-pub getD-set-some : {A : Type 0} (xs : List (Option A)) (j : ℕ) (e : Option A) (y : A) → getD (set xs j e) j none ≡ some y → e ≡ some y
-getD-set-some [] j e y q = absurd (nothing q)
-getD-set-some (x ∷ xs) zero e y q = q
-getD-set-some (x ∷ xs) (suc j) e y q = getD-set-some xs j e y q
+pub getD-set-some : {A : Type 0} (xs : List (Option A)) (j k : ℕ) (e : Option A) (y : A) → k ≡ j → getD (set xs j e) k none ≡ some y → e ≡ some y
+getD-set-some {A} xs j k e y r q = go xs j (rw r at q)
+  where
+    go : (xs : List (Option A)) (j : ℕ) → getD (set xs j e) j none ≡ some y → e ≡ some y
+    go [] j q = absurd (nothing q)
+    go (x ∷ xs) zero q = q
+    go (x ∷ xs) (suc j) q = go xs j q
 
 pub getD-lowest : {A : Type 0} (xs : List (Option A)) → getD xs (lowest xs) none ≡ none
 unfolding lowest
@@ -92,7 +95,7 @@ kept-set xs j e h = record { at = λ k x y p q. go k x y p q (ℕ-discrete k j) 
   where
     go : (k : ℕ) (x y : Transaction) → getD xs k none ≡ some x → getD (set xs j e) k none ≡ some y
         → Dec (k ≡ j) → (y .holder ≡ x .holder) × (y .stale ≡ (x .stale || false))
-    go k x y p q (yes r) = h x y (rw r at p) (getD-set-some xs j e y (rw r at q))
+    go k x y p q (yes r) = h x y (rw r at p) (getD-set-some xs j k e y r q)
     go k x y p q (no r) = same-entry x y (sym p ∙ (sym (getD-set-other xs j k e none r) ∙ q))
 
 pub kept-closed : (xs : Transactions) (j : ℕ) → Kept false xs (set xs j none)
@@ -107,6 +110,6 @@ kept-staledIf false xs ys h = h
 kept-staledIf true xs ys h =
     record {
       at = λ k x y p q.
-        let s = getD-staled ys k y q in
-        (s .2 ∙ h .at k x (s .0) p (s .1) .0, s .3 ∙ sym (or-true (x .stale)));
+          let s = getD-staled ys k y q in
+          (s .2 ∙ h .at k x (s .0) p (s .1) .0, s .3 ∙ sym (or-true (x .stale)));
     }

@@ -2,3 +2,6 @@
 pub mod Kept
 pub mod Answers
 pub mod Step
+pub mod Calls
+pub mod Eagain
+pub mod Refusals

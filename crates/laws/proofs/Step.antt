@@ -45,6 +45,7 @@ named w (suc k) c x e = rw sub-one (go (getD (w .transactions) k none) e)
     held : (b : Bool) (y : Transaction) → eqb c (y .holder) ≡ b → cond b (some y) none ≡ some x → (some y ≡ some x) × (c ≡ x .holder)
     held true y p q = (q, eqb-true _ _ p ∙ ap Transaction.holder (some-is q))
     held false y p q = absurd (nothing q)
+
     go : (m : Option Transaction) → (elim m [ none ↦ none | some y ↦ cond (eqb c (y .holder)) (some y) none ]) ≡ some x → (m ≡ some x) × (c ≡ x .holder)
     go none q = absurd (nothing q)
     go (some y) q = held (eqb c (y .holder)) y refl q
@@ -108,9 +109,11 @@ module _ (w : World) (tx : ℕ) where
           → Step false (elim m [ none ↦ left w (refused ENOENT) | some x ↦ inside w (tx - 1) x (answer (domainOf c) a ns (copyOf w (tx - 1))) ])
       there none e = left-step (refused ENOENT) refl
       there (some x) e = inside-step (tx - 1) x (named w tx c x e .0) (answer-shape (domainOf c) a ns (copyOf w (tx - 1)))
+
       by : (b : Bool) → let o = cond b (plainly w (answer (domainOf c) a ns (w .nodes))) (elim (transactionOf w c tx) [
-          | none ↦ left w (refused ENOENT)
-          | some x ↦ inside w (tx - 1) x (answer (domainOf c) a ns (copyOf w (tx - 1))) ]) in Step (b && alters (w .nodes) ns (o .reply) a) o
+        | none ↦ left w (refused ENOENT)
+        | some x ↦ inside w (tx - 1) x (answer (domainOf c) a ns (copyOf w (tx - 1)))
+      ]) in Step (b && alters (w .nodes) ns (o .reply) a) o
       by true = rw plainly-reply (plainly-step (answer-shape (domainOf c) a ns (w .nodes)))
       by false = there (transactionOf w c tx) refl
 
@@ -148,7 +151,7 @@ module _ (w : World) (tx : ℕ) where
 
   ended-step : (k : ℕ) (x : Transaction) → getD (w .transactions) k none ≡ some x → (commit stale : Bool) → k ≡ tx - 1
       → let o = cond commit (cond stale (closing w k (refused EAGAIN)) (committing w k x)) (closing w k OK) in
-        Step (commit && (succeeds (o .reply) && recorded w k)) o
+      Step (commit && (succeeds (o .reply) && recorded w k)) o
   unfolding closing committing to succeeds OK
   ended-step k x h true true e = record { kept = kept-closed _ _; sent = ap (λ k. closing w k (refused EAGAIN)) e }
   ended-step k x h true false e = rw (recorded-is k x h) (record { kept = kept-staledIf _ _ _ (kept-closed _ _); sent = tt })
@@ -160,11 +163,12 @@ module _ (w : World) (tx : ℕ) where
     where
       P : Outcome → Type 0
       P o = Step (commit && (succeeds (o .reply) && recorded w (tx - 1))) o
+
       there : (m : Option Transaction) → transactionOf w c tx ≡ m
           → P (elim m [
             | none ↦ left w (refused ENOENT)
             | some x ↦ cond commit (cond (x .stale) (closing w (tx - 1) (refused EAGAIN)) (committing w (tx - 1) x)) (closing w (tx - 1) OK)
-            ])
+          ])
       there none e = rw and-false (left-step (refused ENOENT) refl)
       there (some x) e = ended-step (tx - 1) x (named w tx c x e .0) commit (x .stale) refl
 

@@ -2,7 +2,7 @@
 use mathlib.Core.Path.{_≡_}
 use mathlib.Core.Logic.{_↔_}
 use mathlib.Core.Bool.{true, false}
-use mathlib.Core.List.{List, _++_}
+use mathlib.Core.List.{List, _∷_, _++_}
 use mathlib.Core.Option.{some}
 use Prim.Native.Nat.{ℕ, suc}
 use Rattle.rules.specs.Octets.{nul, decimal}
@@ -10,7 +10,7 @@ use Rattle.rules.specs.Payload.{start, end, request}
 use Rattle.rules.specs.Answer.{EAGAIN, done, refused, OK}
 use Rattle.rules.specs.World.{World, Outcome}
 use Rattle.rules.specs.Call.{txOf}
-use Rattle.laws.specs.History.{Call, History, requestOf, served, after, run, anyChange, isOpen, staysOpen}
+use Rattle.laws.specs.History.{Call, History, requestOf, served, after, run, changes, anyChange, isOpen, staysOpen}
 
 -- a START that opens transaction k
 pub record Opens (w : World) (k : ℕ) (c : Call) : Type 0 where
@@ -39,6 +39,13 @@ UndisturbedCommits =
     (w : World) (k : ℕ) (first last : Call) (cs : History) (o : Outcome) → Opens w k first
     → staysOpen (after w first) k cs ≡ true → Commits (run (after w first) cs) k first last o
     → anyChange (after w first) cs ≡ false → o .reply ≡ OK
+
+-- One change between START and END is enough, whatever the calls after it did: a value that changed and came back still counts.
+abbrev pub ChangedAndBackCounts : Type 0
+ChangedAndBackCounts =
+    (w : World) (k : ℕ) (first last change : Call) (before later : History) (o : Outcome) → Opens w k first
+    → staysOpen (after w first) k (before ++ change ∷ later) ≡ true → Commits (run (after w first) (before ++ change ∷ later)) k first last o
+    → changes (run (after w first) before) change ≡ true → o .reply ≡ refused EAGAIN
 
 -- A START answers the number of the transaction that it opens.
 abbrev pub StartAnswersItsNumber : Type 0
