@@ -1,5 +1,12 @@
-# make test: the layout of every file, then every proof, must-fail edit and program. The last line is rt's verdict.
-.PHONY: test
+.PHONY: help test worked
+help:
+	@echo 'make test     the gate: layout, every proof, every must-fail edit, every program; ends in rt'\''s verdict'
+	@echo 'make worked   prove the rule book and list the worked lines that hold'
+
 test:
 	rt fmt --check
 	rt ci
+
+worked:
+	rt check rules
+	@sed -n 's/.*says = "\([^"]*\)".*/holds: \1/p' crates/rules/specs/Worked.antt

@@ -1,1 +1,4 @@
 pub mod WorkedLines
+pub mod Tables
+pub mod Fields
+pub mod Slots
