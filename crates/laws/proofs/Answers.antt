@@ -15,6 +15,7 @@ use Rattle.rules.specs.Node.{Entry, Table, Reached, nodeAt, reach, children}
 use Rattle.rules.specs.Rights.{mayRead, mayWrite}
 use Rattle.rules.specs.Payload.{Ask, directory, read, getPerms, write, mkdir, rm, setPerms}
 use Rattle.rules.specs.Answer.{Errno, EINVAL, EACCES, EEXIST, ENOENT, ENOSPC, E2BIG, EAGAIN, ENOSYS, Reply, done, refused, OK, Change, Answer, permissions, nameList, listing, listed, unchanged, changed, absent, looked, room, created, written, directoryMade, taken, maySet, permitted, answered, answer}
+use Rattle.rules.proofs.Cases.{cond-case}
 use Rattle.laws.specs.History.{succeeds, isThere, alters}
 
 -- ── replies ──
@@ -29,10 +30,6 @@ isEAGAIN (refused ENOSPC) = false
 isEAGAIN (refused E2BIG) = false
 isEAGAIN (refused EAGAIN) = true
 isEAGAIN (refused ENOSYS) = false
-
-pub cond-case : {A : Type 0} (P : A → Type 0) (b : Bool) (x y : A) → P x → P y → P (cond b x y)
-cond-case P true x y p q = p
-cond-case P false x y p q = q
 
 pub and-true : (b : Bool) → (b && true) ≡ b
 and-true true = refl

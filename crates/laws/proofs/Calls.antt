@@ -27,6 +27,15 @@ served-is w c o = go (known (domainOf (c .sender)) (w .domains) && isHandled (fr
     go true e = some-is e
     go false e = absurd (nothing e)
 
+-- a served call's sender is known
+pub served-known : (w : World) (c : Call) (o : Outcome) → served w c ≡ some o → known (domainOf (c .sender)) (w .domains) ≡ true
+unfolding served
+served-known w c o = go (known (domainOf (c .sender)) (w .domains))
+  where
+    go : (b : Bool) → cond (b && isHandled (frameVerdict (c .message))) (some (outcome w (c .sender) (c .message))) none ≡ some o → b ≡ true
+    go true e = refl
+    go false e = absurd (nothing e)
+
 -- a call as a step
 pub call-step : (w : World) (c : Call) (o : Outcome) → served w c ≡ some o → Step w (txOf (c .message)) (changedAs w (txOf (c .message)) (o .reply) (requestOf c)) o
 call-step w c o e = rw (served-is w c o e) at (outcome-step w (txOf (c .message)) (c .sender) (requestOf c))

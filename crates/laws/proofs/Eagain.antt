@@ -22,7 +22,7 @@ use Rattle.rules.specs.Call.{txOf, outcomeOf}
 use Rattle.laws.specs.History.{Call, History, requestOf, served, after, run, changes, anyChange, transactionAt, isOpen, staysOpen}
 use Rattle.laws.specs.Eagain.{Opens, Commits, EagainExactly, UndisturbedCommits, ChangedAndBackCounts, StartAnswersItsNumber}
 use Rattle.laws.proofs.Kept.{nothing, some-is, or-true, getD-set-some}
-use Rattle.laws.proofs.Answers.{cond-case}
+use Rattle.rules.proofs.Cases.{cond-case}
 use Rattle.laws.proofs.Calls.{served-is, open-at, is-open, run-kept}
 
 -- ── START ──

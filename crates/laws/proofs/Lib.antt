@@ -5,3 +5,4 @@ pub mod Step
 pub mod Calls
 pub mod Eagain
 pub mod Refusals
+pub mod Order

@@ -20,9 +20,10 @@ use Rattle.rules.specs.Sound.{introduced, watched}
 use Rattle.rules.specs.Event.{placeText}
 use Rattle.rules.specs.World.{World, Outcome, staled, staledIf, withoutTransactions, left, to, plainly, transactionOf, inside, copyOf, asked, placeFits, watching, unwatching, starting, closing, committing, ending, introducing, releasing, resetting, forControl, forPlace, handle}
 use Rattle.rules.specs.Call.{outcomeOf}
+use Rattle.rules.proofs.Cases.{cond-case}
 use Rattle.laws.specs.History.{succeeds, alters, recorded, changedBy, changedAs}
 use Rattle.laws.proofs.Kept.{Kept, nothing, some-is, or-false, kept-all, kept-without, kept-set, kept-closed, kept-opened, kept-staledIf}
-use Rattle.laws.proofs.Answers.{isEAGAIN, cond-case, and-false, Shape, stays, alters-to, answer-shape}
+use Rattle.laws.proofs.Answers.{isEAGAIN, and-false, Shape, stays, alters-to, answer-shape}
 
 -- what an outcome is by its reply: a refusal leaves the world, but EAGAIN closes the transaction
 abbrev pub Sent : World → ℕ → Outcome → Reply → Type 0

@@ -2,3 +2,4 @@
 pub mod History
 pub mod Eagain
 pub mod Refusals
+pub mod Order

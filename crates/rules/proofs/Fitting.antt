@@ -68,6 +68,14 @@ root-fits : NodeFits root
 unfolding root
 root-fits = record { parent = omega arith; name = omega arith; value = omega arith; owner = record { access = omega arith; domain = omega arith }; few = omega arith; others = tt }
 
+pub fresh-fits : Fitting freshTable
+unfolding freshTable
+fresh-fits = record { all = (root-fits, none-fit 127); long = refl }
+  where
+    none-fit : (n : ℕ) → TableFits (replicate n none)
+    none-fit zero = tt
+    none-fit (suc n) = (tt, none-fit n)
+
 pub slotAt-fits : (t : Table) (i : ℕ) → TableFits t → SlotFits (getD t i none)
 slotAt-fits [] i f = tt
 slotAt-fits (s ∷ t) zero f = f .0

@@ -4,3 +4,4 @@ pub mod Fields
 pub mod Slots
 pub mod Cases
 pub mod Fitting
+pub mod Parsing
