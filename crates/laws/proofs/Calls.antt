@@ -11,7 +11,8 @@ use Rattle.rules.specs.Sound.{known}
 use Rattle.rules.specs.World.{World, Outcome}
 use Rattle.rules.specs.Call.{txOf, isHandled, frameVerdict, outcomeOf, outcome}
 use Rattle.laws.specs.History.{Call, History, requestOf, served, after, run, changedAs, changes, anyChange, transactionAt, isOpen, staysOpen}
-use Rattle.laws.proofs.Kept.{Kept, nothing, some-is, kept-all, or-false}
+use Rattle.rules.proofs.Places.{nothing, some-is}
+use Rattle.laws.proofs.Kept.{Kept, kept-all, or-false}
 use Rattle.laws.proofs.Step.{Step, outcome-step}
 
 pub or-assoc : (a b c : Bool) → ((a || b) || c) ≡ (a || (b || c))

@@ -21,7 +21,8 @@ use Rattle.rules.specs.World.{World, Outcome, left, to, transactionOf, starting
 use Rattle.rules.specs.Call.{txOf, outcomeOf}
 use Rattle.laws.specs.History.{Call, History, requestOf, served, after, run, changes, anyChange, transactionAt, isOpen, staysOpen}
 use Rattle.laws.specs.Eagain.{Opens, Commits, EagainExactly, UndisturbedCommits, ChangedAndBackCounts, StartAnswersItsNumber}
-use Rattle.laws.proofs.Kept.{nothing, some-is, or-true, getD-set-some}
+use Rattle.rules.proofs.Places.{nothing, some-is, at-set}
+use Rattle.laws.proofs.Kept.{or-true}
 use Rattle.rules.proofs.Cases.{cond-case}
 use Rattle.laws.proofs.Calls.{served-is, open-at, is-open, run-kept}
 
@@ -54,7 +55,7 @@ started w c k =
     go : Dec (k ≡ lowest (w .transactions)) → Begun w c k o
     go (yes r) p q =
         let x = open-at (o .world) k q in
-        (x .1 ∙ sym (getD-set-some (w .transactions) _ k _ (x .0) r (x .1)), ap (λ j. done (decimal (suc j) ++ nul)) (sym r))
+        (x .1 ∙ sym (at-set (w .transactions) _ k _ (x .0) r (x .1)), ap (λ j. done (decimal (suc j) ++ nul)) (sym r))
     go (no r) p q =
         let x = open-at (o .world) k q in
         absurd (false≢true (sym p ∙ is-open w k (x .0) (sym (getD-set-other (w .transactions) _ k _ none r) ∙ x .1)))

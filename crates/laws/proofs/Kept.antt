@@ -11,47 +11,7 @@ use native.Mathlib.Decide.{ℕ-discrete}
 use Rattle.rules.specs.Entries.{lowest, without}
 use Rattle.rules.specs.Layout.{Transaction, Transactions}
 use Rattle.rules.specs.World.{staled, staledIf}
-
--- ── places of a list ──
-
-pub nothing : {A : Type 0} {y : A} → _≡_ {A = Option A} none (some y) → ⊥
-nothing e = let z : _≡_ {A = ℕ} 0 1 = cc in omega arith
-
-pub some-is : {A : Type 0} {x y : A} → some x ≡ some y → x ≡ y
-some-is e = cc
-
-pub getD-set-none : {A : Type 0} (xs : List (Option A)) (j : ℕ) → getD (set xs j none) j none ≡ none
-getD-set-none [] j = refl
-getD-set-none (x ∷ xs) zero = refl
-getD-set-none (x ∷ xs) (suc j) = getD-set-none xs j
-
-pub getD-set-some : {A : Type 0} (xs : List (Option A)) (j k : ℕ) (e : Option A) (y : A) → k ≡ j → getD (set xs j e) k none ≡ some y → e ≡ some y
-getD-set-some {A} xs j k e y r q = go xs j (rw r at q)
-  where
-    go : (xs : List (Option A)) (j : ℕ) → getD (set xs j e) j none ≡ some y → e ≡ some y
-    go [] j q = absurd (nothing q)
-    go (x ∷ xs) zero q = q
-    go (x ∷ xs) (suc j) q = go xs j q
-
-pub getD-lowest : {A : Type 0} (xs : List (Option A)) → getD xs (lowest xs) none ≡ none
-unfolding lowest
-getD-lowest [] = refl
-getD-lowest (none ∷ xs) = refl
-getD-lowest (some x ∷ xs) = getD-lowest xs
-
--- an entry that `without` leaves was there, and doesn't pass the test
-pub getD-without : {A : Type 0} (test : A → Bool) (xs : List (Option A)) (k : ℕ) (y : A)
-    → getD (without test xs) k none ≡ some y → (getD xs k none ≡ some y) × (test y ≡ false)
-unfolding without
-getD-without test [] k y e = (e, cc)
-getD-without test (none ∷ xs) zero y e = (e, cc)
-getD-without test (none ∷ xs) (suc k) y e = getD-without test xs k y e
-getD-without {A} test (some x ∷ xs) zero y e = go (test x) refl e
-  where
-    go : (b : Bool) → test x ≡ b → cond b none (some x) ≡ some y → (_≡_ {A = Option A} (some x) (some y)) × (test y ≡ false)
-    go true p q = (cc, cc)
-    go false p q = (q, cc)
-getD-without test (some x ∷ xs) (suc k) y e = getD-without test xs k y e
+use Rattle.rules.proofs.Places.{nothing, some-is, set-cases, lowest-free, at-without}
 
 -- an entry that is stale after `staled` was there
 pub getD-staled : (xs : Transactions) (k : ℕ) (y : Transaction) → getD (staled xs) k none ≡ some y
@@ -85,24 +45,23 @@ pub kept-all : (xs : Transactions) → Kept false xs xs
 kept-all xs = record { at = λ k x y p q. same-entry x y (sym p ∙ q) }
 
 pub kept-without : (test : Transaction → Bool) (xs : Transactions) → Kept false xs (without test xs)
-kept-without test xs = record { at = λ k x y p q. same-entry x y (sym p ∙ getD-without test xs k y q .0) }
+kept-without test xs = record { at = λ k x y p q. same-entry x y (sym p ∙ at-without test xs k y q .0) }
 
 -- an entry closed, or one written over an open one of the same holder and mark, or over a free place
 pub kept-set : (xs : Transactions) (j : ℕ) (e : Option Transaction)
     → ((x y : Transaction) → getD xs j none ≡ some x → e ≡ some y → (y .holder ≡ x .holder) × (y .stale ≡ (x .stale || false)))
     → Kept false xs (set xs j e)
-kept-set xs j e h = record { at = λ k x y p q. go k x y p q (ℕ-discrete k j) }
-  where
-    go : (k : ℕ) (x y : Transaction) → getD xs k none ≡ some x → getD (set xs j e) k none ≡ some y
-        → Dec (k ≡ j) → (y .holder ≡ x .holder) × (y .stale ≡ (x .stale || false))
-    go k x y p q (yes r) = h x y (rw r at p) (getD-set-some xs j k e y r q)
-    go k x y p q (no r) = same-entry x y (sym p ∙ (sym (getD-set-other xs j k e none r) ∙ q))
+kept-set xs j e h =
+    record {
+      at = λ k x y p q.
+          set-cases ((y .holder ≡ x .holder) × (y .stale ≡ (x .stale || false))) xs j k e y q (λ r f. h x y (rw r at p) f) (λ r f. same-entry x y (sym p ∙ f));
+    }
 
 pub kept-closed : (xs : Transactions) (j : ℕ) → Kept false xs (set xs j none)
 kept-closed xs j = kept-set xs j none λ x y p q. absurd (nothing q)
 
 pub kept-opened : (xs : Transactions) (z : Transaction) → Kept false xs (set xs (lowest xs) (some z))
-kept-opened xs z = kept-set xs (lowest xs) (some z) λ x y p q. absurd (nothing (sym (getD-lowest xs) ∙ p))
+kept-opened xs z = kept-set xs (lowest xs) (some z) λ x y p q. absurd (nothing (sym (lowest-free xs) ∙ p))
 
 pub kept-staledIf : (b : Bool) (xs ys : Transactions) → Kept false xs ys → Kept b xs (staledIf b ys)
 unfolding staledIf

@@ -27,7 +27,8 @@ use Rattle.rules.proofs.Slots.{table-read}
 use Rattle.rules.proofs.Fitting.{Fitting, AskFits, decoded-fits, answer-fits, withoutAll-fits, fresh-fits}
 use Rattle.laws.specs.History.{Call, History, requestOf, served, after, run, succeeds}
 use Rattle.laws.specs.Order.{Single, node, released, then, replay, Answered, Agrees, Logs, isNinth, addedBy, noted, loggedBy, addedAs, loggedAs, added, logged, orderFrom, order, OneOrder}
-use Rattle.laws.proofs.Kept.{nothing, some-is, getD-without, getD-staled, getD-set-some}
+use Rattle.rules.proofs.Places.{nothing, some-is, at-below, none-at, at-set, set-cases, at-without, length-without, has-at}
+use Rattle.laws.proofs.Kept.{getD-staled}
 use Rattle.laws.proofs.Answers.{and-false, Shape, stays, alters-to, answer-shape}
 use Rattle.laws.proofs.Step.{named}
 use Rattle.laws.proofs.Calls.{served-is, served-known}
@@ -90,12 +91,6 @@ pub record Turn (w : World) (added : List Single) (ls : Logs) (o : Outcome) : Ty
 
 -- ── transactions that close or become stale ──
 
-length-without : {A : Type 0} (test : A → Bool) (xs : List (Option A)) → length (without test xs) ≡ length xs
-unfolding without
-length-without test [] = refl
-length-without test (none ∷ xs) = ap suc (length-without test xs)
-length-without test (some x ∷ xs) = ap suc (length-without test xs)
-
 length-staled : (xs : Transactions) → length (staled xs) ≡ length xs
 unfolding staled
 length-staled [] = refl
@@ -115,14 +110,10 @@ fewer-all : (xs : Transactions) → Fewer xs xs
 fewer-all xs = (refl, λ k x e h. e)
 
 fewer-without : (test : Transaction → Bool) (xs : Transactions) → Fewer xs (without test xs)
-fewer-without test xs = (length-without test xs, λ k x e h. getD-without test xs k x e .0)
+fewer-without test xs = (length-without test xs, λ k x e h. at-without test xs k x e .0)
 
 fewer-closed : (xs : Transactions) (j : ℕ) → Fewer xs (set xs j none)
-fewer-closed xs j = (length-set xs j none, λ k x e h. go k x e (ℕ-discrete k j))
-  where
-    go : (k : ℕ) (x : Transaction) → getD (set xs j none) k none ≡ some x → Dec (k ≡ j) → getD xs k none ≡ some x
-    go k x e (yes r) = absurd (nothing (getD-set-some xs j k none x r e))
-    go k x e (no r) = sym (getD-set-other xs j k none none r) ∙ e
+fewer-closed xs j = (length-set xs j none, λ k x e h. set-cases (getD xs k none ≡ some x) xs j k none x e (λ r q. absurd (nothing q)) (λ r q. q))
 
 -- after a change none is left that isn't stale
 none-fresh : (xs : Transactions) (k : ℕ) (x : Transaction) → getD (staled xs) k none ≡ some x → x .stale ≡ false → ⊥
@@ -180,7 +171,7 @@ with-copy {t} {cs} {xs} {ds} {ls} k x copy log o b f h =
     go : (j : ℕ) (y : Transaction) → getD (set xs k (some x)) j none ≡ some y → y .stale ≡ false → Dec (j ≡ k)
         → Running t (tableOf (getD (set cs k (tableBytes copy)) j [])) (getD (set ls k log) j []) y
     go j y p q (yes r) =
-        let same : x ≡ y = some-is (getD-set-some xs k j (some x) y r p) in
+        let same : x ≡ y = some-is (at-set xs k j (some x) y r p) in
         subst (λ (z : Transaction). Running t (tableOf (getD (set cs k (tableBytes copy)) j [])) (getD (set ls k log) j []) z) same
         (rw (r, getD-set-same cs k (tableBytes copy) [] (rw (o .copies) b), getD-set-same ls k log [] (rw (o .logs) b), table-read copy (f .long) (f .all))
         (h (ap Transaction.stale same ∙ q)))
@@ -188,36 +179,16 @@ with-copy {t} {cs} {xs} {ds} {ls} k x copy log o b f h =
         rw (getD-set-other cs k j (tableBytes copy) [] r, getD-set-other ls k j log [] r)
         (o .running j y (sym (getD-set-other xs k j (some x) none r) ∙ p) q)
 
--- an open transaction's place
-open-below : {A : Type 0} (xs : List (Option A)) (k : ℕ) (x : A) → getD xs k none ≡ some x → k < length xs
-open-below [] k x e = absurd (nothing e)
-open-below (y ∷ xs) zero x e = omega arith
-open-below (y ∷ xs) (suc k) x e = omega (arith, open-below xs k x e)
-
 -- ── domains ──
 
 with-domains : {t : Table} {cs : List Octets} {xs : Transactions} {ds : Domains} {ls : Logs} (es : Domains) → Small es → Ordered t cs xs ds ls → Ordered t cs xs es ls
 with-domains es s o = record { main = o .main; domains = s; copies = o .copies; logs = o .logs; running = o .running }
 
 small-set : (ds : Domains) (j d : ℕ) → Small ds → d < 65536 → Small (set ds j (some d))
-small-set ds j d s h i e q = go (ℕ-discrete i j)
-  where
-    go : Dec (i ≡ j) → e < 65536
-    go (yes r) = omega (arith, h, some-is (getD-set-some ds j i (some d) e r q))
-    go (no r) = s i e (sym (getD-set-other ds j i (some d) none r) ∙ q)
+small-set ds j d s h i e q = set-cases (e < 65536) ds j i (some d) e q (λ r p. omega (arith, h, some-is p)) (λ r p. s i e p)
 
 small-without : (test : Domain → Bool) (ds : Domains) → Small ds → Small (without test ds)
-small-without test ds s i d q = s i d (getD-without test ds i d q .0)
-
-small-has : (ds : Domains) (d : Domain) → Small ds → has (eqb d) ds ≡ true → d < 65536
-unfolding has
-small-has [] d s e = absurd (false≢true e)
-small-has (none ∷ ds) d s e = small-has ds d (λ i. s (suc i)) e
-small-has (some x ∷ ds) d s e = go (eqb d x) refl e (small-has ds d (λ i. s (suc i)))
-  where
-    go : (b : Bool) → eqb d x ≡ b → (b || has (eqb d) ds) ≡ true → (has (eqb d) ds ≡ true → d < 65536) → d < 65536
-    go true p q h = omega (arith, eqb-true d x p, s 0 x refl)
-    go false p q h = h q
+small-without test ds s i d q = s i d (at-without test ds i d q .0)
 
 small-known : (ds : Domains) (d : Domain) → Small ds → known d ds ≡ true → d < 65536
 unfolding known introduced
@@ -225,7 +196,9 @@ small-known ds d s e = go (isControl d) refl e
   where
     go : (b : Bool) → isControl d ≡ b → (b || has (eqb d) ds) ≡ true → d < 65536
     go true p q = omega (arith, eqb-true d 0 p)
-    go false p q = small-has ds d s q
+    go false p q =
+        let r = has-at (eqb d) ds q in
+        omega (arith, eqb-true d (r .1) (r .3), s (r .0) (r .1) (r .2))
 
 -- ── requests on the world w ──
 
@@ -364,7 +337,7 @@ module _ (w : World) (ls : Logs) (o : OrderedAt w ls) where
       room : (ch : Change) (b : Bool) → let y = cond b (written ch) (left w (refused ENOSPC)) in Turn w [] (cond (not b) ls (set ls k (log (y .reply)))) y
       room ch true =
           record {
-            after = with-copy k _ (z .table) (log (z .reply)) o (open-below (w .transactions) k x e) (answer-fits (domainOf c) a ns copy h f (decoded-fits _))
+            after = with-copy k _ (z .table) (log (z .reply)) o (at-below (w .transactions) k x e) (answer-fits (domainOf c) a ns copy h f (decoded-fits _))
                 (λ s. record { table = more s .0; answers = more s .1; same = λ q. absurd (not-empty (x .changes) ch q) });
             table = refl;
             answers = tt;
@@ -375,7 +348,7 @@ module _ (w : World) (ls : Logs) (o : OrderedAt w ls) where
           → let y = inside w k x (record { reply = z .reply; table = z .table; change = m }) in Turn w [] (cond (isNinth x m) ls (set ls k (log (y .reply)))) y
       go none p =
           record {
-            after = with-log k x (log (z .reply)) o e (open-below (w .transactions) k x e)
+            after = with-log k x (log (z .reply)) o e (at-below (w .transactions) k x e)
                 (λ s. record { table = more s .0 ∙ keeps (domainOf c) a ns copy p; answers = more s .1; same = o .running k x e s .same });
             table = refl;
             answers = tt;
@@ -484,20 +457,15 @@ order-from w ls (c ∷ cs) o =
 
 -- ── from the fresh store ──
 
-none-there : {A : Type 0} (n i : ℕ) → getD (replicate {A = Option A} n none) i none ≡ none
-none-there zero i = refl
-none-there (suc n) zero = refl
-none-there (suc n) (suc i) = none-there n i
-
 fresh-ordered : OrderedAt freshWorld (replicate mostTransactions [])
 unfolding freshWorld
 fresh-ordered =
     record {
       main = fresh-fits;
-      domains = λ i d e. absurd (nothing (sym (none-there mostDomains i) ∙ e));
+      domains = λ i d e. absurd (nothing (sym (none-at mostDomains i) ∙ e));
       copies = refl;
       logs = refl;
-      running = λ k x e. absurd (nothing (sym (none-there mostTransactions k) ∙ e));
+      running = λ k x e. absurd (nothing (sym (none-at mostTransactions k) ∙ e));
     }
 
 pub one-order : OneOrder

@@ -22,7 +22,8 @@ use Rattle.rules.specs.World.{World, Outcome, staled, staledIf, withoutTransact
 use Rattle.rules.specs.Call.{outcomeOf}
 use Rattle.rules.proofs.Cases.{cond-case}
 use Rattle.laws.specs.History.{succeeds, alters, recorded, changedBy, changedAs}
-use Rattle.laws.proofs.Kept.{Kept, nothing, some-is, or-false, kept-all, kept-without, kept-set, kept-closed, kept-opened, kept-staledIf}
+use Rattle.rules.proofs.Places.{nothing, some-is}
+use Rattle.laws.proofs.Kept.{Kept, or-false, kept-all, kept-without, kept-set, kept-closed, kept-opened, kept-staledIf}
 use Rattle.laws.proofs.Answers.{isEAGAIN, and-false, Shape, stays, alters-to, answer-shape}
 
 -- what an outcome is by its reply: a refusal leaves the world, but EAGAIN closes the transaction

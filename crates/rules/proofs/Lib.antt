@@ -8,3 +8,4 @@ pub mod Slots
 pub mod Cases
 pub mod Fitting
 pub mod Parsing
+pub mod Places
