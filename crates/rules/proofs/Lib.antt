@@ -5,3 +5,7 @@ pub mod Decimals
 pub mod Tables
 pub mod Fields
 pub mod Slots
+pub mod Cases
+pub mod Fitting
+pub mod Parsing
+pub mod Places

@@ -1,0 +1,8 @@
+-- What the laws' statements rest on, and their proofs.
+pub mod Kept
+pub mod Answers
+pub mod Step
+pub mod Calls
+pub mod Eagain
+pub mod Refusals
+pub mod Order

@@ -1,0 +1,473 @@
+-- One order: what each request adds, and that it keeps the open transactions' logs in step with their copies.
+use mathlib.Core.Path.{_≡_, refl, sym, _∙_, ap, subst}
+use mathlib.Core.Bool.{Bool, true, false, cond, not, _&&_, _||_, false≢true, true≢false}
+use mathlib.Core.List.{List, [], _∷_, _++_}
+use mathlib.Core.Option.{Option, none, some}
+use Prim.Native.Nat.{ℕ, zero, suc, _-_, _<_}
+use native.Mathlib.Omega.{arith}
+use native.Mathlib.Decide.{ℕ-discrete}
+use lib.ListN.{length, getD, set, replicate, length-set}
+use lib.Seq.{getD-set-same, getD-set-other}
+use lib.Dec.{eqb, ltb, leb, eqb·suc-zero}
+use borrow.Author.Tests.{eqb-true, ltb-true, not-false}
+use Rattle.rules.specs.Size.{mostChanges, longestToken, mostTransactions, mostDomains}
+use Rattle.rules.specs.Octets.{Octets}
+use Rattle.rules.specs.Entries.{isEmpty, lowest, without, has}
+use Rattle.rules.specs.Path.{Domain, Connection, domainOf, Names, isControl}
+use Rattle.rules.specs.Node.{Table, ownedBy, withoutAll}
+use Rattle.rules.specs.Payload.{Ask, Place, path, event, Request, ask, watch, unwatch, start, end, introduce, release, domainPath, isIntroduced, reset, Parsed, unknown, invalid, request}
+use Rattle.rules.specs.Call.{typeOf, txOf, payloadOf, outcomeOf}
+use Rattle.rules.specs.Answer.{EINVAL, ENOSYS, EACCES, EEXIST, ENOENT, ENOSPC, EAGAIN, Reply, done, refused, OK, Change, Answer, unchanged, changed, answer}
+use Rattle.rules.specs.Layout.{Domains, Transaction, Transactions, tableBytes, tableOf}
+use Rattle.rules.specs.Sound.{introduced, known, watched}
+use Rattle.rules.specs.Event.{placeText}
+use Rattle.rules.specs.World.{World, Outcome, freshWorld, staled, staledIf, withoutTransactions, speaksFor, left, to, plainly, transactionOf, inside, copyOf, asked, placeFits, watching, unwatching, starting, closing, committing, ending, introducing, releasing, resetting, forControl, forPlace, handle}
+use Rattle.rules.proofs.Cases.{cond-case, cond-known}
+use Rattle.rules.proofs.Slots.{table-read}
+use Rattle.rules.proofs.Fitting.{Fitting, AskFits, decoded-fits, answer-fits, withoutAll-fits, fresh-fits}
+use Rattle.laws.specs.History.{Call, History, requestOf, served, after, run, succeeds}
+use Rattle.laws.specs.Order.{Single, node, released, then, replay, Answered, Agrees, Logs, isNinth, addedBy, noted, loggedBy, addedAs, loggedAs, added, logged, orderFrom, order, OneOrder}
+use Rattle.rules.proofs.Places.{nothing, some-is, at-below, none-at, at-set, set-cases, at-without, length-without, has-at}
+use Rattle.laws.proofs.Kept.{getD-staled}
+use Rattle.laws.proofs.Answers.{and-false, Shape, stays, alters-to, answer-shape}
+use Rattle.laws.proofs.Step.{named}
+use Rattle.laws.proofs.Calls.{served-is, served-known}
+use Rattle.rules.proofs.Parsing.{RequestFits, ParsedFits, parse-fits}
+
+-- ── singles one after the other ──
+
+pub replay-append : (t : Table) (xs ys : List Single) → replay t (xs ++ ys) ≡ replay (replay t xs) ys
+unfolding replay
+replay-append t [] ys = refl
+replay-append t (x ∷ xs) ys = replay-append (then t x) xs ys
+
+pub agrees-append : (t : Table) (xs ys : List Single) → Agrees t xs → Agrees (replay t xs) ys → Agrees t (xs ++ ys)
+unfolding replay
+agrees-append t [] ys p q = q
+agrees-append t (x ∷ xs) ys p q = (p .0, agrees-append (then t x) xs ys (p .1) q)
+
+-- an answer with no change leaves the table
+keeps : (d : Domain) (a : Ask) (ns : Names) (t : Table) → answer d a ns t .change ≡ none → answer d a ns t .table ≡ t
+unfolding unchanged changed
+keeps d a ns t = go (answer-shape d a ns t)
+  where
+    go : {b : Bool} {x : Answer} → Shape d ns t b x → x .change ≡ none → x .table ≡ t
+    go (stays r e) h = refl
+    go (alters-to removal after) h = absurd (nothing (sym h))
+
+-- one more single at the end
+extended : (t copy : Table) (log : List Single) (d : Domain) (a : Ask) (ns : Names) → replay t log ≡ copy → Agrees t log
+    → let more = log ++ (node d a ns (answer d a ns copy .reply) ∷ []) in (replay t more ≡ answer d a ns copy .table) × Agrees t more
+unfolding replay then
+extended t copy log d a ns e h =
+    (replay-append t log _ ∙ ap (λ (u : Table). answer d a ns u .table) e, agrees-append t log _ h (ap (λ (u : Table). answer d a ns u .reply) e, tt))
+
+-- ── what holds between calls ──
+
+-- a transaction that is not stale: its log, run from the main table, gives its copy and its replies
+pub record Running (t copy : Table) (log : List Single) (x : Transaction) : Type 0 where
+  pub table : replay t log ≡ copy
+  pub answers : Agrees t log
+  pub same : isEmpty (x .changes) ≡ true → copy ≡ t
+
+abbrev pub Small : Domains → Type 0
+Small ds = (i : ℕ) (d : Domain) → getD ds i none ≡ some d → d < 65536
+
+pub record Ordered (t : Table) (cs : List Octets) (xs : Transactions) (ds : Domains) (ls : Logs) : Type 0 where
+  pub main : Fitting t
+  pub domains : Small ds
+  pub copies : length cs ≡ length xs
+  pub logs : length ls ≡ length xs
+  pub running : (k : ℕ) (x : Transaction) → getD xs k none ≡ some x → x .stale ≡ false → Running t (tableOf (getD cs k [])) (getD ls k []) x
+
+abbrev pub OrderedAt : World → Logs → Type 0
+OrderedAt w ls = Ordered (w .nodes) (w .copies) (w .transactions) (w .domains) ls
+
+-- a request's turn: what it adds runs from the table before it to the table after it
+pub record Turn (w : World) (added : List Single) (ls : Logs) (o : Outcome) : Type 0 where
+  pub after : OrderedAt (o .world) ls
+  pub table : replay (w .nodes) added ≡ o .world .nodes
+  pub answers : Agrees (w .nodes) added
+
+-- ── transactions that close or become stale ──
+
+length-staled : (xs : Transactions) → length (staled xs) ≡ length xs
+unfolding staled
+length-staled [] = refl
+length-staled (none ∷ xs) = ap suc (length-staled xs)
+length-staled (some x ∷ xs) = ap suc (length-staled xs)
+
+length-staledIf : (b : Bool) (xs : Transactions) → length (staledIf b xs) ≡ length xs
+unfolding staledIf
+length-staledIf false xs = refl
+length-staledIf true xs = length-staled xs
+
+-- the transactions that are open and not stale after it were so before it
+abbrev Fewer : Transactions → Transactions → Type 0
+Fewer xs ys = (length ys ≡ length xs) × ((k : ℕ) (x : Transaction) → getD ys k none ≡ some x → x .stale ≡ false → getD xs k none ≡ some x)
+
+fewer-all : (xs : Transactions) → Fewer xs xs
+fewer-all xs = (refl, λ k x e h. e)
+
+fewer-without : (test : Transaction → Bool) (xs : Transactions) → Fewer xs (without test xs)
+fewer-without test xs = (length-without test xs, λ k x e h. at-without test xs k x e .0)
+
+fewer-closed : (xs : Transactions) (j : ℕ) → Fewer xs (set xs j none)
+fewer-closed xs j = (length-set xs j none, λ k x e h. set-cases (getD xs k none ≡ some x) xs j k none x e (λ r q. absurd (nothing q)) (λ r q. q))
+
+-- after a change none is left that isn't stale
+none-fresh : (xs : Transactions) (k : ℕ) (x : Transaction) → getD (staled xs) k none ≡ some x → x .stale ≡ false → ⊥
+none-fresh xs k x e h = true≢false (sym (getD-staled xs k x e .3) ∙ h)
+
+-- the tables after a change of the main one to t′, or with it as it was
+changed-to : {t : Table} {cs : List Octets} {xs : Transactions} {ds : Domains} {ls : Logs} (b : Bool) (t′ : Table) (ys : Transactions) → Ordered t cs xs ds ls
+    → Fitting t′ → Fewer xs ys → (b ≡ false → t ≡ t′) → Ordered t′ cs (staledIf b ys) ds ls
+unfolding staledIf
+changed-to true t′ ys o f g e =
+    record {
+      main = f;
+      domains = o .domains;
+      copies = o .copies ∙ sym (length-staledIf true ys ∙ g .0);
+      logs = o .logs ∙ sym (length-staledIf true ys ∙ g .0);
+      running = λ k x p q. absurd (none-fresh ys k x p q);
+    }
+changed-to {t} {cs} {xs} {ds} {ls} false t′ ys o f g e =
+    record {
+      main = f;
+      domains = o .domains;
+      copies = o .copies ∙ sym (g .0);
+      logs = o .logs ∙ sym (g .0);
+      running = λ k x p q. subst (λ (u : Table). Running u (tableOf (getD cs k [])) (getD ls k []) x) (e refl) (o .running k x (g .1 k x p q) q);
+    }
+
+-- ── a transaction's copy and log ──
+
+-- transaction k with another log
+with-log : {t : Table} {cs : List Octets} {xs : Transactions} {ds : Domains} {ls : Logs} (k : ℕ) (x : Transaction) (log : List Single) → Ordered t cs xs ds ls
+    → getD xs k none ≡ some x → k < length xs → (x .stale ≡ false → Running t (tableOf (getD cs k [])) log x) → Ordered t cs xs ds (set ls k log)
+with-log {t} {cs} {xs} {ds} {ls} k x log o e b h =
+    record { main = o .main; domains = o .domains; copies = o .copies; logs = length-set ls k log ∙ o .logs; running = λ j y p q. go j y p q (ℕ-discrete j k) }
+  where
+    go : (j : ℕ) (y : Transaction) → getD xs j none ≡ some y → y .stale ≡ false → Dec (j ≡ k) → Running t (tableOf (getD cs j [])) (getD (set ls k log) j []) y
+    go j y p q (yes r) =
+        let same : x ≡ y = some-is (sym e ∙ (ap (λ (i : ℕ). getD xs i none) (sym r) ∙ p)) in
+        subst (λ (z : Transaction). Running t (tableOf (getD cs j [])) (getD (set ls k log) j []) z) same
+        (rw (r, getD-set-same ls k log [] (rw (o .logs) b)) (h (ap Transaction.stale same ∙ q)))
+    go j y p q (no r) = rw (getD-set-other ls k j log [] r) (o .running j y p q)
+
+-- transaction k with another copy, and so another entry
+with-copy : {t : Table} {cs : List Octets} {xs : Transactions} {ds : Domains} {ls : Logs} (k : ℕ) (x : Transaction) (copy : Table) (log : List Single)
+    → Ordered t cs xs ds ls → k < length xs → Fitting copy → (x .stale ≡ false → Running t copy log x)
+    → Ordered t (set cs k (tableBytes copy)) (set xs k (some x)) ds (set ls k log)
+with-copy {t} {cs} {xs} {ds} {ls} k x copy log o b f h =
+    record {
+      main = o .main;
+      domains = o .domains;
+      copies = length-set cs k _ ∙ (o .copies ∙ sym (length-set xs k _));
+      logs = length-set ls k log ∙ (o .logs ∙ sym (length-set xs k _));
+      running = λ j y p q. go j y p q (ℕ-discrete j k);
+    }
+  where
+    go : (j : ℕ) (y : Transaction) → getD (set xs k (some x)) j none ≡ some y → y .stale ≡ false → Dec (j ≡ k)
+        → Running t (tableOf (getD (set cs k (tableBytes copy)) j [])) (getD (set ls k log) j []) y
+    go j y p q (yes r) =
+        let same : x ≡ y = some-is (at-set xs k j (some x) y r p) in
+        subst (λ (z : Transaction). Running t (tableOf (getD (set cs k (tableBytes copy)) j [])) (getD (set ls k log) j []) z) same
+        (rw (r, getD-set-same cs k (tableBytes copy) [] (rw (o .copies) b), getD-set-same ls k log [] (rw (o .logs) b), table-read copy (f .long) (f .all))
+        (h (ap Transaction.stale same ∙ q)))
+    go j y p q (no r) =
+        rw (getD-set-other cs k j (tableBytes copy) [] r, getD-set-other ls k j log [] r)
+        (o .running j y (sym (getD-set-other xs k j (some x) none r) ∙ p) q)
+
+-- ── domains ──
+
+with-domains : {t : Table} {cs : List Octets} {xs : Transactions} {ds : Domains} {ls : Logs} (es : Domains) → Small es → Ordered t cs xs ds ls → Ordered t cs xs es ls
+with-domains es s o = record { main = o .main; domains = s; copies = o .copies; logs = o .logs; running = o .running }
+
+small-set : (ds : Domains) (j d : ℕ) → Small ds → d < 65536 → Small (set ds j (some d))
+small-set ds j d s h i e q = set-cases (e < 65536) ds j i (some d) e q (λ r p. omega (arith, h, some-is p)) (λ r p. s i e p)
+
+small-without : (test : Domain → Bool) (ds : Domains) → Small ds → Small (without test ds)
+small-without test ds s i d q = s i d (at-without test ds i d q .0)
+
+small-known : (ds : Domains) (d : Domain) → Small ds → known d ds ≡ true → d < 65536
+unfolding known introduced
+small-known ds d s e = go (isControl d) refl e
+  where
+    go : (b : Bool) → isControl d ≡ b → (b || has (eqb d) ds) ≡ true → d < 65536
+    go true p q = omega (arith, eqb-true d 0 p)
+    go false p q =
+        let r = has-at (eqb d) ds q in
+        omega (arith, eqb-true d (r .1) (r .3), s (r .0) (r .1) (r .2))
+
+-- ── requests on the world w ──
+
+nothing-owned : (t : Table) (is : List ℕ) → not (isEmpty is) ≡ false → t ≡ withoutAll t is
+unfolding isEmpty withoutAll
+nothing-owned t [] e = refl
+nothing-owned t (i ∷ is) e = absurd (true≢false e)
+
+module _ (w : World) (ls : Logs) (o : OrderedAt w ls) where
+  left-turn : (r : Reply) → Turn w [] ls (left w r)
+  unfolding left replay
+  left-turn r = record { after = o; table = refl; answers = tt }
+
+  closing-turn : (k : ℕ) (r : Reply) → Turn w [] ls (closing w k r)
+  unfolding closing to replay staledIf
+  closing-turn k r = record { after = changed-to false (w .nodes) _ o (o .main) (fewer-closed (w .transactions) k) (λ e. refl); table = refl; answers = tt }
+
+  resetting-turn : (c : Connection) → Turn w [] ls (resetting w c)
+  unfolding resetting to withoutTransactions replay staledIf
+  resetting-turn c = record { after = changed-to false (w .nodes) _ o (o .main) (fewer-without _ (w .transactions)) (λ e. refl); table = refl; answers = tt }
+
+  -- a node request outside transactions
+  plainly-turn : (d : Domain) (a : Ask) (ns : Names) → d < 65536 → AskFits a
+      → Turn w (node d a ns (plainly w (answer d a ns (w .nodes)) .reply) ∷ []) ls (plainly w (answer d a ns (w .nodes)))
+  unfolding plainly left to replay then staledIf
+  plainly-turn d a ns h f = go (answer d a ns (w .nodes) .change) refl
+    where
+      x : Answer
+      x = answer d a ns (w .nodes)
+
+      go : (m : Option Change) → x .change ≡ m
+          → let y = plainly w (record { reply = x .reply; table = x .table; change = m }) in Turn w (node d a ns (y .reply) ∷ []) ls y
+      go none e = record { after = o; table = keeps d a ns (w .nodes) e; answers = (refl, tt) }
+      go (some c) e =
+          record {
+            after = changed-to true (x .table) (w .transactions) o (answer-fits d a ns (w .nodes) h f (o .main)) (fewer-all (w .transactions)) (λ e. absurd (true≢false e));
+            table = refl;
+            answers = (refl, tt);
+          }
+
+  -- a commit
+  committing-turn : (k : ℕ) (x : Transaction) → getD (w .transactions) k none ≡ some x → x .stale ≡ false → Turn w (getD ls k []) ls (committing w k x)
+  unfolding committing to copyOf
+  committing-turn k x e s =
+      let r = o .running k x e s in
+      record {
+        after = changed-to (not (isEmpty (x .changes))) (tableOf (getD (w .copies) k [])) _ o (decoded-fits _) (fewer-closed (w .transactions) k) (λ p. sym (r .same (not-false _ p)));
+        table = r .table;
+        answers = r .answers;
+      }
+
+  -- a release
+  releasing-turn : (d : Domain) → let y = releasing w d in Turn w (cond (succeeds (y .reply)) (released d ∷ []) []) ls y
+  unfolding releasing left to OK succeeds withoutTransactions replay then
+  releasing-turn d =
+      cond-case (λ y. Turn w (cond (succeeds (y .reply)) (released d ∷ []) []) ls y) (introduced d (w .domains)) _ _
+      (record {
+        after = with-domains _ (small-without (eqb d) (w .domains) (o .domains))
+            (changed-to (not (isEmpty (ownedBy (w .nodes) d))) _ _ o (withoutAll-fits _ _ (o .main)) (fewer-without _ (w .transactions)) (nothing-owned (w .nodes) (ownedBy (w .nodes) d)));
+        table = refl;
+        answers = (tt, tt);
+      })
+      (left-turn (refused ENOENT))
+
+  -- requests that leave the store alone
+  watching-turn : (c : Connection) (p : Place) (t : Octets) (depth : Option ℕ) → Turn w [] ls (watching w c p t depth)
+  unfolding watching to replay
+  watching-turn c p t depth =
+      cond-case (Turn w [] ls) (watched c (placeText p) t (w .watches)) _ _ (left-turn (refused EEXIST))
+      (cond-case (Turn w [] ls) (placeFits w p && (leb (length t) longestToken && ltb (lowest (w .watches)) (length (w .watches)))) _ _
+      (record { after = o; table = refl; answers = tt })
+      (left-turn (refused ENOSPC)))
+
+  unwatching-turn : (c : Connection) (p : Place) (t : Octets) → Turn w [] ls (unwatching w c p t)
+  unfolding unwatching to replay
+  unwatching-turn c p t =
+      cond-case (Turn w [] ls) (watched c (placeText p) t (w .watches)) _ _ (record { after = o; table = refl; answers = tt }) (left-turn (refused ENOENT))
+
+  introducing-turn : (d page channel : ℕ) → d < 65536 → Turn w [] ls (introducing w d page channel)
+  unfolding introducing replay
+  introducing-turn d page channel h =
+      cond-case (Turn w [] ls) (introduced d (w .domains)) _ _ (left-turn (refused EEXIST))
+      (cond-case (Turn w [] ls) (ltb (lowest (w .domains)) (length (w .domains))) _ _
+      (record { after = with-domains _ (small-set (w .domains) (lowest (w .domains)) d (o .domains) h) o; table = refl; answers = tt })
+      (left-turn (refused ENOSPC)))
+
+  -- a START
+  starting-turn : (c : Connection) → let y = starting w c in Turn w [] (cond (succeeds (y .reply)) (set ls (lowest (w .transactions)) []) ls) y
+  unfolding starting to left succeeds replay
+  starting-turn c =
+      cond-known (λ y. Turn w [] (cond (succeeds (y .reply)) (set ls (lowest (w .transactions)) []) ls) y) (ltb (lowest (w .transactions)) (length (w .transactions))) _ _
+      (λ h. record {
+        after = with-copy (lowest (w .transactions)) _ (w .nodes) [] o (ltb-true _ _ h) (o .main) (λ e. record { table = refl; answers = tt; same = λ e. refl });
+        table = refl;
+        answers = tt;
+      })
+      (λ h. left-turn (refused ENOSPC))
+
+  -- a request in transaction k
+  inside-turn : (c : Connection) (tx : ℕ) (x : Transaction) (a : Ask) (ns : Names) → getD (w .transactions) (tx - 1) none ≡ some x → domainOf c < 65536 → AskFits a
+      → let y = inside w (tx - 1) x (answer (domainOf c) a ns (copyOf w (tx - 1))) in Turn w [] (noted w ls c tx (y .reply) a ns x) y
+  unfolding inside noted isNinth left to replay copyOf isEmpty
+  inside-turn c tx x a ns e h f = go (z .change) refl
+    where
+      k : ℕ
+      k = tx - 1
+
+      copy : Table
+      copy = tableOf (getD (w .copies) k [])
+
+      z : Answer
+      z = answer (domainOf c) a ns copy
+
+      log : Reply → List Single
+      log r = getD ls k [] ++ (node (domainOf c) a ns r ∷ [])
+
+      more : x .stale ≡ false → (replay (w .nodes) (log (z .reply)) ≡ z .table) × Agrees (w .nodes) (log (z .reply))
+      more s = extended (w .nodes) copy (getD ls k []) (domainOf c) a ns (o .running k x e s .table) (o .running k x e s .answers)
+
+      written : Change → Outcome
+      written ch =
+          to w (z .reply)
+          (record {
+            nodes = w .nodes;
+            copies = set (w .copies) k (tableBytes (z .table));
+            watches = w .watches;
+            transactions = set (w .transactions) k (some (record { holder = x .holder; stale = x .stale; changes = x .changes ++ (ch ∷ []) }));
+            domains = w .domains;
+          })
+          []
+
+      not-empty : (cs : List Change) (ch : Change) → isEmpty (cs ++ (ch ∷ [])) ≡ true → ⊥
+      not-empty [] ch q = false≢true q
+      not-empty (b ∷ cs) ch q = false≢true q
+
+      room : (ch : Change) (b : Bool) → let y = cond b (written ch) (left w (refused ENOSPC)) in Turn w [] (cond (not b) ls (set ls k (log (y .reply)))) y
+      room ch true =
+          record {
+            after = with-copy k _ (z .table) (log (z .reply)) o (at-below (w .transactions) k x e) (answer-fits (domainOf c) a ns copy h f (decoded-fits _))
+                (λ s. record { table = more s .0; answers = more s .1; same = λ q. absurd (not-empty (x .changes) ch q) });
+            table = refl;
+            answers = tt;
+          }
+      room ch false = left-turn (refused ENOSPC)
+
+      go : (m : Option Change) → z .change ≡ m
+          → let y = inside w k x (record { reply = z .reply; table = z .table; change = m }) in Turn w [] (cond (isNinth x m) ls (set ls k (log (y .reply)))) y
+      go none p =
+          record {
+            after = with-log k x (log (z .reply)) o e (at-below (w .transactions) k x e)
+                (λ s. record { table = more s .0 ∙ keeps (domainOf c) a ns copy p; answers = more s .1; same = o .running k x e s .same });
+            table = refl;
+            answers = tt;
+          }
+      go (some ch) p = room ch (ltb (length (x .changes)) mostChanges)
+
+  -- a node request
+  asked-turn : (c : Connection) (tx : ℕ) (a : Ask) (ns : Names) → domainOf c < 65536 → AskFits a
+      → let y = asked w c tx a ns in Turn w (addedBy w ls c tx (y .reply) (ask a ns)) (loggedBy w ls c tx (y .reply) (ask a ns)) y
+  unfolding asked addedBy loggedBy transactionOf
+  asked-turn c zero a ns h f = plainly-turn (domainOf c) a ns h f
+  asked-turn c (suc k) a ns h f = rw eqb·suc-zero (go (transactionOf w c (suc k)) refl)
+    where
+      go : (m : Option Transaction) → transactionOf w c (suc k) ≡ m
+          → let y = elim m as (λ m. Outcome) [ none ↦ left w (refused ENOENT) | some x ↦ inside w (suc k - 1) x (answer (domainOf c) a ns (copyOf w (suc k - 1))) ] in
+          Turn w [] (elim m [ none ↦ ls | some x ↦ noted w ls c (suc k) (y .reply) a ns x ]) y
+      go none e = left-turn (refused ENOENT)
+      go (some x) e = inside-turn c (suc k) x a ns (named w (suc k) c x e .0) h f
+
+  ended-turn : (k : ℕ) (x : Transaction) → getD (w .transactions) k none ≡ some x → (commit stale : Bool) → x .stale ≡ stale
+      → let y = cond commit (cond stale (closing w k (refused EAGAIN)) (committing w k x)) (closing w k OK) in
+      Turn w (cond (commit && succeeds (y .reply)) (getD ls k []) []) ls y
+  unfolding closing committing to succeeds OK
+  ended-turn k x e true true s = closing-turn k (refused EAGAIN)
+  ended-turn k x e true false s = committing-turn k x e s
+  ended-turn k x e false stale s = closing-turn k OK
+
+  ending-turn : (c : Connection) (tx : ℕ) (commit : Bool) → let y = ending w c tx commit in Turn w (cond (commit && succeeds (y .reply)) (getD ls (tx - 1) []) []) ls y
+  unfolding ending left succeeds
+  ending-turn c tx commit = go (transactionOf w c tx) refl
+    where
+      P : Outcome → Type 0
+      P y = Turn w (cond (commit && succeeds (y .reply)) (getD ls (tx - 1) []) []) ls y
+
+      go : (m : Option Transaction) → transactionOf w c tx ≡ m
+          → P (elim m [
+            | none ↦ left w (refused ENOENT)
+            | some x ↦ cond commit (cond (x .stale) (closing w (tx - 1) (refused EAGAIN)) (committing w (tx - 1) x)) (closing w (tx - 1) OK)
+          ])
+      go none e = rw and-false (left-turn (refused ENOENT))
+      go (some x) e = ended-turn (tx - 1) x (named w tx c x e .0) commit (x .stale) refl
+
+  control-turn : (f : Reply → List Single) → f (refused EACCES) ≡ [] → (c : Connection) (y : Outcome) → Turn w (f (y .reply)) ls y
+      → Turn w (f (forControl w c y .reply)) ls (forControl w c y)
+  unfolding forControl left
+  control-turn f e c y h = cond-case (λ z. Turn w (f (z .reply)) ls z) (isControl (domainOf c)) _ _ h (rw e (left-turn (refused EACCES)))
+
+  place-turn : (c : Connection) (p : Place) (y : Outcome) → Turn w [] ls y → Turn w [] ls (forPlace w c p y)
+  unfolding forPlace
+  place-turn c (path r ns) y h = h
+  place-turn c (event e) y h = control-turn (λ r. []) refl c y h
+
+  handle-turn : (c : Connection) (tx : ℕ) (q : Request) → domainOf c < 65536 → RequestFits q
+      → let y = handle w c tx q in Turn w (addedBy w ls c tx (y .reply) q) (loggedBy w ls c tx (y .reply) q) y
+  unfolding handle addedBy loggedBy succeeds
+  handle-turn c tx (ask a ns) h f = asked-turn c tx a ns h f
+  handle-turn c tx (watch p t depth) h f = place-turn c p _ (watching-turn c p t depth)
+  handle-turn c tx (unwatch p t) h f = place-turn c p _ (unwatching-turn c p t)
+  handle-turn c tx start h f = starting-turn c
+  handle-turn c tx (end commit) h f = ending-turn c tx commit
+  handle-turn c tx (introduce d page channel) h f = control-turn (λ r. []) refl c _ (introducing-turn d page channel f)
+  handle-turn c tx (release d) h f = control-turn (λ r. cond (succeeds r) (released d ∷ []) []) refl c _ (releasing-turn d)
+  handle-turn c tx (domainPath d) h f = left-turn _
+  handle-turn c tx (isIntroduced d) h f = left-turn _
+  handle-turn c tx reset h f = resetting-turn c
+
+  outcome-turn : (c : Connection) (tx : ℕ) (p : Parsed) → domainOf c < 65536 → ParsedFits p
+      → let y = outcomeOf w c tx p in Turn w (addedAs w ls c tx (y .reply) p) (loggedAs w ls c tx (y .reply) p) y
+  unfolding outcomeOf addedAs loggedAs
+  outcome-turn c tx unknown h f = left-turn (refused ENOSYS)
+  outcome-turn c tx invalid h f = left-turn (refused EINVAL)
+  outcome-turn c tx (request q) h f = handle-turn c tx q h f
+
+-- ── calls ──
+
+request-fits : (c : Call) → ParsedFits (requestOf c)
+unfolding requestOf
+request-fits c = parse-fits (c .sender) (typeOf (c .message)) (txOf (c .message)) (payloadOf (c .message))
+
+-- a call's turn
+call-turn : (w : World) (ls : Logs) (c : Call) → OrderedAt w ls
+    → OrderedAt (after w c) (logged w ls c) × (replay (w .nodes) (added w ls c) ≡ after w c .nodes) × Agrees (w .nodes) (added w ls c)
+unfolding after added logged replay
+call-turn w ls c o = go (served w c) refl
+  where
+    go : (m : Option Outcome) → served w c ≡ m
+        → let v = elim m as (λ m. World) [ none ↦ w | some y ↦ y .world ] in
+        let ss = elim m as (λ m. List Single) [ none ↦ [] | some y ↦ addedAs w ls (c .sender) (txOf (c .message)) (y .reply) (requestOf c) ] in
+        OrderedAt v (elim m [ none ↦ ls | some y ↦ loggedAs w ls (c .sender) (txOf (c .message)) (y .reply) (requestOf c) ])
+        × (replay (w .nodes) ss ≡ v .nodes) × Agrees (w .nodes) ss
+    go none e = (o, refl, tt)
+    go (some y) e =
+        let t : Turn w (addedAs w ls (c .sender) (txOf (c .message)) (y .reply) (requestOf c)) (loggedAs w ls (c .sender) (txOf (c .message)) (y .reply) (requestOf c)) y
+        = rw (served-is w c y e) at (outcome-turn w ls o (c .sender) (txOf (c .message)) (requestOf c) (small-known (w .domains) _ (o .domains) (served-known w c y e)) (request-fits c)) in
+        (t .after, t .table, t .answers)
+
+-- from any world that is in order
+pub order-from : (w : World) (ls : Logs) (cs : History) → OrderedAt w ls
+    → (replay (w .nodes) (orderFrom w ls cs) ≡ run w cs .nodes) × Agrees (w .nodes) (orderFrom w ls cs)
+unfolding orderFrom run replay
+order-from w ls [] o = (refl, tt)
+order-from w ls (c ∷ cs) o =
+    let one = call-turn w ls c o in
+    let rest = order-from (after w c) (logged w ls c) cs (one .0) in
+    (replay-append (w .nodes) (added w ls c) _ ∙ rw (one .1) (rest .0), agrees-append (w .nodes) (added w ls c) _ (one .2) (rw (one .1) (rest .1)))
+
+-- ── from the fresh store ──
+
+fresh-ordered : OrderedAt freshWorld (replicate mostTransactions [])
+unfolding freshWorld
+fresh-ordered =
+    record {
+      main = fresh-fits;
+      domains = λ i d e. absurd (nothing (sym (none-at mostDomains i) ∙ e));
+      copies = refl;
+      logs = refl;
+      running = λ k x e. absurd (nothing (sym (none-at mostTransactions k) ∙ e));
+    }
+
+pub one-order : OneOrder
+unfolding order freshWorld
+one-order cs = order-from freshWorld (replicate mostTransactions []) cs fresh-ordered

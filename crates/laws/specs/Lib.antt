@@ -1,0 +1,5 @@
+-- The laws: what follows from the rule book for every history of calls. Read in this order.
+pub mod History
+pub mod Eagain
+pub mod Refusals
+pub mod Order

@@ -1,0 +1,1 @@
+// The laws have no code: what they say is in specs/.
