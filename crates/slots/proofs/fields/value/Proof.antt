@@ -1,10 +1,10 @@
-use Rattle.nodes.proofs.Reading.{value-part}
+use Rattle.slots.proofs.Reading.{value-part}
 use borrow.Author.Needs.{needs}
-use Rattle.nodes.proofs.slots.value.Statement.{statement}
-use Rattle.nodes.proofs.slots.value.Tie as tie
-use Rattle.nodes.proofs.slots.value.Reads as reads
-use Rattle.nodes.proofs.slots.value.Lts as lts
-use Rattle.nodes.proofs.slots.value_length.Reads as value-length-reads
+use Rattle.slots.proofs.fields.value.Statement.{statement}
+use Rattle.slots.proofs.fields.value.Tie as tie
+use Rattle.slots.proofs.fields.value.Reads as reads
+use Rattle.slots.proofs.fields.value.Lts as lts
+use Rattle.slots.proofs.fields.value_length.Reads as value-length-reads
 
 -- src/slots.rt:67:9
 value-length-requires : tie.Need-value-length-requires

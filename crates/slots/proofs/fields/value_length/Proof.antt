@@ -1,11 +1,11 @@
 use Prim.Native.Nat.{_+_, _*_}
-use Rattle.nodes.proofs.Reading.{known, value-length-bytes}
+use Rattle.slots.proofs.Reading.{known, value-length-bytes}
 use native.Mathlib.Omega.{arith}
 use borrow.Author.Needs.{needs}
-use Rattle.nodes.proofs.slots.value_length.Statement.{statement}
-use Rattle.nodes.proofs.slots.value_length.Tie as tie
-use Rattle.nodes.proofs.slots.value_length.Reads as reads
-use Rattle.nodes.proofs.slots.value_length.Lts as lts
+use Rattle.slots.proofs.fields.value_length.Statement.{statement}
+use Rattle.slots.proofs.fields.value_length.Tie as tie
+use Rattle.slots.proofs.fields.value_length.Reads as reads
+use Rattle.slots.proofs.fields.value_length.Lts as lts
 
 -- src/slots.rt:40:19
 mul-high : tie.Need-mul-high

@@ -7,7 +7,7 @@ ghost use Rattle.rules.specs.Size.{slots, tableSize, longestName, longestValue,
 ghost use Rattle.rules.specs.Octets.{field};
 ghost use Rattle.rules.specs.Layout.{tableOf};
 ghost use Rattle.rules.specs.Node.{nodeAt};
-ghost use Rattle.nodes.specs.Slot.{Bytes, slotAt, isUsed, nameLength, valueLength, entryCount, entryOf};
+ghost use Rattle.slots.specs.Slot.{Bytes, slotAt, isUsed, nameLength, valueLength, entryCount, entryOf};
 
 pub const SLOTS: usize = 128;
 

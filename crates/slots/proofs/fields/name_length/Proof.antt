@@ -1,11 +1,11 @@
 use Prim.Native.Nat.{_+_, _*_}
-use Rattle.nodes.proofs.Reading.{known, name-length-byte}
+use Rattle.slots.proofs.Reading.{known, name-length-byte}
 use native.Mathlib.Omega.{arith}
 use borrow.Author.Needs.{needs}
-use Rattle.nodes.proofs.slots.name_length.Statement.{statement}
-use Rattle.nodes.proofs.slots.name_length.Tie as tie
-use Rattle.nodes.proofs.slots.name_length.Reads as reads
-use Rattle.nodes.proofs.slots.name_length.Lts as lts
+use Rattle.slots.proofs.fields.name_length.Statement.{statement}
+use Rattle.slots.proofs.fields.name_length.Tie as tie
+use Rattle.slots.proofs.fields.name_length.Reads as reads
+use Rattle.slots.proofs.fields.name_length.Lts as lts
 
 -- src/slots.rt:33:8
 mul-result : tie.Need-mul-result

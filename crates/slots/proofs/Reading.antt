@@ -17,7 +17,7 @@ use Rattle.rules.specs.Node.{Node, Table, root, nodeAt}
 use Rattle.rules.specs.Layout.{tableOf, slotOf, nodeOf, textAt, entryAt}
 use Rattle.rules.proofs.Fields.{field-part, field-three, field-split, field-bound, take-drop-take}
 use Rattle.rules.proofs.Slots.{slot-at}
-use Rattle.nodes.specs.Slot.{Bytes, slotAt, isUsed, head, nameLength, valueLength, entryCount, entryOf}
+use Rattle.slots.specs.Slot.{Bytes, slotAt, isUsed, head, nameLength, valueLength, entryCount, entryOf}
 
 -- what is known of a slice of bytes
 pub known : (t : Octets) → ((k : ℕ) → Fits w8 (getD t k 0)) → Bytes t

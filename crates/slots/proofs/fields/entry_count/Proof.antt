@@ -1,9 +1,9 @@
-use Rattle.nodes.proofs.Reading.{known, entry-count-byte}
+use Rattle.slots.proofs.Reading.{known, entry-count-byte}
 use borrow.Author.Needs.{needs}
-use Rattle.nodes.proofs.slots.entry_count.Statement.{statement}
-use Rattle.nodes.proofs.slots.entry_count.Tie as tie
-use Rattle.nodes.proofs.slots.entry_count.Reads as reads
-use Rattle.nodes.proofs.slots.entry_count.Lts as lts
+use Rattle.slots.proofs.fields.entry_count.Statement.{statement}
+use Rattle.slots.proofs.fields.entry_count.Tie as tie
+use Rattle.slots.proofs.fields.entry_count.Reads as reads
+use Rattle.slots.proofs.fields.entry_count.Lts as lts
 
 -- src/slots.rt:49:8
 mul-result : tie.Need-mul-result

@@ -1,9 +1,9 @@
-use Rattle.nodes.proofs.Reading.{known, parent-byte}
+use Rattle.slots.proofs.Reading.{known, parent-byte}
 use borrow.Author.Needs.{needs}
-use Rattle.nodes.proofs.slots.parent.Statement.{statement}
-use Rattle.nodes.proofs.slots.parent.Tie as tie
-use Rattle.nodes.proofs.slots.parent.Reads as reads
-use Rattle.nodes.proofs.slots.parent.Lts as lts
+use Rattle.slots.proofs.fields.parent.Statement.{statement}
+use Rattle.slots.proofs.fields.parent.Tie as tie
+use Rattle.slots.proofs.fields.parent.Reads as reads
+use Rattle.slots.proofs.fields.parent.Lts as lts
 
 -- src/slots.rt:26:8
 mul-result : tie.Need-mul-result

@@ -1,13 +1,13 @@
-use Rattle.nodes.specs.Slot.{Bytes}
-use Rattle.nodes.proofs.Reading.{known}
+use Rattle.slots.specs.Slot.{Bytes}
+use Rattle.slots.proofs.Reading.{known}
 use Prim.Native.Nat.{_+_, _*_}
 use native.Mathlib.Omega.{arith}
 use Rattle.rules.proofs.Fields.{field-three}
 use borrow.Author.Needs.{needs}
-use Rattle.nodes.proofs.slots.three.Statement.{statement}
-use Rattle.nodes.proofs.slots.three.Tie as tie
-use Rattle.nodes.proofs.slots.three.Reads as reads
-use Rattle.nodes.proofs.slots.three.Lts as lts
+use Rattle.slots.proofs.fields.three.Statement.{statement}
+use Rattle.slots.proofs.fields.three.Tie as tie
+use Rattle.slots.proofs.fields.three.Reads as reads
+use Rattle.slots.proofs.fields.three.Lts as lts
 
 -- src/slots.rt:83:16
 shared-slice-read-high : tie.Need-shared-slice-read-high

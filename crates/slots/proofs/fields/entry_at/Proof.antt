@@ -1,12 +1,12 @@
 use native.Mathlib.Omega.{arith}
-use Rattle.nodes.proofs.Reading.{entry-read}
+use Rattle.slots.proofs.Reading.{entry-read}
 use borrow.Author.Needs.{needs}
-use Rattle.nodes.proofs.slots.entry_at.Statement.{statement}
-use Rattle.nodes.proofs.slots.entry_at.Tie as tie
-use Rattle.nodes.proofs.slots.entry_at.Reads as reads
-use Rattle.nodes.proofs.slots.entry_at.Lts as lts
-use Rattle.nodes.proofs.slots.parted.Reads as parted-reads
-use Rattle.nodes.proofs.slots.three.Reads as three-reads
+use Rattle.slots.proofs.fields.entry_at.Statement.{statement}
+use Rattle.slots.proofs.fields.entry_at.Tie as tie
+use Rattle.slots.proofs.fields.entry_at.Reads as reads
+use Rattle.slots.proofs.fields.entry_at.Lts as lts
+use Rattle.slots.proofs.fields.parted.Reads as parted-reads
+use Rattle.slots.proofs.fields.three.Reads as three-reads
 
 -- src/slots.rt:104:25
 mul-three : tie.Need-mul-three

@@ -1,9 +1,9 @@
-use Rattle.nodes.proofs.Reading.{known, used-byte}
+use Rattle.slots.proofs.Reading.{known, used-byte}
 use borrow.Author.Needs.{needs}
-use Rattle.nodes.proofs.slots.used.Statement.{statement}
-use Rattle.nodes.proofs.slots.used.Tie as tie
-use Rattle.nodes.proofs.slots.used.Reads as reads
-use Rattle.nodes.proofs.slots.used.Lts as lts
+use Rattle.slots.proofs.fields.used.Statement.{statement}
+use Rattle.slots.proofs.fields.used.Tie as tie
+use Rattle.slots.proofs.fields.used.Reads as reads
+use Rattle.slots.proofs.fields.used.Lts as lts
 
 -- src/slots.rt:18:14
 mul-result : tie.Need-mul-result

@@ -1,10 +1,10 @@
-use Rattle.nodes.proofs.Reading.{name-part}
+use Rattle.slots.proofs.Reading.{name-part}
 use borrow.Author.Needs.{needs}
-use Rattle.nodes.proofs.slots.name.Statement.{statement}
-use Rattle.nodes.proofs.slots.name.Tie as tie
-use Rattle.nodes.proofs.slots.name.Reads as reads
-use Rattle.nodes.proofs.slots.name.Lts as lts
-use Rattle.nodes.proofs.slots.name_length.Reads as name-length-reads
+use Rattle.slots.proofs.fields.name.Statement.{statement}
+use Rattle.slots.proofs.fields.name.Tie as tie
+use Rattle.slots.proofs.fields.name.Reads as reads
+use Rattle.slots.proofs.fields.name.Lts as lts
+use Rattle.slots.proofs.fields.name_length.Reads as name-length-reads
 
 -- src/slots.rt:57:9
 name-length-requires : tie.Need-name-length-requires

@@ -1,2 +1,0 @@
-// The node table, on lent bytes.
-mod slots;
