@@ -1,0 +1,2 @@
+// Paths: the classes of their bytes, their form, their names, and how two of them lie.
+pub mod classes;
