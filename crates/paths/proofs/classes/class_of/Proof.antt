@@ -24,7 +24,7 @@ array-read-result c = search needs
 
 returns : tie.Need-returns
 unfolding classes right classOf isLetter isDigit
-returns c = eqb→eq (getD classes (c .args .b) 0) (classOf (c .args .b)) (at right classes tt (c .args .b) (search needs))
+returns c = eqb→eq (getD classes (c .args .b) 0) (classOf (c .args .b)) (at right classes 0 tt (c .args .b) (search needs))
 
 pub class-of-spec : {M : Type 1} → statement M
 class-of-spec = tie.close (tie.spec array-read-result returns)
