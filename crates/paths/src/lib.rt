@@ -1,4 +1,4 @@
 // Paths: the classes of their bytes, their form, their names, and how two of them lie.
-pub mod classes;
 pub mod answer;
+pub mod classes;
 pub mod form;
