@@ -1,3 +1,4 @@
 pub mod Table
 pub mod ClassLaws
 pub mod MachineLaws
+pub mod TextLaws
