@@ -2,10 +2,12 @@
 use mathlib.Core.Path.{_≡_, refl, ap, sym, _∙_}
 use mathlib.Core.Bool.{Bool, true, false, cond, _&&_, _||_, and-true, and-assoc, true≢false, false≢true}
 use mathlib.Core.List.{List, [], _∷_}
-use Prim.Native.Nat.{ℕ, _<_, _≤_}
+use Prim.Native.Nat.{ℕ, _+_, _<_, _≤_}
+use native.Mathlib.Numerals.{add-one}
 use native.Mathlib.Omega.{arith}
 use lib.Dec.{eqb, leb}
-use lib.ListN.{length}
+use lib.ListN.{length, getD, drop, drop-of-length-le}
+use lib.Seq.{drop-cons}
 use borrow.Author.Tests.{eqb-true}
 use Rattle.rules.specs.Size.{longestAbsolute, longestRelative}
 use Rattle.rules.specs.Octets.{Octets, same, isDigit}
@@ -167,3 +169,36 @@ pub reads : (s : Octets) → verdictOf (run 0 s) s ≡ formOf (given s)
 unfolding run given verdictOf formOf
 reads [] = refl
 reads (c ∷ cs) = reads-by c cs (eqb c 47) (eqb c 64) refl refl
+
+-- ── the reading's loop ──
+
+-- the last state, which is that of all that was read, decides
+pub verdict-right : (state : ℕ) (s : Octets) (i : ℕ) → run 0 s ≡ run state (drop i s) → length s ≤ i → verdictOf state s ≡ formOf (given s)
+unfolding run
+verdict-right state s i e h = ap (λ (k : ℕ). verdictOf k s) (sym (e ∙ rw (drop-of-length-le s h))) ∙ reads s
+
+cond-small : (b : Bool) (x y : ℕ) → x < 8 → y < 8 → cond b x y < 8
+cond-small true x y h k = h
+cond-small false x y h k = k
+
+in-small : (name slash k : ℕ) → name < 8 → slash < 8 → inName name slash k < 8
+unfolding inName
+in-small name slash k h l = cond-small (ofName k) _ _ h (cond-small (eqb k 2) _ _ l (omega arith))
+
+at-small : (name k : ℕ) → name < 8 → atName name k < 8
+unfolding atName
+at-small name k h = cond-small (ofName k) _ _ h (omega arith)
+
+pub step-small : (state k : ℕ) → stepOf state k < 8
+unfolding stepOf
+step-small state k =
+    cond-small (eqb state 0) _ _ (cond-small (eqb k 3) _ _ (omega arith) (in-small 4 1 k (omega arith) (omega arith)))
+    (cond-small (eqb state 1 || eqb state 3) _ _ (at-small 2 k (omega arith))
+    (cond-small (eqb state 2) _ _ (in-small 2 3 k (omega arith) (omega arith))
+    (cond-small (eqb state 4) _ _ (in-small 4 5 k (omega arith) (omega arith))
+    (cond-small (eqb state 5) _ _ (at-small 4 k (omega arith)) (cond-small (eqb state 6) _ _ (omega arith) (omega arith))))))
+
+pub run-next : (state : ℕ) (s : Octets) (i : ℕ) → i < length s
+    → run state (drop i s) ≡ run (stepOf state (classOf (getD s i 0))) (drop (i + 1) s)
+unfolding run
+run-next state s i h = rw (add-one, drop-cons s i 0 h)

@@ -1,7 +1,16 @@
 // The form of a path: a machine that reads its bytes by their classes.
 ghost use mathlib.Core.Path.{_≡_};
 ghost use Prim.Native.Nat.{_<_};
+ghost use Rattle.rules.specs.Path.{given};
 ghost use Rattle.paths.specs.Machine.{stepOf};
+ghost use Rattle.paths.specs.Form.{formOf, isEvent, verdictOf};
+use crate::answer::Form;
+use crate::classes::class_of;
+use crate::relation::same;
+
+const LONGEST_ABSOLUTE: usize = 3072;
+
+const LONGEST_RELATIVE: usize = 2048;
 
 // A row for each state, a column for each class: letter, digit, slash, `@`, other.
 const STEPS: [[u8; 5]; 8] = [
@@ -29,4 +38,52 @@ pub fn step(state: u8, class: u8) -> u8
     ensures { λ r. ⌜ r ≡ stepOf state class ⌝ }
 {
     STEPS[state as usize][class as usize]
+}
+
+// Whether a text is one of the two event names.
+pub fn is_event(s: &[u8]) -> bool
+    ensures { λ r. ⌜ r ≡ isEvent (now (s .entry)) ⌝ }
+{
+    if same(s, b"@introduceDomain") {
+        return true;
+    }
+    same(s, b"@releaseDomain")
+}
+
+// What a text is that led the machine to a state.
+fn verdict(state: u8, s: &[u8]) -> Form
+    ensures { λ r. ⌜ r ≡ verdictOf state (now (s .entry)) ⌝ }
+{
+    match state {
+        1 | 2 => {
+            if s.len() <= LONGEST_ABSOLUTE {
+                return Form::Absolute;
+            }
+        }
+        4 => {
+            if s.len() <= LONGEST_RELATIVE {
+                return Form::Relative;
+            }
+        }
+        6 => {
+            if is_event(s) {
+                return Form::Special;
+            }
+        }
+        _ => {}
+    }
+    Form::Malformed
+}
+
+// The form of a path in a payload.
+pub fn form(s: &[u8]) -> Form
+    ensures { λ r. ⌜ r ≡ formOf (given (now (s .entry))) ⌝ }
+{
+    let mut state: u8 = 0;
+    let mut i = 0;
+    while i < s.len() {
+        state = step(state, class_of(s[i]));
+        i += 1;
+    }
+    verdict(state, s)
 }
