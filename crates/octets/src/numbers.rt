@@ -1,0 +1,28 @@
+// The 32-bit numbers of the frame, low byte first.
+ghost use mathlib.Core.Path.{_≡_};
+ghost use Prim.Native.Nat.{_+_, _≤_};
+ghost use lib.ListN.{length};
+ghost use Rattle.rules.specs.Octets.{paste, littleEndian, fourBytes};
+
+// The number that stands at and on.
+pub fn number32(s: &[u8], at: usize) -> u32
+    requires { ⌜ at + 4 ≤ length (now s) ⌝ }
+    ensures { λ r. ⌜ r ≡ littleEndian (now (s .entry)) at ⌝ }
+{
+    let a = s[at] as u32;
+    let b = s[at + 1] as u32;
+    let c = s[at + 2] as u32;
+    let d = s[at + 3] as u32;
+    a + 256 * (b + 256 * (c + 256 * d))
+}
+
+// Puts n into the buffer, at and on.
+pub fn put_number32(into: &mut [u8], at: usize, n: u32)
+    requires { ⌜ at + 4 ≤ length (now into) ⌝ }
+    ensures { λ _. ⌜ now (into .exit) ≡ paste at (fourBytes n) (now (into .entry)) ⌝ }
+{
+    into[at] = (n % 256) as u8;
+    into[at + 1] = (n / 256 % 256) as u8;
+    into[at + 2] = (n / 65536 % 256) as u8;
+    into[at + 3] = (n / 16777216 % 256) as u8;
+}
