@@ -1,5 +1,5 @@
 pub mod Table
 pub mod ClassLaws
 pub mod MachineLaws
-pub mod TextLaws
 pub mod VerdictLaws
+pub mod PieceLaws

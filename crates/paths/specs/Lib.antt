@@ -1,3 +1,4 @@
 pub mod Classes
 pub mod Machine
 pub mod Form
+pub mod Names

@@ -6,7 +6,7 @@ ghost use Rattle.paths.specs.Machine.{stepOf};
 ghost use Rattle.paths.specs.Form.{formOf, isEvent, verdictOf};
 use crate::answer::Form;
 use crate::classes::class_of;
-use crate::relation::same;
+use octets::compare::same;
 
 const LONGEST_ABSOLUTE: usize = 3072;
 

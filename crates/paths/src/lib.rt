@@ -2,4 +2,4 @@
 pub mod answer;
 pub mod classes;
 pub mod form;
-pub mod relation;
+pub mod names;

@@ -5,22 +5,13 @@ use mathlib.Core.List.{List, [], _∷_, _++_, append-assoc}
 use mathlib.Core.Option.{Option, none, some}
 use Prim.Native.Nat.{ℕ, zero, suc, _+_, _*_, _≤_, _<_}
 use native.Mathlib.Omega.{arith}
-use lib.ListN.{length, length-append}
+use lib.ListN.{length, drop, length-append}
 use lib.Dec.{eqb, leb}
 use borrow.Author.Tests.{eqb-true, eqb-false, eq-eqb, leb-true, le-leb, ne-eqb}
 use Rattle.rules.specs.Size.{longestAbsolute, longestRelative, longestName, deepest, longestPath}
 use Rattle.rules.specs.Octets.{Octets, same, begins}
+use Rattle.rules.proofs.Compare.{and-true, same-eq, same-refl}
 use Rattle.rules.specs.Path.{Name, Names, nameByte, allBytes, isName, allNames, glued, split, Given, malformed, absolute, relative, special, given, specialOf, introduceName, releaseName, checked, afterSlash, namesIn, isFull, slashed, pathText, shortNames, fits, beyond}
-
--- ── tests ──
-
-and-left : (a b : Bool) → (a && b) ≡ true → a ≡ true
-and-left true b e = refl
-and-left false b e = e
-
-and-right : (a b : Bool) → (a && b) ≡ true → b ≡ true
-and-right true b e = e
-and-right false b e = absurd (false≢true e)
 
 -- ── split ──
 
@@ -61,8 +52,8 @@ split-joined : (n : Name) (ns : Names) → allBytes n ≡ true → split (slashe
 unfolding allBytes glued
 split-joined [] ns h e = e
 split-joined (c ∷ n) ns h e =
-    split-other c (n ++ slashed ns) (name-no-slash c (and-left (nameByte c) (allBytes n) h))
-    ∙ rw (split-joined n ns (and-right (nameByte c) (allBytes n) h) e)
+    split-other c (n ++ slashed ns) (name-no-slash c (and-true (nameByte c) (allBytes n) h .0))
+    ∙ rw (split-joined n ns (and-true (nameByte c) (allBytes n) h .1) e)
 
 -- names with a slash before each are those names again
 pub split-slashed : (ns : Names) → allNames ns ≡ true → split (slashed ns) ≡ [] ∷ ns
@@ -70,7 +61,11 @@ unfolding slashed allNames split
 split-slashed [] h = refl
 split-slashed (n ∷ ns) h =
     ap (λ (l : Names). [] ∷ l)
-    (split-joined n ns (name-bytes n (and-left (isName n) (allNames ns) h)) (split-slashed ns (and-right (isName n) (allNames ns) h)))
+    (split-joined n ns (name-bytes n (and-true (isName n) (allNames ns) h .0)) (split-slashed ns (and-true (isName n) (allNames ns) h .1)))
+
+pub split-names : (n : Name) (ns : Names) → allNames (n ∷ ns) ≡ true → split (n ++ slashed ns) ≡ n ∷ ns
+unfolding split slashed
+split-names n ns h = let e = split-slashed (n ∷ ns) h in cc
 
 -- ── full paths ──
 
@@ -99,8 +94,8 @@ full-after (d ∷ ds) ns e =
     let h = given-cond (short && sound) (split (d ∷ ds)) ns e in
     record {
       text = slashed-text 47 (d ∷ ds) ns (sym (slashed-split (d ∷ ds)) ∙ ap slashed (h .1));
-      names = ap allNames (sym (h .1)) ∙ and-right short sound (h .0);
-      short = leb-true (length (47 ∷ d ∷ ds)) longestAbsolute (and-left short sound (h .0));
+      names = ap allNames (sym (h .1)) ∙ and-true short sound (h .0) .1;
+      short = leb-true (length (47 ∷ d ∷ ds)) longestAbsolute (and-true short sound (h .0) .0);
     }
 
 -- the other two forms are no full paths
@@ -127,11 +122,6 @@ pub given-full : (s : Octets) (ns : Names) → given s ≡ absolute ns → Full 
 unfolding given
 given-full [] ns e = absurd (let z : _≡_ {A = ℕ} 0 1 = cc in omega arith)
 given-full (c ∷ cs) ns e = given-by c cs ns (eqb c 47) refl e
-
-split-names : (n : Name) (ns : Names) → allNames (n ∷ ns) ≡ true → split (n ++ slashed ns) ≡ n ∷ ns
-unfolding allNames
-split-names n ns h =
-    split-joined n ns (name-bytes n (and-left (isName n) (allNames ns) h)) (split-slashed ns (and-right (isName n) (allNames ns) h))
 
 pub no-empty-name : (ns : Names) → allNames ([] ∷ ns) ≡ true → ⊥
 unfolding allNames isName
@@ -179,14 +169,43 @@ pub text-full : (ns : Names) → allNames ns ≡ true → length (pathText ns) �
 unfolding isFull
 text-full ns h l = rw (text-given ns h l, isFull)
 
+-- a full path begins with a slash; the root is that slash, and of any other the pieces after it are the names
+text-slash : (ns : Names) → pathText ns ≡ 47 ∷ drop 1 (pathText ns)
+unfolding pathText slashed
+text-slash [] = refl
+text-slash (n ∷ ns) = refl
+
+text-root : (ns : Names) → allNames ns ≡ true → length (pathText ns) ≡ 1 → ns ≡ []
+unfolding pathText slashed
+text-root [] h l = refl
+text-root ([] ∷ ns) h l = absurd (no-empty-name ns h)
+text-root ((c ∷ n) ∷ ns) h l = absurd (omega arith)
+
+text-split : (ns : Names) → allNames ns ≡ true → (length (pathText ns) ≡ 1 → ⊥) → ns ≡ split (drop 1 (pathText ns))
+unfolding pathText slashed
+text-split [] h l = absurd (l refl)
+text-split (n ∷ ns) h l = sym (split-names n ns h)
+
+module _ (s : Octets) (h : isFull s ≡ true) where
+  pub full-slash : s ≡ 47 ∷ drop 1 s
+  full-slash = rw (full s h .text) (text-slash (namesIn s))
+
+  pub full-root : length s ≡ 1 → namesIn s ≡ []
+  full-root l = text-root (namesIn s) (full s h .names) (rw (full s h .text) at l)
+
+  pub full-split : (length s ≡ 1 → ⊥) → namesIn s ≡ split (drop 1 s)
+  full-split l =
+      let e = full s h .text in
+      text-split (namesIn s) (full s h .names) (λ k. l (ap length e ∙ k)) ∙ ap (λ (t : Octets). split (drop 1 t)) (sym e)
+
 -- ── sizes ──
 
 slashed-length : (ns : Names) → shortNames ns ≡ true → length (slashed ns) ≤ length ns * (1 + longestName)
 unfolding slashed shortNames
 slashed-length [] h = omega arith
 slashed-length (n ∷ ns) h =
-    let l = leb-true (length n) longestName (and-left (leb (length n) longestName) (shortNames ns) h) in
-    let m = slashed-length ns (and-right (leb (length n) longestName) (shortNames ns) h) in
+    let l = leb-true (length n) longestName (and-true (leb (length n) longestName) (shortNames ns) h .0) in
+    let m = slashed-length ns (and-true (leb (length n) longestName) (shortNames ns) h .1) in
     simp length-append (omega arith)
 
 pub fits-length : (ns : Names) → fits ns ≡ true → length (pathText ns) ≤ longestPath
@@ -194,30 +213,15 @@ unfolding fits pathText
 fits-length [] h = omega arith
 fits-length (n ∷ ns) h =
     let short = shortNames (n ∷ ns) in
-    let d = leb-true (length (n ∷ ns)) deepest (and-left (leb (length (n ∷ ns)) deepest) short h) in
-    let l = slashed-length (n ∷ ns) (and-right (leb (length (n ∷ ns)) deepest) short h) in
+    let d = leb-true (length (n ∷ ns)) deepest (and-true (leb (length (n ∷ ns)) deepest) short h .0) in
+    let l = slashed-length (n ∷ ns) (and-true (leb (length (n ∷ ns)) deepest) short h .1) in
     omega arith
 
 -- ── above and below ──
 
-same-equal : (x y : Octets) → same x y ≡ true → x ≡ y
-unfolding same
-same-equal [] [] h = refl
-same-equal [] (b ∷ y) h = absurd (false≢true h)
-same-equal (a ∷ x) [] h = absurd (false≢true h)
-same-equal (a ∷ x) (b ∷ y) h =
-    let p = eqb-true a b (and-left (eqb a b) (same x y) h) in
-    let q = same-equal x y (and-right (eqb a b) (same x y) h) in
-    cc
-
-same-self : (x : Octets) → same x x ≡ true
-unfolding same
-same-self [] = refl
-same-self (a ∷ x) = rw (eq-eqb a a refl) (same-self x)
-
 beyond-by : (n p : Name) (ns ps rest : Names) (b : Bool) → same n p ≡ b → ((rs : Names) → beyond ns ps ≡ some rs → ps ≡ ns ++ rs)
     → cond b (beyond ns ps) none ≡ some rest → p ∷ ps ≡ n ∷ (ns ++ rest)
-beyond-by n p ns ps rest true e f h = let q = same-equal n p e in let r = f rest h in cc
+beyond-by n p ns ps rest true e f h = let q = same-eq n p e in let r = f rest h in cc
 beyond-by n p ns ps rest false e f h = cc
 
 -- what is left below a path is what is put after it
@@ -230,4 +234,4 @@ beyond-rest (n ∷ ns) (p ∷ ps) rest h = beyond-by n p ns ps rest (same n p) r
 pub beyond-append : (a rest : Names) → beyond a (a ++ rest) ≡ some rest
 unfolding beyond
 beyond-append [] rest = refl
-beyond-append (n ∷ ns) rest = rw (same-self n) (beyond-append ns rest)
+beyond-append (n ∷ ns) rest = rw (same-refl n) (beyond-append ns rest)
