@@ -3,3 +3,4 @@ pub mod ClassLaws
 pub mod MachineLaws
 pub mod VerdictLaws
 pub mod PieceLaws
+pub mod RelationLaws

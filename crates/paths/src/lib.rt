@@ -3,3 +3,4 @@ pub mod answer;
 pub mod classes;
 pub mod form;
 pub mod names;
+pub mod relation;

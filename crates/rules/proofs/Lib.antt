@@ -1,3 +1,4 @@
 pub mod Compare
 pub mod Paste
 pub mod PathLaws
+pub mod BelowLaws
