@@ -1,1 +1,3 @@
 pub mod Gather
+pub mod Digits
+pub mod Ranges

@@ -1,8 +1,8 @@
 -- Laws of the comparisons of `specs/Octets.antt`.
 use mathlib.Core.Path.{_≡_, refl, sym, ap, ap₂, _∙_}
-use mathlib.Core.Bool.{Bool, true, false, _&&_, _||_, and-assoc}
+use mathlib.Core.Bool.{Bool, true, false, _&&_, and-false, or-false}
 use mathlib.Core.List.{List, [], _∷_}
-use Prim.Native.Nat.{ℕ, zero, suc, _+_, _*_, _≤_, _<_}
+use Prim.Native.Nat.{ℕ, zero, suc, _+_, _≤_, _<_}
 use native.Mathlib.Numerals.{add-one}
 use native.Mathlib.Omega.{arith}
 use lib.Dec.{eqb, ltb}
@@ -13,12 +13,9 @@ use Rattle.rules.specs.Octets.{Octets, same, less, begins, allZero}
 
 -- ── a test of two things ──
 
-pub and-true : (p q : Bool) → p && q ≡ true → (p ≡ true) × (q ≡ true)
-and-true true q e = (refl, e)
-and-true false q e = (e, let z : _≡_ {A = Bool} false true = e in absurd (false-true z))
-  where
-    false-true : _≡_ {A = Bool} false true → ⊥
-    false-true z = let n : _≡_ {A = ℕ} 0 1 = cc in omega arith
+pub both-true : (p q : Bool) → p && q ≡ true → (p ≡ true) × (q ≡ true)
+both-true true q e = (refl, e)
+both-true false q e = let n : _≡_ {A = ℕ} 0 1 = cc in absurd (omega arith)
 
 -- ── the same bytes ──
 
@@ -36,7 +33,7 @@ same-eq [] [] e = refl
 same-eq [] (y ∷ ys) e = let n : _≡_ {A = ℕ} 0 1 = cc in absurd (omega arith)
 same-eq (x ∷ xs) [] e = let n : _≡_ {A = ℕ} 0 1 = cc in absurd (omega arith)
 same-eq (x ∷ xs) (y ∷ ys) e =
-    let both = and-true (eqb x y) (same xs ys) e in
+    let both = both-true (eqb x y) (same xs ys) e in
     ap₂ _∷_ (eqb-true x y (both .0)) (same-eq xs ys (both .1))
 
 -- bytes of two lengths are not the same
@@ -45,7 +42,7 @@ unfolding same
 same-length [] [] n = absurd (n refl)
 same-length [] (y ∷ ys) n = refl
 same-length (x ∷ xs) [] n = refl
-same-length (x ∷ xs) (y ∷ ys) n = rw (same-length xs ys (λ e. n (ap suc e))) (mathlib.Core.Bool.and-false (eqb x y))
+same-length (x ∷ xs) (y ∷ ys) n = rw (same-length xs ys (λ e. n (ap suc e))) (and-false (eqb x y))
 
 -- the bytes from i on: those at i, and those after them
 pub same-next : (a b : Octets) (i : ℕ) → i < length a → i < length b →
@@ -63,7 +60,7 @@ pub zero-eq : (s : Octets) → allZero s ≡ true → s ≡ replicate (length s)
 unfolding allZero
 zero-eq [] e = refl
 zero-eq (x ∷ xs) e =
-    let both = and-true (eqb x 0) (allZero xs) e in
+    let both = both-true (eqb x 0) (allZero xs) e in
     ap₂ _∷_ (eqb-true x 0 (both .0)) (zero-eq xs (both .1))
 
 pub zero-replicate : (n : ℕ) → allZero (replicate n 0) ≡ true
@@ -84,7 +81,7 @@ less-next a b i ha hb e = rw (drop-cons a i 0 ha, drop-cons b i 0 hb, add-one, e
 pub less-here : (a b : Octets) (i : ℕ) → i < length a → i < length b → (getD a i 0 ≡ getD b i 0 → ⊥) →
     less (drop i a) (drop i b) ≡ ltb (getD a i 0) (getD b i 0)
 unfolding less
-less-here a b i ha hb n = rw (drop-cons a i 0 ha, drop-cons b i 0 hb, ne-eqb (getD a i 0) (getD b i 0) n, mathlib.Core.Bool.or-false) refl
+less-here a b i ha hb n = rw (drop-cons a i 0 ha, drop-cons b i 0 hb, ne-eqb (getD a i 0) (getD b i 0) n, or-false) refl
 
 -- where the first ends, it is the lesser if the second goes on
 pub less-ended : (a b : Octets) (i : ℕ) → i ≡ length a → i ≤ length b → less (drop i a) (drop i b) ≡ ltb (length a) (length b)
@@ -112,4 +109,4 @@ pub begins-short : (a b : Octets) → length b < length a → begins a b ≡ fal
 unfolding begins
 begins-short [] b h = absurd (omega arith)
 begins-short (x ∷ xs) [] h = refl
-begins-short (x ∷ xs) (y ∷ ys) h = rw (begins-short xs ys (omega arith)) (mathlib.Core.Bool.and-false (eqb x y))
+begins-short (x ∷ xs) (y ∷ ys) h = rw (begins-short xs ys (omega arith)) (and-false (eqb x y))

@@ -1,4 +1,5 @@
 pub mod Compare
 pub mod Paste
+pub mod Decimals
 pub mod PathLaws
 pub mod BelowLaws

@@ -1,0 +1,25 @@
+-- What the answers of this crate mean.
+use mathlib.Core.Bool.{cond}
+use mathlib.Core.Option.{Option, none, some}
+use mathlib.Core.Path.{_≡_}
+use Prim.Native.Nat.{ℕ, _+_, _^_}
+use lib.Dec.{ltb}
+use lib.ListN.{length}
+use Rattle.rules.specs.Octets.{Octets, paste, plainForm, valueFrom}
+use Rattle.octets.specs.declared.Decimal.{Decimal}
+use Rattle.octets.specs.declared.Decimal.the-variants.{Value, Malformed, TooLarge}
+use Rattle.octets.specs.declared.Number.{Number}
+use Rattle.octets.specs.declared.Number.the-variants.{Is, Not}
+
+abbrev pub meant : Number → Option ℕ
+meant (Is n) = some n
+meant Not = none
+
+-- a plain decimal below 2 ^ 64 has its value
+unfoldable pub decimalOf : Octets → Decimal
+decimalOf s = cond (plainForm s) (cond (ltb (valueFrom 0 s) (2 ^ 64)) (Value (valueFrom 0 s)) TooLarge) Malformed
+
+-- ys stand in the buffer from `at` on, and `next` is the place behind them
+pub record Put (at : ℕ) (ys before after : Octets) (next : ℕ) : Type 0 where
+  pub bytes : after ≡ paste at ys before
+  pub behind : next ≡ at + length ys
