@@ -4,3 +4,4 @@ pub mod MachineLaws
 pub mod VerdictLaws
 pub mod PieceLaws
 pub mod RelationLaws
+pub mod FullLaws

@@ -3,3 +3,4 @@ pub mod Machine
 pub mod Form
 pub mod Names
 pub mod Relation
+pub mod Full

@@ -2,5 +2,6 @@
 pub mod answer;
 pub mod classes;
 pub mod form;
+pub mod full;
 pub mod names;
 pub mod relation;

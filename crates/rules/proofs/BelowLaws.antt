@@ -10,7 +10,7 @@ use lib.Dec.{eqb}
 use borrow.Author.Tests.{eqb-true, ne-eqb}
 use Rattle.rules.specs.Octets.{Octets, same, begins}
 use Rattle.rules.specs.Path.{Name, Names, nameByte, allBytes, isName, allNames, slashed, pathText, beyond, isFull, namesIn, isBelow}
-use Rattle.rules.proofs.Compare.{and-true, same-eq, same-refl, same-length, begins-short}
+use Rattle.rules.proofs.Compare.{both-true, same-eq, same-refl, same-length, begins-short}
 use Rattle.rules.proofs.PathLaws.{Full, full, full-root, name-no-slash, name-bytes, no-empty-name, beyond-rest, beyond-append}
 
 -- the second of two paths lies at or below the first
@@ -32,10 +32,10 @@ words : (n p : Name) (x y : Octets) → allBytes n ≡ true → allBytes p ≡ t
     → begins (n ++ 47 ∷ x) (p ++ 47 ∷ y) ≡ (same n p && begins x y)
 unfolding begins same allBytes
 words [] [] x y h k = refl
-words [] (d ∷ p) x y h k = rw (slash-differs d (and-true (nameByte d) (allBytes p) k .0))
-words (c ∷ n) [] x y h k = rw (name-no-slash c (and-true (nameByte c) (allBytes n) h .0))
+words [] (d ∷ p) x y h k = rw (slash-differs d (both-true (nameByte d) (allBytes p) k .0))
+words (c ∷ n) [] x y h k = rw (name-no-slash c (both-true (nameByte c) (allBytes n) h .0))
 words (c ∷ n) (d ∷ p) x y h k =
-    ap (λ (t : Bool). eqb c d && t) (words n p x y (and-true (nameByte c) (allBytes n) h .1) (and-true (nameByte d) (allBytes p) k .1))
+    ap (λ (t : Bool). eqb c d && t) (words n p x y (both-true (nameByte c) (allBytes n) h .1) (both-true (nameByte d) (allBytes p) k .1))
     ∙ sym (and-assoc (eqb c d) (same n p) (begins x y))
 
 -- ── names with a slash after each ──
@@ -59,8 +59,8 @@ unfolding trail begins allNames beyond isAt
 trails [] b h k = refl
 trails (n ∷ a) [] h k = snoc-nil n (trail a)
 trails (n ∷ a) (p ∷ b) h k =
-    let hs = and-true (isName n) (allNames a) h in
-    let ks = and-true (isName p) (allNames b) k in
+    let hs = both-true (isName n) (allNames a) h in
+    let ks = both-true (isName p) (allNames b) k in
     words n p (trail a) (trail b) (name-bytes n (hs .0)) (name-bytes p (ks .0))
     ∙ (ap (λ (t : Bool). same n p && t) (trails a b (hs .1) (ks .1)) ∙ sym (at-cons n p a b (same n p) refl))
 

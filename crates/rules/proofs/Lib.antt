@@ -3,3 +3,4 @@ pub mod Paste
 pub mod Decimals
 pub mod PathLaws
 pub mod BelowLaws
+pub mod Joined

@@ -10,7 +10,7 @@ use lib.Dec.{eqb, leb}
 use borrow.Author.Tests.{eqb-true, eqb-false, eq-eqb, leb-true, le-leb, ne-eqb}
 use Rattle.rules.specs.Size.{longestAbsolute, longestRelative, longestName, deepest, longestPath}
 use Rattle.rules.specs.Octets.{Octets, same, begins}
-use Rattle.rules.proofs.Compare.{and-true, same-eq, same-refl}
+use Rattle.rules.proofs.Compare.{both-true, same-eq, same-refl}
 use Rattle.rules.specs.Path.{Name, Names, nameByte, allBytes, isName, allNames, glued, split, Given, malformed, absolute, relative, special, given, specialOf, introduceName, releaseName, checked, afterSlash, namesIn, isFull, slashed, pathText, shortNames, fits, beyond}
 
 -- ── split ──
@@ -52,8 +52,8 @@ split-joined : (n : Name) (ns : Names) → allBytes n ≡ true → split (slashe
 unfolding allBytes glued
 split-joined [] ns h e = e
 split-joined (c ∷ n) ns h e =
-    split-other c (n ++ slashed ns) (name-no-slash c (and-true (nameByte c) (allBytes n) h .0))
-    ∙ rw (split-joined n ns (and-true (nameByte c) (allBytes n) h .1) e)
+    split-other c (n ++ slashed ns) (name-no-slash c (both-true (nameByte c) (allBytes n) h .0))
+    ∙ rw (split-joined n ns (both-true (nameByte c) (allBytes n) h .1) e)
 
 -- names with a slash before each are those names again
 pub split-slashed : (ns : Names) → allNames ns ≡ true → split (slashed ns) ≡ [] ∷ ns
@@ -61,7 +61,7 @@ unfolding slashed allNames split
 split-slashed [] h = refl
 split-slashed (n ∷ ns) h =
     ap (λ (l : Names). [] ∷ l)
-    (split-joined n ns (name-bytes n (and-true (isName n) (allNames ns) h .0)) (split-slashed ns (and-true (isName n) (allNames ns) h .1)))
+    (split-joined n ns (name-bytes n (both-true (isName n) (allNames ns) h .0)) (split-slashed ns (both-true (isName n) (allNames ns) h .1)))
 
 pub split-names : (n : Name) (ns : Names) → allNames (n ∷ ns) ≡ true → split (n ++ slashed ns) ≡ n ∷ ns
 unfolding split slashed
@@ -94,8 +94,8 @@ full-after (d ∷ ds) ns e =
     let h = given-cond (short && sound) (split (d ∷ ds)) ns e in
     record {
       text = slashed-text 47 (d ∷ ds) ns (sym (slashed-split (d ∷ ds)) ∙ ap slashed (h .1));
-      names = ap allNames (sym (h .1)) ∙ and-true short sound (h .0) .1;
-      short = leb-true (length (47 ∷ d ∷ ds)) longestAbsolute (and-true short sound (h .0) .0);
+      names = ap allNames (sym (h .1)) ∙ both-true short sound (h .0) .1;
+      short = leb-true (length (47 ∷ d ∷ ds)) longestAbsolute (both-true short sound (h .0) .0);
     }
 
 -- the other two forms are no full paths
@@ -204,8 +204,8 @@ slashed-length : (ns : Names) → shortNames ns ≡ true → length (slashed ns)
 unfolding slashed shortNames
 slashed-length [] h = omega arith
 slashed-length (n ∷ ns) h =
-    let l = leb-true (length n) longestName (and-true (leb (length n) longestName) (shortNames ns) h .0) in
-    let m = slashed-length ns (and-true (leb (length n) longestName) (shortNames ns) h .1) in
+    let l = leb-true (length n) longestName (both-true (leb (length n) longestName) (shortNames ns) h .0) in
+    let m = slashed-length ns (both-true (leb (length n) longestName) (shortNames ns) h .1) in
     simp length-append (omega arith)
 
 pub fits-length : (ns : Names) → fits ns ≡ true → length (pathText ns) ≤ longestPath
@@ -213,8 +213,8 @@ unfolding fits pathText
 fits-length [] h = omega arith
 fits-length (n ∷ ns) h =
     let short = shortNames (n ∷ ns) in
-    let d = leb-true (length (n ∷ ns)) deepest (and-true (leb (length (n ∷ ns)) deepest) short h .0) in
-    let l = slashed-length (n ∷ ns) (and-true (leb (length (n ∷ ns)) deepest) short h .1) in
+    let d = leb-true (length (n ∷ ns)) deepest (both-true (leb (length (n ∷ ns)) deepest) short h .0) in
+    let l = slashed-length (n ∷ ns) (both-true (leb (length (n ∷ ns)) deepest) short h .1) in
     omega arith
 
 -- ── above and below ──
