@@ -1,13 +1,12 @@
 -- The text of a full path, put together from its parts.
 use mathlib.Core.Path.{_≡_, refl, ap, sym, _∙_}
-use mathlib.Core.Bool.{Bool, true, false, _&&_}
 use mathlib.Core.List.{List, [], _∷_, _++_, append-assoc, append-nil}
 use Prim.Native.Nat.{ℕ, suc, _+_, _≤_, _<_}
 use native.Mathlib.Omega.{arith}
-use lib.ListN.{length, set, length-append, length-set}
+use lib.ListN.{length, set, length-append}
 use Rattle.rules.specs.Octets.{Octets, text, decimal, paste}
-use Rattle.rules.specs.Path.{Names, base, slashed, pathText}
-use Rattle.rules.proofs.Paste.{length-paste}
+use Rattle.rules.specs.Path.{Names, absolute, relative, given, base, slashed, pathText}
+use Rattle.rules.proofs.RelativeLaws.{relative-text, relative-given}
 use Rattle.rules.proofs.Joined.{paste-behind, set-paste}
 use Rattle.rules.proofs.Decimals.{length-decimal-le}
 use Rattle.octets.specs.Numbers.{Put}
@@ -32,3 +31,16 @@ full-put d s l l₁ l₂ l₃ at h p q k r =
     set-paste l₂ at 47 k
     ∙ rw (a, base-parts d) (paste-behind 0 at (front ++ decimal d) (47 ∷ []) l (omega arith) e) in
     record { bytes = r ∙ rw b (paste-behind 0 (at + 1) (baseText d) s l (omega arith) m); behind = rw length-append (omega arith) }
+
+-- ── what it means ──
+
+base-before : (d : ℕ) (s : Octets) → baseText d ++ s ≡ slashed (base d) ++ 47 ∷ s
+unfolding baseText
+base-before d s = append-assoc (slashed (base d)) (47 ∷ []) s
+
+module _ (d : ℕ) (s : Octets) (ns : Names) (h : given s ≡ relative ns) where
+  pub full-text : baseText d ++ s ≡ pathText (base d ++ ns)
+  full-text = base-before d s ∙ relative-text d s ns h
+
+  pub full-given : given (baseText d ++ s) ≡ absolute (base d ++ ns)
+  full-given = ap given (base-before d s) ∙ relative-given d s ns h

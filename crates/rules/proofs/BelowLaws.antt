@@ -1,16 +1,16 @@
 -- Above and below: the test on two full paths' texts is the one on their names.
 use mathlib.Core.Path.{_≡_, refl, ap, sym, _∙_}
 use mathlib.Core.Bool.{Bool, true, false, cond, _&&_, _||_, and-assoc, and-false, true≢false, false≢true}
-use mathlib.Core.List.{List, [], _∷_, _++_, append-assoc}
+use mathlib.Core.List.{List, [], _∷_, _++_, append-assoc, append-nil}
 use mathlib.Core.Option.{Option, none, some}
 use Prim.Native.Nat.{ℕ, suc, _+_, _-_, _≤_, _<_}
 use native.Mathlib.Omega.{arith}
 use lib.ListN.{length, length-append}
-use lib.Dec.{eqb}
-use borrow.Author.Tests.{eqb-true, ne-eqb}
+use lib.Dec.{eqb, ltb}
+use borrow.Author.Tests.{eqb-true, ne-eqb, lt-ltb}
 use Rattle.rules.specs.Octets.{Octets, same, begins}
 use Rattle.rules.specs.Path.{Name, Names, nameByte, allBytes, isName, allNames, slashed, pathText, beyond, isFull, namesIn, isBelow}
-use Rattle.rules.proofs.Compare.{both-true, same-eq, same-refl, same-length, begins-short}
+use Rattle.rules.proofs.Compare.{both-true, eq-same, same-eq, same-refl, same-length, begins-short}
 use Rattle.rules.proofs.PathLaws.{Full, full, full-root, name-no-slash, name-bytes, no-empty-name, beyond-rest, beyond-append}
 
 -- the second of two paths lies at or below the first
@@ -130,3 +130,51 @@ not-by a b (some rest) e h = absurd (true≢false (rw (e, isAt) at h))
 
 pub not-at : (a b : Names) → isAt a b ≡ false → beyond a b ≡ none
 not-at a b h = not-by a b (beyond a b) refl h
+
+-- ── below, and not the same ──
+
+unfoldable pub hasNames : Names → Bool
+hasNames [] = false
+hasNames (n ∷ ns) = true
+
+-- the second path lies below the first
+unfoldable pub isUnder : Names → Names → Bool
+isUnder a b = elim (beyond a b) [ none ↦ false | some rest ↦ hasNames rest ]
+
+under-root : (s : Octets) (ns : Names) → Full s ns → (begins (47 ∷ []) s && ltb 1 (length s)) ≡ hasNames ns
+unfolding begins hasNames pathText slashed
+under-root s [] f = rw (f .text)
+under-root s ([] ∷ ns) f = absurd (no-empty-name ns (f .names))
+under-root s ((c ∷ n) ∷ ns) f = rw (f .text) (lt-ltb 1 (length (pathText ((c ∷ n) ∷ ns))) (omega arith))
+
+under-self : (a : Names) → isUnder a a ≡ false
+unfolding isUnder hasNames
+under-self a = rw (rw append-nil at (beyond-append a []), isUnder)
+
+under-by : (a b : Names) (r : Option Names) → beyond a b ≡ r → (a ≡ b → ⊥) → isAt a b ≡ isUnder a b
+unfolding isAt isUnder hasNames
+under-by a b none e h = rw (e, isAt, isUnder)
+under-by a b (some []) e h = absurd (h (sym (beyond-rest a b [] e ∙ append-nil a)))
+under-by a b (some (n ∷ ns)) e h = rw (e, isAt, isUnder)
+
+module _ (a s : Octets) (f : isFull a ≡ true) (g : isFull s ≡ true) where
+  differ : same a s ≡ false → namesIn a ≡ namesIn s → ⊥
+  differ h e = false≢true (sym h ∙ eq-same (full a f .text ∙ (ap pathText e ∙ sym (full s g .text))))
+
+  under-other : (t : Bool) → same a s ≡ t → same a (47 ∷ []) ≡ false → begins (a ++ 47 ∷ []) s ≡ isUnder (namesIn a) (namesIn s)
+  under-other true e h =
+      let q = same-eq a s e in
+      rw (← q) (begins-short (a ++ 47 ∷ []) a (rw length-append (omega arith)) ∙ sym (under-self (namesIn a)))
+  under-other false e h =
+      (rw e at (other-at a s f g h)) ∙ under-by (namesIn a) (namesIn s) (beyond (namesIn a) (namesIn s)) refl (differ e)
+
+  below-by : (t : Bool) → same a (47 ∷ []) ≡ t → isBelow a s ≡ isUnder (namesIn a) (namesIn s)
+  unfolding isBelow isUnder beyond
+  below-by true h =
+      let q = same-eq a (47 ∷ []) h in
+      rw (h, full-root a f (ap length q), q, isUnder) (under-root s (namesIn s) (full s g))
+  below-by false h = rw h (under-other (same a s) refl h)
+
+  -- the test on texts is that on names
+  pub below-names : isBelow a s ≡ isUnder (namesIn a) (namesIn s)
+  below-names = below-by (same a (47 ∷ [])) refl

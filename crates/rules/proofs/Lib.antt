@@ -4,3 +4,4 @@ pub mod Decimals
 pub mod PathLaws
 pub mod BelowLaws
 pub mod Joined
+pub mod RelativeLaws
