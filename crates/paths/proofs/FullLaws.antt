@@ -1,14 +1,13 @@
 -- The text of a full path, put together from its parts.
-use mathlib.Core.Path.{_≡_, refl, ap, sym, _∙_}
-use mathlib.Core.List.{List, [], _∷_, _++_, append-assoc, append-nil}
-use Prim.Native.Nat.{ℕ, suc, _+_, _≤_, _<_}
+use mathlib.Core.Path.{_≡_, refl, ap, _∙_}
+use mathlib.Core.List.{[], _∷_, _++_, append-assoc, append-nil}
+use Prim.Native.Nat.{ℕ, _+_, _≤_, _<_}
 use native.Mathlib.Omega.{arith}
 use lib.ListN.{length, set, length-append}
 use Rattle.rules.specs.Octets.{Octets, text, decimal, paste}
 use Rattle.rules.specs.Path.{Names, absolute, relative, given, base, slashed, pathText}
 use Rattle.rules.proofs.RelativeLaws.{relative-text, relative-given}
 use Rattle.rules.proofs.Joined.{paste-behind, set-paste}
-use Rattle.rules.proofs.Decimals.{length-decimal-le}
 use Rattle.octets.specs.Numbers.{Put}
 use Rattle.paths.specs.Full.{baseText}
 

@@ -1,7 +1,7 @@
 -- The machine reads each text as the rule book does.
 use mathlib.Core.Path.{_≡_, refl, ap, sym, _∙_}
-use mathlib.Core.Bool.{Bool, true, false, cond, _&&_, _||_, and-true, and-assoc, true≢false, false≢true}
-use mathlib.Core.List.{List, [], _∷_}
+use mathlib.Core.Bool.{Bool, true, false, cond, _&&_, _||_, and-true, and-assoc}
+use mathlib.Core.List.{[], _∷_}
 use Prim.Native.Nat.{ℕ, _+_, _<_, _≤_}
 use native.Mathlib.Numerals.{add-one}
 use native.Mathlib.Omega.{arith}
@@ -12,7 +12,7 @@ use borrow.Author.Tests.{eqb-true}
 use Rattle.rules.specs.Size.{longestAbsolute, longestRelative}
 use Rattle.rules.specs.Octets.{Octets, same, isDigit}
 use Rattle.rules.specs.Path.{Names, nameByte, allBytes, isName, allNames, glued, split, Given, malformed, absolute, relative, special, given, afterSlash, checked, specialOf, introduceName, releaseName}
-use Rattle.rules.proofs.PathLaws.{split-slash, split-other, name-no-slash}
+use Rattle.rules.proofs.PathLaws.{split-slash, split-other}
 use Rattle.paths.specs.Classes.{classOf, isLetter}
 use Rattle.paths.specs.Machine.{ofName, inName, atName, stepOf, run}
 use Rattle.paths.specs.Form.{formOf, verdictOf, isEvent}

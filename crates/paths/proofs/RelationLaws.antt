@@ -1,15 +1,14 @@
 -- What tests on two texts say of how the paths lie.
-use mathlib.Core.Path.{_≡_, refl, ap, sym, _∙_}
-use mathlib.Core.Bool.{Bool, true, false, cond, _&&_, _||_, and-assoc, and-true, and-false, or-true}
-use mathlib.Core.List.{List, [], _∷_, _++_, append-nil}
-use mathlib.Core.Option.{Option, none, some}
-use Prim.Native.Nat.{ℕ, suc, _+_, _-_, _≤_, _<_}
+use mathlib.Core.Path.{_≡_, ap, sym, _∙_}
+use mathlib.Core.Bool.{true, false, _&&_, and-assoc, and-true, and-false, or-true}
+use mathlib.Core.List.{[], _∷_, _++_, append-nil}
+use Prim.Native.Nat.{ℕ, _+_, _-_, _≤_, _<_}
 use native.Mathlib.Omega.{arith}
-use lib.Dec.{eqb, ltb}
+use lib.Dec.{eqb}
 use lib.ListN.{length, getD, length-append}
 use borrow.Author.Tests.{eq-eqb, ne-eqb, le-ltb, lt-ltb}
 use Rattle.rules.specs.Octets.{Octets, same, begins}
-use Rattle.rules.specs.Path.{Names, beyond, isBelow, isFull, namesIn}
+use Rattle.rules.specs.Path.{beyond, isBelow, isFull, namesIn}
 use Rattle.rules.proofs.Compare.{same-eq, begins-short}
 use Rattle.rules.proofs.PathLaws.{full-root, beyond-append}
 use Rattle.rules.proofs.BelowLaws.{isAt, other-at, Beneath, at-beneath, not-at}

@@ -2,7 +2,7 @@
 -- 0 nothing read, 1 the root's slash, 2 in a name of an absolute path, 3 after a slash in one,
 -- 4 in a name of a relative path, 5 after a slash in one, 6 after an `@` in front, 7 malformed.
 use mathlib.Core.Bool.{Bool, cond, _||_}
-use mathlib.Core.List.{List, [], _∷_}
+use mathlib.Core.List.{[], _∷_}
 use Prim.Native.Nat.{ℕ}
 use lib.Dec.{eqb}
 use Rattle.rules.specs.Octets.{Octets}

@@ -1,5 +1,5 @@
 -- Where the names of a path's text end.
-use mathlib.Core.List.{List, [], _∷_}
+use mathlib.Core.List.{[], _∷_}
 use Prim.Native.Nat.{ℕ, _+_}
 use lib.ListN.{length, drop}
 use Rattle.rules.specs.Octets.{Octets}

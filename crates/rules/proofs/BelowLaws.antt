@@ -1,13 +1,13 @@
 -- Above and below: the test on two full paths' texts is the one on their names.
 use mathlib.Core.Path.{_≡_, refl, ap, sym, _∙_}
-use mathlib.Core.Bool.{Bool, true, false, cond, _&&_, _||_, and-assoc, and-false, true≢false, false≢true}
-use mathlib.Core.List.{List, [], _∷_, _++_, append-assoc, append-nil}
+use mathlib.Core.Bool.{Bool, true, false, _&&_, _||_, and-assoc, and-false, true≢false, false≢true}
+use mathlib.Core.List.{[], _∷_, _++_, append-assoc, append-nil}
 use mathlib.Core.Option.{Option, none, some}
-use Prim.Native.Nat.{ℕ, suc, _+_, _-_, _≤_, _<_}
+use Prim.Native.Nat.{ℕ, _<_}
 use native.Mathlib.Omega.{arith}
 use lib.ListN.{length, length-append}
 use lib.Dec.{eqb, ltb}
-use borrow.Author.Tests.{eqb-true, ne-eqb, lt-ltb}
+use borrow.Author.Tests.{ne-eqb, lt-ltb}
 use Rattle.rules.specs.Octets.{Octets, same, begins}
 use Rattle.rules.specs.Path.{Name, Names, nameByte, allBytes, isName, allNames, slashed, pathText, beyond, isFull, namesIn, isBelow}
 use Rattle.rules.proofs.Compare.{both-true, eq-same, same-eq, same-refl, same-length, begins-short}

@@ -1,17 +1,17 @@
 -- Paths: a text and its names determine each other.
 use mathlib.Core.Path.{_≡_, refl, ap, sym, subst, _∙_}
-use mathlib.Core.Bool.{Bool, true, false, cond, _&&_, _||_, true≢false, false≢true}
-use mathlib.Core.List.{List, [], _∷_, _++_, append-assoc}
-use mathlib.Core.Option.{Option, none, some}
-use Prim.Native.Nat.{ℕ, zero, suc, _+_, _*_, _≤_, _<_}
+use mathlib.Core.Bool.{Bool, true, false, cond, _&&_, _||_, false≢true}
+use mathlib.Core.List.{[], _∷_, _++_}
+use mathlib.Core.Option.{none, some}
+use Prim.Native.Nat.{ℕ, _+_, _*_, _≤_}
 use native.Mathlib.Omega.{arith}
 use lib.ListN.{length, drop, length-append}
 use lib.Dec.{eqb, leb}
-use borrow.Author.Tests.{eqb-true, eqb-false, eq-eqb, leb-true, le-leb, ne-eqb}
+use borrow.Author.Tests.{eqb-true, leb-true, le-leb, ne-eqb}
 use Rattle.rules.specs.Size.{longestAbsolute, longestRelative, longestName, deepest, longestPath}
-use Rattle.rules.specs.Octets.{Octets, same, begins}
-use Rattle.rules.proofs.Compare.{both-true, same-eq, same-refl}
+use Rattle.rules.specs.Octets.{Octets, same}
 use Rattle.rules.specs.Path.{Name, Names, nameByte, allBytes, isName, allNames, glued, split, Given, malformed, absolute, relative, special, given, specialOf, introduceName, releaseName, checked, afterSlash, namesIn, isFull, slashed, pathText, shortNames, fits, beyond}
+use Rattle.rules.proofs.Compare.{both-true, same-eq, same-refl}
 
 -- ── split ──
 

@@ -1,15 +1,15 @@
 -- Relative paths: the full path that one means.
 use mathlib.Core.Path.{_≡_, refl, ap, sym, _∙_}
-use mathlib.Core.Bool.{Bool, true, false, cond, _&&_, _||_, and-assoc, or-true, true≢false, false≢true}
-use mathlib.Core.List.{List, [], _∷_, _++_, append-assoc, append-nil}
-use Prim.Native.Nat.{ℕ, suc, _+_, _≤_, _<_}
+use mathlib.Core.Bool.{Bool, true, false, cond, _&&_, _||_, and-assoc, or-true}
+use mathlib.Core.List.{[], _∷_, _++_, append-assoc, append-nil}
+use Prim.Native.Nat.{ℕ, _≤_}
 use native.Mathlib.Omega.{arith}
 use lib.ListN.{length, length-append}
 use lib.Dec.{eqb, leb}
 use borrow.Author.Tests.{leb-true}
 use Rattle.rules.specs.Size.{longestAbsolute, longestRelative}
 use Rattle.rules.specs.Octets.{Octets, text, same, decimal, isDigit, allDigits}
-use Rattle.rules.specs.Path.{Domain, Name, Names, nameByte, allBytes, isName, allNames, split, Given, malformed, absolute, relative, special, given, specialOf, introduceName, releaseName, checked, afterSlash, base, slashed, pathText}
+use Rattle.rules.specs.Path.{Domain, Names, nameByte, allBytes, isName, allNames, split, malformed, absolute, relative, special, given, specialOf, introduceName, releaseName, checked, afterSlash, base, slashed, pathText}
 use Rattle.rules.proofs.Compare.{both-true}
 use Rattle.rules.proofs.Decimals.{decimal-digits, length-decimal-le, length-decimal-pos}
 use Rattle.rules.proofs.PathLaws.{slashed-split, text-given}

@@ -1,9 +1,9 @@
-use native.Mathlib.Omega.{arith}
-use Rattle.paths.proofs.ClassLaws.{class-small}
 use mathlib.Core.Path.{_≡_}
 use Prim.Native.Nat.{_≤_, _<_, _-_}
-use borrow.Author.Needs.{needs}
+use native.Mathlib.Omega.{arith}
 use lib.ListN.{length}
+use borrow.Author.Needs.{needs}
+use Rattle.paths.proofs.ClassLaws.{class-small}
 use Rattle.sheet.proofs.grid_row.Statement.{statement}
 use Rattle.sheet.proofs.grid_row.Tie as tie
 

@@ -1,9 +1,9 @@
-use native.Mathlib.Omega.{arith}
-use Rattle.paths.proofs.MachineLaws.{step-small}
 use mathlib.Core.Path.{_≡_}
 use Prim.Native.Nat.{_≤_, _<_, _-_}
-use borrow.Author.Needs.{needs}
+use native.Mathlib.Omega.{arith}
 use lib.ListN.{length}
+use borrow.Author.Needs.{needs}
+use Rattle.paths.proofs.MachineLaws.{step-small}
 use Rattle.sheet.proofs.step_row.Statement.{statement}
 use Rattle.sheet.proofs.step_row.Tie as tie
 

@@ -1,10 +1,10 @@
 -- The table's rule is a test at each of its 256 entries, which antt computes.
 use mathlib.Core.Bool.{Bool}
-use mathlib.Core.List.{List, [], _∷_, _++_}
+use mathlib.Core.List.{List, _∷_, _++_}
 use Prim.Native.Nat.{ℕ}
-use borrow.Author.Needs.{needs}
 use lib.Dec.{eqb, eqb→eq}
 use lib.ListN.{getD, replicate}
+use borrow.Author.Needs.{needs}
 use Rattle.rules.specs.Octets.{isDigit}
 use Rattle.paths.specs.Classes.{classOf, isLetter}
 use Rattle.paths.proofs.Table.{at}

@@ -1,10 +1,10 @@
 -- The state so far and what is left of the text decide.
-use Rattle.paths.proofs.MachineLaws.{verdict-right, step-small, run-next}
 use mathlib.Core.Path.{_≡_, refl, ap, _∙_}
 use Prim.Native.Nat.{_<_, _≤_, _-_}
-use lib.ListN.{length, drop}
 use native.Mathlib.Omega.{arith}
+use lib.ListN.{length, drop}
 use Rattle.paths.specs.Machine.{run, stepOf}
+use Rattle.paths.proofs.MachineLaws.{verdict-right, step-small, run-next}
 use Rattle.paths.proofs.ClassLaws.{class-small}
 use Rattle.paths.proofs.form.form.Statement.{statement}
 use Rattle.paths.proofs.form.form.Tie as tie

@@ -1,8 +1,8 @@
 use mathlib.Core.Path.{sym, _∙_}
+use borrow.Author.Needs.{needs}
 use Rattle.rules.specs.Octets.{text}
 use Rattle.rules.specs.Path.{introduceName, releaseName}
 use Rattle.paths.proofs.VerdictLaws.{event-first, event-second}
-use borrow.Author.Needs.{needs}
 use Rattle.paths.proofs.form.is_event.Statement.{statement}
 use Rattle.paths.proofs.form.is_event.Tie as tie
 

@@ -4,9 +4,9 @@ use mathlib.Core.Bool.{Bool}
 use mathlib.Core.List.{List, [], _∷_}
 use Prim.Native.Nat.{ℕ, _<_}
 use native.Mathlib.Omega.{arith}
-use borrow.Author.Needs.{needs}
 use lib.Dec.{T, eqb, eqb→eq}
 use lib.ListN.{length, getD}
+use borrow.Author.Needs.{needs}
 use Rattle.paths.specs.Machine.{stepOf, inName, atName, ofName}
 use Rattle.paths.proofs.Table.{at, both, both-left, both-right, every}
 use Rattle.paths.proofs.form.step.Statement.{statement}

@@ -3,10 +3,10 @@ use mathlib.Core.Path.{_∙_}
 use Prim.Native.Nat.{_≤_}
 use native.Mathlib.Omega.{arith}
 use lib.ListN.{length-set}
+use borrow.Author.Needs.{needs}
 use Rattle.rules.specs.Octets.{text}
 use Rattle.rules.proofs.Decimals.{length-decimal-le}
 use Rattle.paths.proofs.FullLaws.{front, full-put}
-use borrow.Author.Needs.{needs}
 use Rattle.paths.proofs.full.full.Statement.{statement}
 use Rattle.paths.proofs.full.full.Tie as tie
 

@@ -1,6 +1,6 @@
 use mathlib.Core.Path.{_∙_}
-use Rattle.paths.proofs.PieceLaws.{fits-deep, fits-short}
 use borrow.Author.Needs.{needs}
+use Rattle.paths.proofs.PieceLaws.{fits-deep, fits-short}
 use Rattle.paths.proofs.names.fits.Statement.{statement}
 use Rattle.paths.proofs.names.fits.Tie as tie
 

@@ -1,12 +1,10 @@
 -- The names passed are short, so those to come decide.
-use Rattle.paths.proofs.PieceLaws.{end-low, end-high, short-long, short-further, short-full, short-over}
-use mathlib.Core.Path.{_≡_, refl, ap, sym, _∙_}
+use mathlib.Core.Path.{_≡_, sym, _∙_}
 use Prim.Native.Nat.{_+_, _≤_, _-_}
 use native.Mathlib.Omega.{arith}
 use lib.ListN.{length, drop}
-use borrow.Author.Tests.{le-leb, lt-leb}
 use Rattle.rules.specs.Path.{namesIn, shortNames, split}
-use Rattle.paths.specs.Names.{nameEnd}
+use Rattle.paths.proofs.PieceLaws.{end-low, end-high, short-long, short-further, short-full, short-over}
 use Rattle.paths.proofs.names.short_names.Statement.{statement}
 use Rattle.paths.proofs.names.short_names.Tie as tie
 

@@ -1,10 +1,10 @@
 use mathlib.Core.Path.{_≡_, sym, _∙_}
 use Prim.Native.Nat.{_≤_, _-_}
+use borrow.Author.Needs.{needs}
 use Rattle.rules.specs.Path.{beyond, namesIn}
 use Rattle.paths.specs.Relation.{levelsOf}
 use Rattle.paths.specs.declared.answer.Beyond.the-variants.{Levels}
 use Rattle.paths.proofs.RelationLaws.{levels-root, levels-same, levels-reach, levels-not}
-use borrow.Author.Needs.{needs}
 use Rattle.paths.proofs.relation.beyond.Statement.{statement}
 use Rattle.paths.proofs.relation.beyond.Tie as tie
 

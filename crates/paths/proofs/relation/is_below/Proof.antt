@@ -1,6 +1,6 @@
 use mathlib.Core.Path.{sym, _∙_}
-use Rattle.paths.proofs.RelationLaws.{below-short, below-root, below-other}
 use borrow.Author.Needs.{needs}
+use Rattle.paths.proofs.RelationLaws.{below-short, below-root, below-other}
 use Rattle.paths.proofs.relation.is_below.Statement.{statement}
 use Rattle.paths.proofs.relation.is_below.Tie as tie
 

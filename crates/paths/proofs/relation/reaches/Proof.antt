@@ -1,6 +1,6 @@
 use mathlib.Core.Path.{_∙_}
-use Rattle.paths.proofs.RelationLaws.{reach-short, reach-other, reach-slash}
 use borrow.Author.Needs.{needs}
+use Rattle.paths.proofs.RelationLaws.{reach-short, reach-other, reach-slash}
 use Rattle.paths.proofs.relation.reaches.Statement.{statement}
 use Rattle.paths.proofs.relation.reaches.Tie as tie
 
