@@ -1,21 +1,21 @@
 -- What a decimal's answer says of numbers within a range, and of signed ones.
 use mathlib.Core.Path.{_≡_, refl, sym, ap, _∙_}
-use mathlib.Core.Bool.{Bool, true, false, cond, _&&_, and-false}
+use mathlib.Core.Bool.{Bool, true, false, cond, and-false}
 use mathlib.Core.List.{[], _∷_}
 use mathlib.Core.Option.{Option, none, some}
-use Prim.Native.Nat.{ℕ, suc, _+_, _-_, _^_, _≤_, _<_}
+use Prim.Native.Nat.{ℕ, suc, _-_, _^_, _≤_, _<_}
 use native.Mathlib.Omega.{arith}
-use lib.Dec.{leb, ltb}
+use lib.Dec.{ltb}
 use lib.ListN.{length, getD, take, drop}
 use lib.Seq.{take-all}
-use borrow.Author.Tests.{ltb-true, ltb-false, leb-true, lt-ltb, le-ltb, le-leb, lt-leb, eq-eqb, ne-eqb}
+use borrow.Author.Tests.{ltb-false, lt-ltb, le-ltb, le-leb, lt-leb, eq-eqb, ne-eqb}
 use Rattle.rules.specs.Octets.{Octets, plainForm, valueFrom, number, numberIn, signed}
-use Rattle.rules.proofs.Compare.{both-true}
-use Rattle.octets.specs.Numbers.{meant, decimalOf}
+use Rattle.rules.proofs.Decimals.{ranged, range-bounds}
+use Rattle.octets.specs.Numbers.{meant, decimalOf, within}
 use Rattle.octets.specs.declared.Decimal.{Decimal}
+use Rattle.octets.specs.declared.Decimal.the-variants.{Value, Malformed, TooLarge}
 use Rattle.octets.specs.declared.Number.{Number}
 use Rattle.octets.specs.declared.Number.the-variants.{Is}
-use Rattle.octets.specs.declared.Decimal.the-variants.{Value, Malformed, TooLarge}
 
 -- ── a decimal's answer ──
 
@@ -33,9 +33,6 @@ valued s n e v h = rw (e, ← v, lt-ltb n (2 ^ 64) h) refl
 
 -- ── within a range ──
 
-abbrev pub within : ℕ → ℕ → ℕ → Option ℕ
-within low high n = cond (leb low n && leb n high) (some n) none
-
 abbrev pub inRange : ℕ → ℕ → Decimal → Option ℕ
 inRange low high (Value n) = within low high n
 inRange low high Malformed = none
@@ -50,13 +47,9 @@ above low high n h = rw (lt-leb n high h, and-false) refl
 pub inside : (low high n : ℕ) → low ≤ n → n ≤ high → some n ≡ within low high n
 inside low high n h k = rw (le-leb low n h, le-leb n high k) refl
 
--- the same of what a decimal says
-ranged : ℕ → ℕ → Option ℕ → Option ℕ
-ranged low high o = elim o [ none ↦ none | some n ↦ cond (leb low n && leb n high) (some n) none ]
-
 -- a number within 64 bits is told by the decimal's answer
 pub in-range : (low high : ℕ) (s : Octets) → high < 2 ^ 64 → numberIn low high s ≡ inRange low high (decimalOf s)
-unfolding numberIn number decimalOf ranged
+unfolding numberIn number decimalOf
 in-range low high s h = by (plainForm s)
   where
     valued-by : (t : Bool) → ltb (valueFrom 0 s) (2 ^ 64) ≡ t →
@@ -72,22 +65,6 @@ in-range low high s h = by (plainForm s)
 
 pub told : (low high : ℕ) (s : Octets) (d e : Decimal) → high < 2 ^ 64 → d ≡ decimalOf s → d ≡ e → numberIn low high s ≡ inRange low high e
 told low high s d e h p q = in-range low high s h ∙ ap (inRange low high) (sym p ∙ q)
-
--- what is found in a range lies in it
-pub range-bounds : (low high : ℕ) (s : Octets) (n : ℕ) → numberIn low high s ≡ some n → (low ≤ n) × (n ≤ high)
-unfolding numberIn ranged
-range-bounds low high s n e = by (number s) e
-  where
-    bounds : (m : ℕ) (t : Bool) → leb low m && leb m high ≡ t → cond t (some m) none ≡ some n → (low ≤ n) × (n ≤ high)
-    bounds m true t e =
-        let same : m ≡ n = cc in
-        let both = both-true (leb low m) (leb m high) t in
-        rw (← same) (leb-true low m (both .0), leb-true m high (both .1))
-    bounds m false t e = let z : _≡_ {A = ℕ} 0 1 = cc in absurd (omega arith)
-
-    by : (o : Option ℕ) → ranged low high o ≡ some n → (low ≤ n) × (n ≤ high)
-    by none e = let z : _≡_ {A = ℕ} 0 1 = cc in absurd (omega arith)
-    by (some m) e = bounds m (leb low m && leb m high) refl e
 
 -- ── signed ──
 

@@ -1,9 +1,9 @@
 -- What the answers of this crate mean.
-use mathlib.Core.Bool.{cond}
+use mathlib.Core.Bool.{cond, _&&_}
 use mathlib.Core.Option.{Option, none, some}
 use mathlib.Core.Path.{_≡_}
 use Prim.Native.Nat.{ℕ, _+_, _^_}
-use lib.Dec.{ltb}
+use lib.Dec.{leb, ltb}
 use lib.ListN.{length}
 use Rattle.rules.specs.Octets.{Octets, paste, plainForm, valueFrom}
 use Rattle.octets.specs.declared.Decimal.{Decimal}
@@ -14,6 +14,10 @@ use Rattle.octets.specs.declared.Number.the-variants.{Is, Not}
 abbrev pub meant : Number → Option ℕ
 meant (Is n) = some n
 meant Not = none
+
+-- n, if it is from low to high
+abbrev pub within : ℕ → ℕ → ℕ → Option ℕ
+within low high n = cond (leb low n && leb n high) (some n) none
 
 -- a plain decimal below 2 ^ 64 has its value
 unfoldable pub decimalOf : Octets → Decimal

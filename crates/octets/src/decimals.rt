@@ -1,15 +1,14 @@
 // Decimals read: plain ones, those within a range, and signed ones.
 use crate::Decimal;
 use crate::Number;
-ghost use mathlib.Core.Bool.{true, cond, _&&_};
-ghost use mathlib.Core.Option.{none, some};
+ghost use mathlib.Core.Bool.{true};
 ghost use mathlib.Core.Path.{_≡_};
 ghost use Prim.Native.Nat.{_≤_};
-ghost use lib.Dec.{leb};
 ghost use lib.ListN.{length};
 ghost use Rattle.rules.specs.Octets.{allDigits, plainForm, valueFrom, numberIn, signed};
-ghost use Rattle.octets.specs.Numbers.{meant, decimalOf};
+ghost use Rattle.octets.specs.Numbers.{meant, decimalOf, within};
 
+// Whether every byte of s is a digit.
 pub fn all_digits(s: &[u8]) -> bool
     ensures { λ r. ⌜ r ≡ allDigits (now (s .entry)) ⌝ }
 {
@@ -57,7 +56,7 @@ fn value(s: &[u8]) -> u64
     n
 }
 
-// The value of a decimal of any length. With more than 20 digits it is not computed, and the 20th is tested before it is added.
+// The value of a decimal of any length. One of more than 20 digits is too large, so only the last of 20 can take it past 64 bits.
 pub fn decimal(s: &[u8]) -> Decimal
     ensures { λ r. ⌜ r ≡ decimalOf (now (s .entry)) ⌝ }
 {
@@ -80,7 +79,7 @@ pub fn decimal(s: &[u8]) -> Decimal
 
 // n, if it is from low to high.
 fn within(n: u64, low: u64, high: u64) -> Number
-    ensures { λ r. ⌜ meant r ≡ cond (leb low n && leb n high) (some n) none ⌝ }
+    ensures { λ r. ⌜ meant r ≡ within low high n ⌝ }
 {
     if n < low {
         return Number::Not;

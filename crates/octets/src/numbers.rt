@@ -4,7 +4,7 @@ ghost use Prim.Native.Nat.{_+_, _≤_};
 ghost use lib.ListN.{length};
 ghost use Rattle.rules.specs.Octets.{paste, littleEndian, fourBytes};
 
-// The number that stands at and on.
+// The number in the four bytes from `at` on.
 pub fn number32(s: &[u8], at: usize) -> u32
     requires { ⌜ at + 4 ≤ length (now s) ⌝ }
     ensures { λ r. ⌜ r ≡ littleEndian (now (s .entry)) at ⌝ }
@@ -16,7 +16,7 @@ pub fn number32(s: &[u8], at: usize) -> u32
     a + 256 * (b + 256 * (c + 256 * d))
 }
 
-// Puts n into the buffer, at and on.
+// Puts n into the four bytes from `at` on.
 pub fn put_number32(into: &mut [u8], at: usize, n: u32)
     requires { ⌜ at + 4 ≤ length (now into) ⌝ }
     ensures { λ _. ⌜ now (into .exit) ≡ paste at (fourBytes n) (now (into .entry)) ⌝ }

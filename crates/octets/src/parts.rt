@@ -4,7 +4,7 @@ ghost use Prim.Native.Nat.{_+_, _≤_};
 ghost use lib.ListN.{length, replicate};
 ghost use Rattle.rules.specs.Octets.{paste};
 
-// Puts from into the buffer, at and on.
+// Puts the bytes of `from` into the buffer, from `at` on.
 pub fn copy(into: &mut [u8], at: usize, from: &[u8])
     requires { ⌜ at + length (now from) ≤ length (now into) ⌝ }
     ensures { λ _. ⌜ now (into .exit) ≡ paste at (now (from .entry)) (now (into .entry)) ⌝ }
@@ -16,7 +16,7 @@ pub fn copy(into: &mut [u8], at: usize, from: &[u8])
     }
 }
 
-// Puts n zeros into the buffer, at and on.
+// Puts n zeros into the buffer, from `at` on.
 pub fn clear(into: &mut [u8], at: usize, n: usize)
     requires { ⌜ at + n ≤ length (now into) ⌝ }
     ensures { λ _. ⌜ now (into .exit) ≡ paste at (replicate n 0) (now (into .entry)) ⌝ }

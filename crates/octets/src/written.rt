@@ -18,7 +18,7 @@ pub fn digits(n: u64) -> usize
     count
 }
 
-// Puts n in decimal into the buffer, at and on, and returns the place behind it. The digits are written from the last one back.
+// Puts n in decimal into the buffer, from `at` on, and returns the place behind it.
 pub fn put_decimal(into: &mut [u8], at: usize, n: u64) -> usize
     requires { ⌜ at + 20 ≤ length (now into) ⌝ }
     ensures { λ r. ⌜ Put at (decimal n) (now (into .entry)) (now (into .exit)) r ⌝ }

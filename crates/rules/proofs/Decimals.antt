@@ -1,17 +1,18 @@
 -- Laws of decimals: what is written, what is plain, and the values of digits.
 use mathlib.Core.Path.{_≡_, refl, sym, ap, ap₂, _∙_}
 use mathlib.Core.Bool.{Bool, true, false, cond, not, _&&_, and-assoc, and-true, and-false}
-use mathlib.Core.List.{List, [], _∷_, _++_, append-nil}
+use mathlib.Core.List.{[], _∷_, _++_, append-nil}
+use mathlib.Core.Option.{Option, none, some}
 use Prim.Native.Nat.{ℕ, zero, suc, _+_, _*_, _-_, _/_, _%_, _^_, _≤_, _<_}
-use native.Mathlib.Nat.{pow-suc, pow-le-pow-right, mul-le-mul-right, mul-le-mul, mul-assoc, mul-comm, le-trans}
+use native.Mathlib.Nat.{pow-suc, pow-le-pow-right, mul-le-mul-right, mul-assoc, mul-comm, le-trans}
 use native.Mathlib.Numerals.{add-one}
 use native.Mathlib.Omega.{arith}
 use lib.Arith.{lt-of-le-ne}
 use lib.Dec.{eqb, ltb, leb, lit<, lit≤}
 use lib.ListN.{length, getD, take, drop, length-append}
 use lib.Seq.{drop-cons, append-snoc, take-suc, take-all, drop-at}
-use borrow.Author.Tests.{ltb-true, ltb-false, leb-true, leb-false, eqb-true, eqb-false, eq-eqb, ne-eqb, lt-ltb, le-ltb, le-leb, lt-leb, not-true}
-use Rattle.rules.specs.Octets.{Octets, digitsBefore, decimal, isDigit, allDigits, valueFrom, plainForm}
+use borrow.Author.Tests.{ltb-true, ltb-false, leb-true, eqb-false, eq-eqb, ne-eqb, lt-ltb, le-ltb, le-leb, lt-leb, not-true}
+use Rattle.rules.specs.Octets.{Octets, digitsBefore, decimal, isDigit, allDigits, valueFrom, plainForm, number, numberIn}
 use Rattle.rules.proofs.Compare.{both-true}
 
 -- ── digits ──
@@ -115,6 +116,22 @@ length-decimal-le n = omega (arith, length-decimal n, count-le 20 n)
 pub length-decimal-pos : (n : ℕ) → 1 ≤ length (decimal n)
 length-decimal-pos n = split n (λ h. omega (arith, length-decimal n, count-one 19 n h)) (λ h. omega (arith, length-decimal n, count-more 19 n h))
 
+pub count-lt : (j k n : ℕ) → n < 10 ^ suc k → digitCount j n ≤ suc k
+unfolding digitCount
+count-lt zero k n h = omega arith
+count-lt (suc j) zero n h = omega (arith, count-one j n (omega arith))
+count-lt (suc j) (suc k) n h =
+    split n
+    (λ (few : n < 10). omega (arith, count-one j n few))
+    (λ (more : 10 ≤ n).
+    let rest = count-lt j k (n / 10) (omega (arith, rw (pow-suc 10 (suc k)) at h)) in
+    omega (arith, count-more j n more))
+
+-- a number below 10 ^ k has at most k digits
+pub length-decimal-lt : (k n : ℕ) → 1 ≤ k → n < 10 ^ k → length (decimal n) ≤ k
+length-decimal-lt zero n p h = absurd (omega arith)
+length-decimal-lt (suc k) n p h = omega (arith, length-decimal n, count-lt 20 k n h)
+
 pub last-digits : (k n : ℕ) → allDigits (lastDigits k n) ≡ true
 unfolding lastDigits allDigits
 last-digits zero n = refl
@@ -214,3 +231,25 @@ plain-long (c ∷ d ∷ cs) e h =
     let long : 10 ^ 20 ≤ p = pow-le-pow-right (lit< tt) {i = 20} {j = suc (length cs)} (omega arith) in
     le-trans (lit≤ {m = 2 ^ 64} {n = 10 ^ 20} tt)
     (le-trans (omega (arith, long, mul-le-mul-right p first)) (value-ge (0 * 10 + (c - 48)) (d ∷ cs)))
+
+-- ── numbers within a range ──
+
+-- `numberIn`, of the number that is read
+abbrev pub ranged : ℕ → ℕ → Option ℕ → Option ℕ
+ranged low high o = elim o [ none ↦ none | some n ↦ cond (leb low n && leb n high) (some n) none ]
+
+-- what is found in a range lies in it
+pub range-bounds : (low high : ℕ) (s : Octets) (n : ℕ) → numberIn low high s ≡ some n → (low ≤ n) × (n ≤ high)
+unfolding numberIn
+range-bounds low high s n e = by (number s) e
+  where
+    bounds : (m : ℕ) (t : Bool) → leb low m && leb m high ≡ t → cond t (some m) none ≡ some n → (low ≤ n) × (n ≤ high)
+    bounds m true t e =
+        let same : m ≡ n = cc in
+        let both = both-true (leb low m) (leb m high) t in
+        rw (← same) (leb-true low m (both .0), leb-true m high (both .1))
+    bounds m false t e = let z : _≡_ {A = ℕ} 0 1 = cc in absurd (omega arith)
+
+    by : (o : Option ℕ) → ranged low high o ≡ some n → (low ≤ n) × (n ≤ high)
+    by none e = let z : _≡_ {A = ℕ} 0 1 = cc in absurd (omega arith)
+    by (some m) e = bounds m (leb low m && leb m high) refl e

@@ -1,11 +1,10 @@
 -- Laws of `paste`: bytes put in place of others.
 use mathlib.Core.Path.{_≡_, refl, sym, ap, _∙_}
-use mathlib.Core.List.{List, [], _∷_, _++_, append-assoc}
-use Prim.Native.Nat.{ℕ, zero, suc, _+_, _-_, _≤_, _<_}
-use native.Mathlib.Nat.{add-zero, add-sub-of-le}
+use mathlib.Core.List.{[], _∷_, _++_, append-assoc}
+use Prim.Native.Nat.{ℕ, suc, _+_, _-_, _≤_, _<_}
 use native.Mathlib.Numerals.{add-one}
 use native.Mathlib.Omega.{arith}
-use lib.ListN.{length, getD, take, drop, set, replicate, length-append, length-drop, length-replicate, getD-replicate, take-append-drop, List·getD-append}
+use lib.ListN.{length, getD, take, drop, set, replicate, length-replicate, getD-replicate, List·getD-append}
 use lib.Seq as Seq
 use Rattle.rules.specs.Octets.{Octets, paste}
 

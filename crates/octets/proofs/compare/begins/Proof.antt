@@ -1,6 +1,5 @@
 -- `begins` meets its contract: where b is long enough, its front and a are the same bytes.
-use mathlib.Core.Path.{_≡_, sym, _∙_}
-use native.Mathlib.Omega.{arith}
+use mathlib.Core.Path.{sym, _∙_}
 use lib.Seq.{length-take-le}
 use Rattle.rules.proofs.Compare.{begins-same, begins-short}
 use borrow.Author.Needs.{needs}

@@ -1,5 +1,5 @@
 -- `number32` meets its contract: four bytes fit 32 bits.
-use mathlib.Core.Path.{_≡_, refl}
+use mathlib.Core.Path.{refl}
 use Prim.Native.Nat.{_<_, _+_}
 use native.Mathlib.Omega.{arith}
 use lib.ListN.{getD}
