@@ -5,3 +5,4 @@ pub mod VerdictLaws
 pub mod PieceLaws
 pub mod RelationLaws
 pub mod FullLaws
+pub mod FormLaws

@@ -75,53 +75,86 @@ pub record Full (s : Octets) (ns : Names) : Type 0 where
   pub names : allNames ns ≡ true
   pub short : length s ≤ longestAbsolute
 
+-- of a relative one's: with a slash before it, it is that of its names
+pub record Below (s : Octets) (ns : Names) : Type 0 where
+  pub text : 47 ∷ s ≡ slashed ns
+  pub pieces : ns ≡ split s
+  pub names : allNames ns ≡ true
+  pub short : length s ≤ longestRelative
+
+-- and of an event name
+pub record Event (s t : Octets) : Type 0 where
+  pub text : t ≡ s
+  pub named : (same s introduceName || same s releaseName) ≡ true
+
+abbrev pub Means : Octets → Given → Type 0
+Means s malformed = Unit
+Means s (absolute ns) = Full s ns
+Means s (relative ns) = Below s ns
+Means s (special t) = Event s t
+
+means-if : (s : Octets) (t : Bool) (g : Given) → (t ≡ true → Means s g) → Means s (cond t g malformed)
+means-if s true g h = h refl
+means-if s false g h = tt
+
+means-by : (s : Octets) (a b : Bool) (x y z : Given) → (a ≡ true → Means s x) → Means s y → Means s z → Means s (cond a x (cond b y z))
+means-by s true b x y z f g h = f refl
+means-by s false true x y z f g h = g
+means-by s false false x y z f g h = h
+
 slashed-text : (c : ℕ) (cs : Octets) (ns : Names) → c ∷ cs ≡ slashed ns → c ∷ cs ≡ pathText ns
 unfolding slashed pathText
 slashed-text c cs [] e = cc
 slashed-text c cs (n ∷ ns) e = e
 
--- a path is sound, or not a path at all
-given-cond : (t : Bool) (ns ms : Names) → cond t (absolute ns) malformed ≡ absolute ms → (t ≡ true) × (ns ≡ ms)
-given-cond true ns ms e = (refl, cc)
-given-cond false ns ms e = (cc, cc)
-
-full-after : (cs : Octets) (ns : Names) → afterSlash (47 ∷ cs) cs ≡ absolute ns → Full (47 ∷ cs) ns
+means-slash : (cs : Octets) → Means (47 ∷ cs) (afterSlash (47 ∷ cs) cs)
 unfolding afterSlash pathText checked allNames
-full-after [] ns e = let r : [] ≡ ns = cc in record { text = ap pathText r; names = ap allNames (sym r); short = omega arith }
-full-after (d ∷ ds) ns e =
+means-slash [] = record { text = refl; names = refl; short = omega arith }
+means-slash (d ∷ ds) =
     let short = leb (length (47 ∷ d ∷ ds)) longestAbsolute in
     let sound = allNames (split (d ∷ ds)) in
-    let h = given-cond (short && sound) (split (d ∷ ds)) ns e in
-    record {
-      text = slashed-text 47 (d ∷ ds) ns (sym (slashed-split (d ∷ ds)) ∙ ap slashed (h .1));
-      names = ap allNames (sym (h .1)) ∙ both-true short sound (h .0) .1;
-      short = leb-true (length (47 ∷ d ∷ ds)) longestAbsolute (both-true short sound (h .0) .0);
-    }
+    means-if (47 ∷ d ∷ ds) (short && sound) (absolute (split (d ∷ ds)))
+    (λ h. record {
+      text = slashed-text 47 (d ∷ ds) _ (sym (slashed-split (d ∷ ds)));
+      names = both-true short sound h .1;
+      short = leb-true _ _ (both-true short sound h .0);
+    })
 
--- the other two forms are no full paths
-no-full : (t u : Bool) (e : Octets) (ns ms : Names) → cond t (cond u (special e) malformed) (cond u (relative ns) malformed) ≡ absolute ms → ⊥
-no-full true true e ns ms h = let z : _≡_ {A = ℕ} 0 1 = cc in omega arith
-no-full true false e ns ms h = let z : _≡_ {A = ℕ} 0 1 = cc in omega arith
-no-full false true e ns ms h = let z : _≡_ {A = ℕ} 0 1 = cc in omega arith
-no-full false false e ns ms h = let z : _≡_ {A = ℕ} 0 1 = cc in omega arith
+means-special : (s : Octets) → Means s (specialOf s)
+unfolding specialOf
+means-special s = means-if s (same s introduceName || same s releaseName) (special s) (λ h. record { text = refl; named = h })
 
-not-full : (b : Bool) (s : Octets) (ns : Names) → cond b (specialOf s) (checked longestRelative relative s (split s)) ≡ absolute ns → ⊥
-unfolding specialOf checked
-not-full true s ns e = no-full true (same s introduceName || same s releaseName) s [] ns e
-not-full false s ns e = no-full false (leb (length s) longestRelative && allNames (split s)) s (split s) ns e
+means-relative : (s : Octets) → Means s (checked longestRelative relative s (split s))
+unfolding checked
+means-relative s =
+    let short = leb (length s) longestRelative in
+    let sound = allNames (split s) in
+    means-if s (short && sound) (relative (split s))
+    (λ h. record {
+      text = sym (slashed-split s);
+      pieces = refl;
+      names = both-true short sound h .1;
+      short = leb-true _ _ (both-true short sound h .0);
+    })
 
-given-by : (c : ℕ) (cs : Octets) (ns : Names) (b : Bool) → eqb c 47 ≡ b → given (c ∷ cs) ≡ absolute ns → Full (c ∷ cs) ns
+-- what a path in a payload is says what its text is
+pub means : (s : Octets) → Means s (given s)
 unfolding given
-given-by c cs ns true b e =
-    let r : 47 ≡ c = sym (eqb-true c 47 b) in
-    subst (λ (k : ℕ). Full (k ∷ cs) ns) r (full-after cs ns (ap (λ (k : ℕ). given (k ∷ cs)) r ∙ e))
-given-by c cs ns false b e = absurd (not-full (eqb c 64) (c ∷ cs) ns (rw b at e))
+means [] = tt
+means (c ∷ cs) =
+    means-by (c ∷ cs) (eqb c 47) (eqb c 64) _ _ _
+    (λ e. subst (λ (k : ℕ). Means (k ∷ cs) (afterSlash (k ∷ cs) cs)) (sym (eqb-true c 47 e)) (means-slash cs)) (means-special (c ∷ cs))
+    (means-relative (c ∷ cs))
 
--- "absolute": the text is that of its names, which are names
-pub given-full : (s : Octets) (ns : Names) → given s ≡ absolute ns → Full s ns
-unfolding given
-given-full [] ns e = absurd (let z : _≡_ {A = ℕ} 0 1 = cc in omega arith)
-given-full (c ∷ cs) ns e = given-by c cs ns (eqb c 47) refl e
+module _ (s : Octets) where
+  pub given-full : (ns : Names) → given s ≡ absolute ns → Full s ns
+  given-full ns e = subst (Means s) e (means s)
+
+  pub given-below : (ns : Names) → given s ≡ relative ns → Below s ns
+  given-below ns e = subst (Means s) e (means s)
+
+  pub given-event : (t : Octets) → given s ≡ special t → Event s t
+  given-event t e = subst (Means s) e (means s)
 
 pub no-empty-name : (ns : Names) → allNames ([] ∷ ns) ≡ true → ⊥
 unfolding allNames isName
@@ -161,13 +194,19 @@ full-given s h = full-by s (given s) refl h
 pub full : (s : Octets) → isFull s ≡ true → Full s (namesIn s)
 full s h = given-full s (namesIn s) (full-given s h)
 
-pub text-names : (ns : Names) → allNames ns ≡ true → length (pathText ns) ≤ longestAbsolute → namesIn (pathText ns) ≡ ns
+pub given-names : (s : Octets) (ns : Names) → given s ≡ absolute ns → namesIn s ≡ ns
 unfolding namesIn
-text-names ns h l = rw (text-given ns h l, namesIn)
+given-names s ns e = rw (e, namesIn)
+
+pub given-is-full : (s : Octets) (ns : Names) → given s ≡ absolute ns → isFull s ≡ true
+unfolding isFull
+given-is-full s ns e = rw (e, isFull)
+
+pub text-names : (ns : Names) → allNames ns ≡ true → length (pathText ns) ≤ longestAbsolute → namesIn (pathText ns) ≡ ns
+text-names ns h l = given-names (pathText ns) ns (text-given ns h l)
 
 pub text-full : (ns : Names) → allNames ns ≡ true → length (pathText ns) ≤ longestAbsolute → isFull (pathText ns) ≡ true
-unfolding isFull
-text-full ns h l = rw (text-given ns h l, isFull)
+text-full ns h l = given-is-full (pathText ns) ns (text-given ns h l)
 
 -- a full path begins with a slash; the root is that slash, and of any other the pieces after it are the names
 text-slash : (ns : Names) → pathText ns ≡ 47 ∷ drop 1 (pathText ns)

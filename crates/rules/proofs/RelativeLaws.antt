@@ -1,67 +1,16 @@
 -- Relative paths: the full path that one means.
 use mathlib.Core.Path.{_≡_, refl, ap, sym, _∙_}
-use mathlib.Core.Bool.{Bool, true, false, cond, _&&_, _||_, and-assoc, or-true}
+use mathlib.Core.Bool.{Bool, true, _&&_, and-assoc, or-true}
 use mathlib.Core.List.{[], _∷_, _++_, append-assoc, append-nil}
 use Prim.Native.Nat.{ℕ, _≤_}
 use native.Mathlib.Omega.{arith}
 use lib.ListN.{length, length-append}
-use lib.Dec.{eqb, leb}
-use borrow.Author.Tests.{leb-true}
-use Rattle.rules.specs.Size.{longestAbsolute, longestRelative}
-use Rattle.rules.specs.Octets.{Octets, text, same, decimal, isDigit, allDigits}
-use Rattle.rules.specs.Path.{Domain, Names, nameByte, allBytes, isName, allNames, split, malformed, absolute, relative, special, given, specialOf, introduceName, releaseName, checked, afterSlash, base, slashed, pathText}
+use Rattle.rules.specs.Size.{longestAbsolute}
+use Rattle.rules.specs.Octets.{Octets, text, decimal, isDigit, allDigits}
+use Rattle.rules.specs.Path.{Domain, Names, nameByte, allBytes, isName, allNames, absolute, relative, given, base, slashed, pathText}
 use Rattle.rules.proofs.Compare.{both-true}
 use Rattle.rules.proofs.Decimals.{decimal-digits, length-decimal-le, length-decimal-pos}
-use Rattle.rules.proofs.PathLaws.{slashed-split, text-given}
-
--- what is known of a relative path's text and its names
-pub record Below (s : Octets) (ns : Names) : Type 0 where
-  pub text : 47 ∷ s ≡ slashed ns
-  pub names : allNames ns ≡ true
-  pub short : length s ≤ longestRelative
-
-relative-cond : (t : Bool) (ns ms : Names) → cond t (relative ns) malformed ≡ relative ms → (t ≡ true) × (ns ≡ ms)
-relative-cond true ns ms e = (refl, cc)
-relative-cond false ns ms e = (cc, cc)
-
-special-cond : (t : Bool) (s : Octets) (ms : Names) → cond t (special s) malformed ≡ relative ms → ⊥
-special-cond true s ms e = let z : _≡_ {A = ℕ} 0 1 = cc in omega arith
-special-cond false s ms e = let z : _≡_ {A = ℕ} 0 1 = cc in omega arith
-
-absolute-cond : (t : Bool) (ns ms : Names) → cond t (absolute ns) malformed ≡ relative ms → ⊥
-absolute-cond true ns ms e = let z : _≡_ {A = ℕ} 0 1 = cc in omega arith
-absolute-cond false ns ms e = let z : _≡_ {A = ℕ} 0 1 = cc in omega arith
-
-relative-checked : (s : Octets) (ns : Names) → checked longestRelative relative s (split s) ≡ relative ns → Below s ns
-unfolding checked
-relative-checked s ns e =
-    let short = leb (length s) longestRelative in
-    let sound = allNames (split s) in
-    let h = relative-cond (short && sound) (split s) ns e in
-    record {
-      text = sym (slashed-split s) ∙ ap slashed (h .1);
-      names = ap allNames (sym (h .1)) ∙ both-true short sound (h .0) .1;
-      short = leb-true (length s) longestRelative (both-true short sound (h .0) .0);
-    }
-
-not-absolute : (s cs : Octets) (ns : Names) → afterSlash s cs ≡ relative ns → ⊥
-unfolding afterSlash checked
-not-absolute s [] ns e = absolute-cond true [] ns e
-not-absolute s (c ∷ cs) ns e = absolute-cond (leb (length s) longestAbsolute && allNames (split (c ∷ cs))) (split (c ∷ cs)) ns e
-
-relative-by : (c : ℕ) (cs : Octets) (ns : Names) (a b : Bool)
-    → cond a (afterSlash (c ∷ cs) cs) (cond b (specialOf (c ∷ cs)) (checked longestRelative relative (c ∷ cs) (split (c ∷ cs)))) ≡ relative ns
-    → Below (c ∷ cs) ns
-unfolding specialOf
-relative-by c cs ns true b e = absurd (not-absolute (c ∷ cs) cs ns e)
-relative-by c cs ns false true e = absurd (special-cond (same (c ∷ cs) introduceName || same (c ∷ cs) releaseName) (c ∷ cs) ns e)
-relative-by c cs ns false false e = relative-checked (c ∷ cs) ns e
-
--- "relative": with a slash before it, the text is that of its names
-pub given-below : (s : Octets) (ns : Names) → given s ≡ relative ns → Below s ns
-unfolding given
-given-below [] ns e = absurd (let z : _≡_ {A = ℕ} 0 1 = cc in omega arith)
-given-below (c ∷ cs) ns e = relative-by c cs ns (eqb c 47) (eqb c 64) e
+use Rattle.rules.proofs.PathLaws.{given-below, text-given}
 
 -- ── the base ──
 
