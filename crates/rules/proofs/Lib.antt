@@ -9,3 +9,7 @@ pub mod Cases
 pub mod Fitting
 pub mod Parsing
 pub mod Places
+pub mod PathLaws
+pub mod BelowLaws
+pub mod Joined
+pub mod RelativeLaws
