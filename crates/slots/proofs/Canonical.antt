@@ -1,6 +1,6 @@
 -- Canonical tables: what the fields of a used slot say of its node. A sound table is canonical.
 use mathlib.Core.Path.{_≡_, refl, sym, ap, _∙_}
-use mathlib.Core.Bool.{Bool, true, false, _&&_}
+use mathlib.Core.Bool.{Bool, true, false, _&&_, true≢false}
 use mathlib.Core.Option.{Option, none, some}
 use mathlib.Core.List.{List, [], _∷_}
 use Prim.Native.Nat.{ℕ, zero, suc, _+_, _*_, _-_, _≤_, _<_}
@@ -111,3 +111,19 @@ entry-is t i h n e k d hk =
     (sym (listed t i k d (omega (arith, node-few t i)))
     ∙ sym (getD-take (suc (entryCount t i - 1)) (all-entries t i) k d (omega arith))
     ∙ ap (λ (es : List Entry). getD es k d) (sym (meant-entries t i)))
+
+-- ── a sound table's used slots ──
+
+used-some : (x : Option Node) → isUsed x ≡ true → (n : Node) × (x ≡ some n)
+used-some none u = absurd (let z : _≡_ {A = Bool} false true = u in true≢false (sym z))
+used-some (some n) u = (n, refl)
+
+module _ (t : Octets) (s : soundTable t ≡ true) (i : ℕ) (h : i < slots) (u : isUsed (slotAt t i) ≡ true) where
+  node : (n : Node) × (slotAt t i ≡ some n)
+  node = used-some (slotAt t i) u
+
+  pub name-short : nameLength t i ≤ 32
+  name-short = rw (name-length-is t (sound-canonical t s) i h (node .0) (node .1)) (node-fits t (sound-canonical t s) i h (node .0) (node .1) .name)
+
+  pub value-short : valueLength t i ≤ 64
+  value-short = rw (value-length-is t (sound-canonical t s) i h (node .0) (node .1)) (node-fits t (sound-canonical t s) i h (node .0) (node .1) .value)
