@@ -9,3 +9,4 @@ pub mod Cases
 pub mod Fitting
 pub mod Parsing
 pub mod Places
+pub mod GoodTables
