@@ -10,3 +10,4 @@ pub mod Fitting
 pub mod Parsing
 pub mod Places
 pub mod GoodTables
+pub mod GoodAnswers
