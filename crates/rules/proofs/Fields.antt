@@ -1,12 +1,12 @@
 -- Numbers in bytes, most significant first: writing and reading undo each other, and a field of a part is a field of the whole.
-use mathlib.Core.Path.{_≡_, refl, sym, ap, _∙_}
+use mathlib.Core.Path.{_≡_, refl, sym, ap, ap₂, _∙_}
 use mathlib.Core.List.{List, [], _∷_, _++_, append-nil}
 use Prim.Native.Nat.{ℕ, zero, suc, _+_, _*_, _/_, _%_, _^_, _≤_, _<_, zero-le, suc-le-suc}
-use native.Mathlib.Nat.{add-zero, zero-add, add-suc, suc-add, le-of-suc-le-suc, not-suc-le-zero, div-add-mod', div-lt-iff-lt-mul, pow-suc}
-use native.Mathlib.Numerals.{add-one}
+use native.Mathlib.Nat.{add-zero, zero-add, add-suc, suc-add, le-of-suc-le-suc, not-suc-le-zero, div-add-mod', div-lt-iff-lt-mul, pow-suc, pow-zero, pow-succ', add-mul, add-assoc, mul-assoc, mul-one}
+use native.Mathlib.Numerals.{add-one, add-two}
 use native.Mathlib.Omega.{arith}
-use lib.ListN.{length, getD, take, drop, length-append}
-use lib.Seq.{take-at, drop-at, drop-cons, drop-drop}
+use lib.ListN.{length, getD, take, drop, length-append, length-drop}
+use lib.Seq.{take-at, drop-at, drop-cons, drop-drop, take-add, length-take-le}
 use Rattle.rules.specs.Octets.{Octets, bigEndian, bigFrom, field}
 
 pub length-big : (k n : ℕ) → length (bigEndian k n) ≡ k
@@ -36,7 +36,7 @@ pub field-at : (p q : Octets) (i k : ℕ) → length p ≡ i → field (p ++ q) 
 unfolding field
 field-at p q i k h = ap (λ (r : Octets). bigFrom 0 (take k r)) (drop-at p q i h)
 
-take-drop-take : {A : Type 0} (k j n : ℕ) (l : List A) → j + k ≤ n → take k (drop j (take n l)) ≡ take k (drop j l)
+pub take-drop-take : {A : Type 0} (k j n : ℕ) (l : List A) → j + k ≤ n → take k (drop j (take n l)) ≡ take k (drop j l)
 take-drop-take zero j n l h = refl
 take-drop-take (suc k) j zero l h = absurd (not-suc-le-zero (rw add-suc at h))
 take-drop-take (suc k) j (suc n) [] h = refl
@@ -48,11 +48,53 @@ pub field-part : (s : Octets) (p n j k : ℕ) → j + k ≤ n → field (take n 
 unfolding field
 field-part s p n j k h = ap (bigFrom 0) (take-drop-take k j n (drop p s) h ∙ ap (take k) (drop-drop j p s))
 
--- a field's bytes, one after the other
-pub field-none : (s : Octets) (m i : ℕ) → bigFrom m (take 0 (drop i s)) ≡ m
+field-next : (s : Octets) (m i k : ℕ) → i < length s → bigFrom m (take (suc k) (drop i s)) ≡ bigFrom (m * 256 + getD s i 0) (take k (drop (suc i) s))
 unfolding bigFrom
-field-none s m i = refl
+field-next s m i k h = rw (drop-cons s i 0 h)
 
-pub field-next : (s : Octets) (m i k : ℕ) → i < length s → bigFrom m (take (suc k) (drop i s)) ≡ bigFrom (m * 256 + getD s i 0) (take k (drop (i + 1) s))
+-- a field of one byte, of two and of three
+pub field-one : (s : Octets) (i : ℕ) → i < length s → field s i 1 ≡ getD s i 0
+unfolding field bigFrom
+field-one s i h = field-next s 0 i 0 h ∙ zero-add (getD s i 0)
+
+pub field-two : (s : Octets) (i : ℕ) → i + 1 < length s → field s i 2 ≡ getD s i 0 * 256 + getD s (i + 1) 0
+unfolding field bigFrom
+field-two s i h = field-next s 0 i 1 (omega arith) ∙ field-next s (0 + getD s i 0) (suc i) 0 (omega arith) ∙ rw (add-one, zero-add)
+
+pub field-three : (s : Octets) (i : ℕ) → i + 2 < length s → field s i 3 ≡ (getD s i 0 * 256 + getD s (i + 1) 0) * 256 + getD s (i + 2) 0
+unfolding field bigFrom
+field-three s i h =
+    field-next s 0 i 2 (omega arith)
+    ∙ field-next s (0 + getD s i 0) (suc i) 1 (omega arith)
+    ∙ field-next s ((0 + getD s i 0) * 256 + getD s (suc i) 0) (suc (suc i)) 0 (omega arith)
+    ∙ rw (add-one, add-two, zero-add)
+
+big-from : (m : ℕ) (xs : Octets) → bigFrom m xs ≡ m * 256 ^ length xs + bigFrom 0 xs
 unfolding bigFrom
-field-next s m i k h = rw (add-one, drop-cons s i 0 h)
+big-from m [] = sym (rw (pow-zero, mul-one, add-zero))
+big-from m (x ∷ xs) =
+    big-from (m * 256 + x) xs
+    ∙ ap (λ (n : ℕ). n + bigFrom 0 xs) (add-mul (m * 256) x (256 ^ length xs))
+    ∙ add-assoc (m * 256 * 256 ^ length xs) (x * 256 ^ length xs) (bigFrom 0 xs)
+    ∙ ap₂ _+_ (mul-assoc m 256 (256 ^ length xs) ∙ ap (λ (n : ℕ). m * n) (sym (pow-succ' 256 (length xs))))
+    (ap (λ (n : ℕ). n * 256 ^ length xs + bigFrom 0 xs) (sym (zero-add x)) ∙ sym (big-from (0 * 256 + x) xs))
+
+-- a field taken as two
+pub field-split : (s : Octets) (i a b : ℕ) → i + (a + b) ≤ length s → field s i (a + b) ≡ field s i a * 256 ^ b + field s (i + a) b
+unfolding field
+field-split s i a b h =
+    ap (bigFrom 0) (take-add a b (drop i s))
+    ∙ big-append 0 (take a (drop i s)) (take b (drop a (drop i s)))
+    ∙ ap (λ (r : Octets). bigFrom (bigFrom 0 (take a (drop i s))) (take b r)) (drop-drop a i s)
+    ∙ big-from _ (take b (drop (i + a) s))
+    ∙ ap (λ (n : ℕ). bigFrom 0 (take a (drop i s)) * 256 ^ n + bigFrom 0 (take b (drop (i + a) s)))
+    (length-take-le b (drop (i + a) s) (rw length-drop (omega arith)))
+
+-- a field of k bytes is below 256 ^ k
+pub field-bound : (s : Octets) → ((j : ℕ) → getD s j 0 < 256) → (k i : ℕ) → i + k ≤ length s → field s i k < 256 ^ k
+unfolding field bigFrom
+field-bound s bytes zero i h = omega arith
+field-bound s bytes (suc k) i h =
+    let lower : field s i k < 256 ^ k = field-bound s bytes k i (omega arith) in
+    let split : field s i (k + 1) ≡ field s i k * 256 ^ 1 + field s (i + k) 1 = field-split s i k 1 (omega arith) in
+    rw (← add-one k, split, field-one s (i + k) (omega arith), add-one k, pow-suc 256 k) (omega (arith, bytes (i + k)))

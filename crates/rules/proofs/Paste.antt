@@ -1,12 +1,14 @@
 -- Laws of `paste`: bytes put in place of others.
-use mathlib.Core.Path.{_≡_, refl, sym, ap, _∙_}
+use mathlib.Core.Path.{_≡_, refl, sym, ap, ap₂, _∙_}
 use mathlib.Core.List.{[], _∷_, _++_, append-assoc}
 use Prim.Native.Nat.{ℕ, suc, _+_, _-_, _≤_, _<_}
+use native.Mathlib.Nat.{add-assoc}
 use native.Mathlib.Numerals.{add-one}
 use native.Mathlib.Omega.{arith}
-use lib.ListN.{length, getD, take, drop, set, replicate, length-replicate, getD-replicate, List·getD-append}
+use lib.ListN.{length, getD, take, drop, set, replicate, length-replicate, getD-replicate, length-append, length-drop, take-append-drop, List·getD-append}
 use lib.Seq as Seq
 use Rattle.rules.specs.Octets.{Octets, paste}
+use Rattle.rules.proofs.Fields.{take-drop-take}
 
 -- what stands behind a list of n bytes
 getD-past : (p q : Octets) (n k : ℕ) → length p ≡ n → getD (p ++ q) (n + k) 0 ≡ getD q k 0
@@ -91,3 +93,32 @@ paste-four i a b c d xs h =
     let e₂ : i + 2 ≡ suc (suc i) = omega arith in
     let e₃ : i + 3 ≡ suc (suc (suc i)) = omega arith in
     rw (e₁, e₂, e₃) (paste-sets i (a ∷ b ∷ c ∷ d ∷ []) xs h)
+
+-- two parts put in one behind the other
+pub paste-append : (i : ℕ) (a b xs : Octets) → i + length a ≤ length xs → paste i (a ++ b) xs ≡ paste i a (paste (i + length a) b xs)
+unfolding paste
+paste-append i a b xs h =
+    let rest = b ++ drop (i + length a + length b) xs in
+    let n = i + length a in
+    ap (λ (l : Octets). take i xs ++ l) (append-assoc a b (drop (i + length (a ++ b)) xs) ∙ ap (λ (m : ℕ). a ++ (b ++ drop m xs)) (ap (λ (m : ℕ). i + m) (length-append a b) ∙ sym (add-assoc i (length a) (length b))))
+    ∙ sym
+    (ap₂ (λ (l r : Octets). l ++ (a ++ r))
+    (Seq.take-append-le i (take n xs) rest (rw (Seq.length-take-le n xs h) (omega arith)) ∙ Seq.take-take i n xs (omega arith))
+    (Seq.drop-at (take n xs) rest n (Seq.length-take-le n xs h)))
+
+-- what stands there already
+pub paste-own : (i k : ℕ) (xs : Octets) → i + k ≤ length xs → paste i (take k (drop i xs)) xs ≡ xs
+unfolding paste
+paste-own i k xs h =
+    ap (λ (m : ℕ). take i xs ++ (take k (drop i xs) ++ drop (i + m) xs)) (Seq.length-take-le k (drop i xs) (rw length-drop (omega arith)))
+    ∙ ap (λ (l : Octets). take i xs ++ (take k (drop i xs) ++ l)) (sym (Seq.drop-drop k i xs))
+    ∙ ap (λ (l : Octets). take i xs ++ l) (take-append-drop k (drop i xs))
+    ∙ take-append-drop i xs
+
+-- a part before what is put in
+pub part-before : (i j k : ℕ) (ys xs : Octets) → j + k ≤ i → i ≤ length xs → take k (drop j (paste i ys xs)) ≡ take k (drop j xs)
+unfolding paste
+part-before i j k ys xs h hx =
+    sym (take-drop-take k j i (paste i ys xs) h)
+    ∙ ap (λ (l : Octets). take k (drop j l)) (Seq.take-at (take i xs) (ys ++ drop (i + length ys) xs) i (Seq.length-take-le i xs hx))
+    ∙ take-drop-take k j i xs h

@@ -1,0 +1,2 @@
+// Node slots: the fields of a table's entries, on lent bytes.
+pub mod fields;
