@@ -11,19 +11,20 @@ use lib.ListN.{length, getD, set}
 use lib.Seq.{getD-set-same, getD-set-other}
 use lib.Dec.{eqb, ltb, leb, eqb·suc-zero}
 use borrow.Author.Tests.{eqb-true, eqb-false, eq-eqb, ne-eqb, leb-true, le-leb}
-use Rattle.rules.specs.Size.{deepest, lastDomain, longestValue, mostEntries}
+use Rattle.rules.specs.Size.{deepest, lastDomain, longestName, longestValue, mostEntries}
 use Rattle.rules.specs.Octets.{Octets, same}
 use Rattle.rules.specs.Entries.{lowest, freeCount}
 use Rattle.rules.specs.Path.{Domain, Name, Names, isControl, isName, allNames, shortNames, fits}
 use Rattle.rules.specs.Node.{Entry, Node, Table, Reached, nodeAt, child, reachFrom, reach, heir, newNode, lastValue, made, withValue, withEntries, within, clearedFrom, removed, withoutAll}
 use Rattle.rules.specs.Rights.{mayWrite}
 use Rattle.rules.specs.Payload.{Ask, directory, read, getPerms, write, mkdir, rm, setPerms, onRoot, proper}
-use Rattle.rules.specs.Answer.{Answer, unchanged, changed, looked, room, created, written, directoryMade, taken, maySet, permitted, answered, answer}
-use Rattle.rules.specs.Sound.{goodEntries, reachesRoot}
+use Rattle.rules.specs.Answer.{Reply, Change, Answer, unchanged, changed, looked, room, created, written, directoryMade, taken, maySet, permitted, answered, answer}
+use Rattle.rules.specs.Sound.{goodEntries, reachesRoot, goodChange}
 use Rattle.rules.proofs.Cases.{cond-case, cond-known}
 use Rattle.rules.proofs.Places.{nothing, some-is, is-false, At, at-below, at-set, set-cases, lowest-free}
 use Rattle.rules.proofs.Tables.{Each}
-use Rattle.rules.proofs.Fitting.{lowest-below, free-fewer}
+use Rattle.rules.proofs.Slots.{SlotFits}
+use Rattle.rules.proofs.Fitting.{Fitting, slotAt-fits, lowest-below, free-fewer}
 use Rattle.rules.proofs.GoodTables.{Good, nodeAt-is, IsChild, child-some, child-none}
 
 -- ── reaching the root ──
@@ -318,6 +319,12 @@ nameless : {b : Bool} → b ≡ isName [] → b ≡ true → ⊥
 unfolding isName
 nameless p q = false≢true (sym p ∙ q)
 
+-- the root is nobody's child
+child-not-root : (t : Table) → Good t → (i : ℕ) (name : Name) (j : ℕ) → isName name ≡ true → IsChild t i name j → j ≡ 0 → ⊥
+child-not-root t g i name j h c z =
+    let old : c .node ≡ g .root = some-is (sym (c .used) ∙ (ap (λ (x : ℕ). getD t x none) z ∙ g .used)) in
+    nameless (ap isName (sym (c .named) ∙ (ap Node.name old ∙ g .nameless))) h
+
 found : (t : Table) → Good t → (ns : Names) (i k : ℕ) (n : Node) → At t i n → reachesRoot k t i ≡ true → allNames ns ≡ true → Found t ns i k (reachFrom ns t i)
 unfolding reachFrom allNames
 found t g [] i k n e h a =
@@ -352,13 +359,8 @@ found t g (name ∷ ns) i k n e h a = go (child t i name) refl (found t g ns)
           reaches = r .reaches;
           names = r .names;
           stops = r .stops;
-          top = λ y z. absurd (not-root j c (r .top y z .1));
+          top = λ y z. absurd (child-not-root t g i name j (q .0) c (r .top y z .1));
         }
-      where
-        not-root : (j : ℕ) → IsChild t i name j → j ≡ 0 → ⊥
-        not-root j c z =
-            let old : c .node ≡ g .root = some-is (sym (c .used) ∙ (ap (λ (x : ℕ). getD t x none) z ∙ g .used)) in
-            nameless (ap isName (sym (c .named) ∙ (ap Node.name old ∙ g .nameless))) (q .0)
 
 -- ── answers ──
 
@@ -434,3 +436,106 @@ module _ (d : Domain) (ns : Names) (t : Table) (hd : d ≤ lastDomain) (g : Good
 pub answer-good : (d : Domain) (a : Ask) (ns : Names) (t : Table) → d ≤ lastDomain → AskGood a → allNames ns ≡ true → proper a ns ≡ true → Good t → Good (answer d a ns t .table)
 unfolding answer
 answer-good d a ns t hd ha hn hp g = answered-good d ns t hd g hn a ha hp (reach t ns .left) (reach t ns .slot) refl
+
+-- ── changes ──
+
+-- a path that is there is within the sizes: its names are stored ones, and its slot is at most eight levels down
+way-back : (t : Table) → Good t → (ns : Names) (i k : ℕ) (n : Node) → At t i n → allNames ns ≡ true → reachFrom ns t i .left ≡ []
+    → reachesRoot k t (reachFrom ns t i .slot) ≡ true → (j : ℕ) × (j + length ns ≡ k) × (reachesRoot j t i ≡ true)
+unfolding reachFrom allNames
+way-back t g [] i k n e a l h = (k, omega arith, h)
+way-back t g (name ∷ ns) i k n e a l h = go (child t i name) refl l h (way-back t g ns)
+  where
+    q : (isName name ≡ true) × (allNames ns ≡ true)
+    q = and-eq-true-iff (isName name) (allNames ns) .0 a
+
+    up : (j m : ℕ) → IsChild t i name j → reachesRoot m t j ≡ true → m + length ns ≡ k → (j : ℕ) × (j + suc (length ns) ≡ k) × (reachesRoot j t i ≡ true)
+    up j zero c r x = absurd (child-not-root t g i name j (q .0) c (reaches-zero t j r))
+    up j (suc m) c r x =
+        let z = reaches-node m t j r (child-not-root t g i name j (q .0) c) in
+        (m, omega arith, rw (ap Node.parent (some-is (sym (z .1) ∙ c .used)) ∙ c .parent) at (z .2))
+
+    go : (m : Option ℕ) → child t i name ≡ m
+        → let r = elim m as (λ m. Reached) [ none ↦ record { slot = i; left = name ∷ ns } | some j ↦ reachFrom ns t j ] in
+        r .left ≡ [] → reachesRoot k t (r .slot) ≡ true
+        → ((i k : ℕ) (n : Node) → At t i n → allNames ns ≡ true → reachFrom ns t i .left ≡ []
+        → reachesRoot k t (reachFrom ns t i .slot) ≡ true → (j : ℕ) × (j + length ns ≡ k) × (reachesRoot j t i ≡ true))
+        → (j : ℕ) × (j + suc (length ns) ≡ k) × (reachesRoot j t i ≡ true)
+    go none x l h f = absurd (cons≢nil l)
+    go (some j) x l h f =
+        let c = child-some t i name j x in
+        let r = f j k (c .node) (c .used) (q .1) l h in
+        up j (r .0) c (r .2) (r .1)
+
+short-there : (t : Table) → Fitting t → (ns : Names) (i : ℕ) → reachFrom ns t i .left ≡ [] → shortNames ns ≡ true
+unfolding reachFrom shortNames
+short-there t f [] i l = refl
+short-there t f (name ∷ ns) i l = go (child t i name) refl l (short-there t f ns)
+  where
+    go : (m : Option ℕ) → child t i name ≡ m → (elim m as (λ m. Reached) [ none ↦ record { slot = i; left = name ∷ ns } | some j ↦ reachFrom ns t j ]) .left ≡ []
+        → ((i : ℕ) → reachFrom ns t i .left ≡ [] → shortNames ns ≡ true) → (leb (length name) longestName && shortNames ns) ≡ true
+    go none x l h = absurd (cons≢nil l)
+    go (some j) x l h =
+        let c = child-some t i name j x in
+        let s : SlotFits (some (c .node)) = subst SlotFits (c .used) (slotAt-fits t j (f .all)) in
+        and-eq-true-iff (leb (length name) longestName) (shortNames ns) .1 (le-leb (length name) longestName (rw (← c .named) (s .name)), h j l)
+
+there-fits : (t : Table) → Good t → Fitting t → (ns : Names) → allNames ns ≡ true → reach t ns .left ≡ [] → fits ns ≡ true
+unfolding fits reach
+there-fits t g f ns a l =
+    let h = found t g ns 0 0 (g .root) (g .used) (root-reaches 0 t 0 refl) a in
+    let r = way-back t g ns 0 deepest (g .root) (g .used) a l (g .reaches (reachFrom ns t 0 .slot) (h .node) (h .used)) in
+    and-eq-true-iff (leb (length ns) deepest) (shortNames ns) .1 (le-leb (length ns) deepest (omega (arith, r .1)), short-there t f ns 0 l)
+
+module _ (d : Domain) (ns : Names) (t : Table) (g : Good t) (f : Fitting t) (names : allNames ns ≡ true) where
+  -- an answer's change names the path, and is a good one
+  abbrev Told : Answer → Type 0
+  Told a = (c : Change) → a .change ≡ some c → (c .names ≡ ns) × (goodChange c ≡ true)
+
+  untold : (r : Reply) → Told (unchanged d ns t r)
+  unfolding unchanged
+  untold r c e = absurd (nothing e)
+
+  told : (removal : Bool) (after : Table) → fits ns ≡ true → (removal ≡ true → ns ≡ [] → ⊥) → Told (changed d ns t removal after)
+  unfolding changed goodChange
+  told removal after h z c e = rw (← some-is e) (refl, and-eq-true-iff (fits ns) (not (removal && eqb (length ns) 0)) .1 (h, go removal ns z))
+    where
+      go : (b : Bool) (ns : Names) → (b ≡ true → ns ≡ [] → ⊥) → not (b && eqb (length ns) 0) ≡ true
+      go false ns z = refl
+      go true [] z = absurd (z refl refl)
+      go true (n ∷ ns) z = rw eqb·suc-zero
+
+  created-told : (r : Reached) (v : Octets) → Told (created d ns t r v)
+  unfolding created room
+  created-told r v =
+      cond-case Told (mayWrite d (nodeAt t (r .slot))) _ _
+      (cond-known Told (room d ns t (r .left) v) _ _ (λ h.
+      let s = and-eq-true-iff (leb (length v) longestValue) (fits ns && leb (length (r .left)) (freeCount t)) .0 h in
+      told false _ (and-eq-true-iff (fits ns) (leb (length (r .left)) (freeCount t)) .0 (s .1) .0) (λ b. absurd (false≢true b))) (λ h. untold _))
+      (untold _)
+
+  answered-told : (a : Ask) → proper a ns ≡ true → (l : Names) (i : ℕ) → reach t ns ≡ record { slot = i; left = l } → Told (answered d ns t a (record { slot = i; left = l }))
+  unfolding answered looked written directoryMade taken permitted onRoot proper
+  answered-told directory p [] i e = untold _
+  answered-told directory p (n ∷ l) i e = untold _
+  answered-told read p [] i e = untold _
+  answered-told read p (n ∷ l) i e = untold _
+  answered-told getPerms p [] i e = untold _
+  answered-told getPerms p (n ∷ l) i e = untold _
+  answered-told (write v) p [] i e =
+      cond-case Told (mayWrite d (nodeAt t i)) _ _ (cond-case Told (leb (length v) longestValue) _ _ (told false _ (there-fits t g f ns names (ap Reached.left e)) (λ b. absurd (false≢true b))) (untold _)) (untold _)
+  answered-told (write v) p (n ∷ l) i e = created-told _ v
+  answered-told mkdir p [] i e = untold _
+  answered-told mkdir p (n ∷ l) i e = created-told _ []
+  answered-told rm p [] i e = cond-case Told (mayWrite d (nodeAt t i)) _ _ (told true _ (there-fits t g f ns names (ap Reached.left e)) (λ b z. false≢true (rw (z, proper) at p))) (untold _)
+  answered-told rm p (n ∷ l) i e = untold _
+  answered-told (setPerms o es) p [] i e =
+      cond-case Told (maySet d ns t (nodeAt t i) o) _ _
+      (cond-case Told (leb (suc (length es)) mostEntries) _ _ (told false _ (there-fits t g f ns names (ap Reached.left e)) (λ b. absurd (false≢true b))) (untold _)) (untold _)
+  answered-told (setPerms o es) p (n ∷ l) i e = untold _
+
+-- a node request's change names its path, within the sizes
+pub change-good : (d : Domain) (a : Ask) (ns : Names) (t : Table) → Good t → Fitting t → allNames ns ≡ true → proper a ns ≡ true
+    → (c : Change) → answer d a ns t .change ≡ some c → (c .names ≡ ns) × (goodChange c ≡ true)
+unfolding answer
+change-good d a ns t g f hn hp = answered-told d ns t g f hn a hp (reach t ns .left) (reach t ns .slot) refl

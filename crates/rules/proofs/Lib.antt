@@ -11,3 +11,5 @@ pub mod Parsing
 pub mod Places
 pub mod GoodTables
 pub mod GoodAnswers
+pub mod GoodRequests
+pub mod EntryLayouts

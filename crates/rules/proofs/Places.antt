@@ -77,6 +77,14 @@ module _ {A : Type 0} where
       go false p q = (q, cc)
   at-without test (some y ∷ xs) (suc i) x e = at-without test xs i x e
 
+  pub without-at : (test : A → Bool) (xs : List (Option A)) (i : ℕ) (x : A) → At xs i x → test x ≡ false → At (without test xs) i x
+  unfolding without
+  without-at test [] i x e h = e
+  without-at test (none ∷ xs) zero x e h = e
+  without-at test (none ∷ xs) (suc i) x e h = without-at test xs i x e h
+  without-at test (some y ∷ xs) zero x e h = rw (some-is e, h)
+  without-at test (some y ∷ xs) (suc i) x e h = without-at test xs i x e h
+
   pub length-without : (test : A → Bool) (xs : List (Option A)) → length (without test xs) ≡ length xs
   unfolding without
   length-without test [] = refl
