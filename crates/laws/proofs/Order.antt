@@ -97,7 +97,7 @@ length-staled [] = refl
 length-staled (none ∷ xs) = ap suc (length-staled xs)
 length-staled (some x ∷ xs) = ap suc (length-staled xs)
 
-length-staledIf : (b : Bool) (xs : Transactions) → length (staledIf b xs) ≡ length xs
+pub length-staledIf : (b : Bool) (xs : Transactions) → length (staledIf b xs) ≡ length xs
 unfolding staledIf
 length-staledIf false xs = refl
 length-staledIf true xs = length-staled xs
