@@ -13,3 +13,7 @@ pub mod GoodTables
 pub mod GoodAnswers
 pub mod GoodRequests
 pub mod EntryLayouts
+pub mod PathLaws
+pub mod BelowLaws
+pub mod Joined
+pub mod RelativeLaws

@@ -1,4 +1,5 @@
 -- What the accessors of a slot give, whatever bytes the table has.
+use mathlib.Core.Path.{_≡_}
 use mathlib.Core.Bool.{Bool, true, false}
 use mathlib.Core.List.{List, _∷_}
 use mathlib.Core.Option.{Option, none, some}
@@ -7,7 +8,7 @@ use lib.ListN.{length, getD}
 use Rattle.rules.specs.Size.{slotSize, fieldsSize, entriesSize, tableSize, mostEntries}
 use Rattle.rules.specs.Octets.{Octets, field, bitsAt}
 use Rattle.rules.specs.Node.{Entry, Node}
-use Rattle.rules.specs.Layout.{tableOf, entryAt}
+use Rattle.rules.specs.Layout.{tableOf, tableBytes, entryAt}
 
 -- the numbers of a slice are bytes
 abbrev pub Bytes : Octets → Type 0
@@ -38,3 +39,8 @@ entryCount t i = bitsAt (head t i) 0 3
 -- entry k of slot i, the owner's first
 unfoldable pub entryOf : Octets → ℕ → ℕ → Entry
 entryOf t i k = entryAt (field t (i * slotSize + fieldsSize) entriesSize) (mostEntries - 1 - k)
+
+-- a table whose bytes are those of what they mean, as a sound one's are
+pub record Canonical (t : Octets) : Type 0 where
+  pub whole : length t ≡ tableSize
+  pub kept : tableBytes (tableOf t) ≡ t
