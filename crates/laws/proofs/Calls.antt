@@ -9,8 +9,10 @@ use Rattle.rules.specs.Path.{domainOf}
 use Rattle.rules.specs.Layout.{Transaction}
 use Rattle.rules.specs.Sound.{known}
 use Rattle.rules.specs.World.{World, Outcome}
-use Rattle.rules.specs.Call.{txOf, isHandled, frameVerdict, outcomeOf, outcome}
+use Rattle.rules.specs.Call.{typeOf, txOf, payloadOf, isHandled, frameVerdict, outcomeOf, outcome}
 use Rattle.laws.specs.History.{Call, History, requestOf, served, after, run, changedAs, changes, anyChange, transactionAt, isOpen, staysOpen}
+use Rattle.rules.proofs.GoodRequests.{ParsedGood}
+use Rattle.rules.proofs.Parsing.{parse-good}
 use Rattle.rules.proofs.Places.{nothing, some-is}
 use Rattle.laws.proofs.Kept.{Kept, kept-all, or-false}
 use Rattle.laws.proofs.Step.{Step, outcome-step}
@@ -36,6 +38,11 @@ served-known w c o = go (known (domainOf (c .sender)) (w .domains))
     go : (b : Bool) → cond (b && isHandled (frameVerdict (c .message))) (some (outcome w (c .sender) (c .message))) none ≡ some o → b ≡ true
     go true e = refl
     go false e = absurd (nothing e)
+
+-- what a call asks for is a good request
+pub request-good : (c : Call) → ParsedGood (c .sender) (requestOf c)
+unfolding requestOf
+request-good c = parse-good (c .sender) (typeOf (c .message)) (txOf (c .message)) (payloadOf (c .message))
 
 -- a call as a step
 pub call-step : (w : World) (c : Call) (o : Outcome) → served w c ≡ some o → Step w (txOf (c .message)) (changedAs w (txOf (c .message)) (o .reply) (requestOf c)) o

@@ -15,12 +15,12 @@ use Rattle.rules.proofs.Places.{nothing, some-is, set-cases, lowest-free, at-wi
 
 -- an entry that is stale after `staled` was there
 pub getD-staled : (xs : Transactions) (k : ℕ) (y : Transaction) → getD (staled xs) k none ≡ some y
-    → (x : Transaction) × (getD xs k none ≡ some x) × (y .holder ≡ x .holder) × (y .stale ≡ true)
+    → (x : Transaction) × (getD xs k none ≡ some x) × (y .holder ≡ x .holder) × (y .stale ≡ true) × (y .changes ≡ x .changes)
 unfolding staled
 getD-staled [] k y e = absurd (nothing e)
 getD-staled (none ∷ xs) zero y e = absurd (nothing e)
 getD-staled (none ∷ xs) (suc k) y e = getD-staled xs k y e
-getD-staled (some x ∷ xs) zero y e = (x, refl, ap Transaction.holder (sym (some-is e)), ap Transaction.stale (sym (some-is e)))
+getD-staled (some x ∷ xs) zero y e = (x, refl, ap Transaction.holder (sym (some-is e)), ap Transaction.stale (sym (some-is e)), ap Transaction.changes (sym (some-is e)))
 getD-staled (some x ∷ xs) (suc k) y e = getD-staled xs k y e
 
 -- ── one call's effect on an open transaction ──

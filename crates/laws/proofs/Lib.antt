@@ -6,3 +6,4 @@ pub mod Calls
 pub mod Eagain
 pub mod Refusals
 pub mod Order
+pub mod SoundWorld

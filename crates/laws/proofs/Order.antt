@@ -16,7 +16,7 @@ use Rattle.rules.specs.Entries.{isEmpty, lowest, without, has}
 use Rattle.rules.specs.Path.{Domain, Connection, domainOf, Names, isControl}
 use Rattle.rules.specs.Node.{Table, ownedBy, withoutAll}
 use Rattle.rules.specs.Payload.{Ask, Place, path, event, Request, ask, watch, unwatch, start, end, introduce, release, domainPath, isIntroduced, reset, Parsed, unknown, invalid, request}
-use Rattle.rules.specs.Call.{typeOf, txOf, payloadOf, outcomeOf}
+use Rattle.rules.specs.Call.{txOf, outcomeOf}
 use Rattle.rules.specs.Answer.{EINVAL, ENOSYS, EACCES, EEXIST, ENOENT, ENOSPC, EAGAIN, Reply, done, refused, OK, Change, Answer, unchanged, changed, answer}
 use Rattle.rules.specs.Layout.{Domains, Transaction, Transactions, tableBytes, tableOf}
 use Rattle.rules.specs.Sound.{introduced, known, watched}
@@ -31,8 +31,8 @@ use Rattle.rules.proofs.Places.{nothing, some-is, at-below, none-at, at-set, se
 use Rattle.laws.proofs.Kept.{getD-staled}
 use Rattle.laws.proofs.Answers.{and-false, Shape, stays, alters-to, answer-shape}
 use Rattle.laws.proofs.Step.{named}
-use Rattle.laws.proofs.Calls.{served-is, served-known}
-use Rattle.rules.proofs.Parsing.{RequestFits, ParsedFits, parse-fits}
+use Rattle.laws.proofs.Calls.{served-is, served-known, request-good}
+use Rattle.rules.proofs.GoodRequests.{AskedGood, RequestGood, ParsedGood}
 
 -- ── singles one after the other ──
 
@@ -97,7 +97,7 @@ length-staled [] = refl
 length-staled (none ∷ xs) = ap suc (length-staled xs)
 length-staled (some x ∷ xs) = ap suc (length-staled xs)
 
-length-staledIf : (b : Bool) (xs : Transactions) → length (staledIf b xs) ≡ length xs
+pub length-staledIf : (b : Bool) (xs : Transactions) → length (staledIf b xs) ≡ length xs
 unfolding staledIf
 length-staledIf false xs = refl
 length-staledIf true xs = length-staled xs
@@ -401,21 +401,21 @@ module _ (w : World) (ls : Logs) (o : OrderedAt w ls) where
   place-turn c (path r ns) y h = h
   place-turn c (event e) y h = control-turn (λ r. []) refl c y h
 
-  handle-turn : (c : Connection) (tx : ℕ) (q : Request) → domainOf c < 65536 → RequestFits q
+  handle-turn : (c : Connection) (tx : ℕ) (q : Request) → domainOf c < 65536 → RequestGood c q
       → let y = handle w c tx q in Turn w (addedBy w ls c tx (y .reply) q) (loggedBy w ls c tx (y .reply) q) y
   unfolding handle addedBy loggedBy succeeds
-  handle-turn c tx (ask a ns) h f = asked-turn c tx a ns h f
+  handle-turn c tx (ask a ns) h f = asked-turn c tx a ns h (f .fits)
   handle-turn c tx (watch p t depth) h f = place-turn c p _ (watching-turn c p t depth)
   handle-turn c tx (unwatch p t) h f = place-turn c p _ (unwatching-turn c p t)
   handle-turn c tx start h f = starting-turn c
   handle-turn c tx (end commit) h f = ending-turn c tx commit
-  handle-turn c tx (introduce d page channel) h f = control-turn (λ r. []) refl c _ (introducing-turn d page channel f)
+  handle-turn c tx (introduce d page channel) h f = control-turn (λ r. []) refl c _ (introducing-turn d page channel (omega (arith, f .1)))
   handle-turn c tx (release d) h f = control-turn (λ r. cond (succeeds r) (released d ∷ []) []) refl c _ (releasing-turn d)
   handle-turn c tx (domainPath d) h f = left-turn _
   handle-turn c tx (isIntroduced d) h f = left-turn _
   handle-turn c tx reset h f = resetting-turn c
 
-  outcome-turn : (c : Connection) (tx : ℕ) (p : Parsed) → domainOf c < 65536 → ParsedFits p
+  outcome-turn : (c : Connection) (tx : ℕ) (p : Parsed) → domainOf c < 65536 → ParsedGood c p
       → let y = outcomeOf w c tx p in Turn w (addedAs w ls c tx (y .reply) p) (loggedAs w ls c tx (y .reply) p) y
   unfolding outcomeOf addedAs loggedAs
   outcome-turn c tx unknown h f = left-turn (refused ENOSYS)
@@ -423,10 +423,6 @@ module _ (w : World) (ls : Logs) (o : OrderedAt w ls) where
   outcome-turn c tx (request q) h f = handle-turn c tx q h f
 
 -- ── calls ──
-
-request-fits : (c : Call) → ParsedFits (requestOf c)
-unfolding requestOf
-request-fits c = parse-fits (c .sender) (typeOf (c .message)) (txOf (c .message)) (payloadOf (c .message))
 
 -- a call's turn
 call-turn : (w : World) (ls : Logs) (c : Call) → OrderedAt w ls
@@ -442,7 +438,7 @@ call-turn w ls c o = go (served w c) refl
     go none e = (o, refl, tt)
     go (some y) e =
         let t : Turn w (addedAs w ls (c .sender) (txOf (c .message)) (y .reply) (requestOf c)) (loggedAs w ls (c .sender) (txOf (c .message)) (y .reply) (requestOf c)) y
-        = rw (served-is w c y e) at (outcome-turn w ls o (c .sender) (txOf (c .message)) (requestOf c) (small-known (w .domains) _ (o .domains) (served-known w c y e)) (request-fits c)) in
+        = rw (served-is w c y e) at (outcome-turn w ls o (c .sender) (txOf (c .message)) (requestOf c) (small-known (w .domains) _ (o .domains) (served-known w c y e)) (request-good c)) in
         (t .after, t .table, t .answers)
 
 -- from any world that is in order

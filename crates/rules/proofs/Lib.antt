@@ -9,6 +9,10 @@ pub mod Cases
 pub mod Fitting
 pub mod Parsing
 pub mod Places
+pub mod GoodTables
+pub mod GoodAnswers
+pub mod GoodRequests
+pub mod EntryLayouts
 pub mod PathLaws
 pub mod BelowLaws
 pub mod Joined

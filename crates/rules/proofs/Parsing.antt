@@ -1,56 +1,29 @@
 -- What a parsed request is sure to hold.
 use mathlib.Core.Path.{_≡_, refl, sym, _∙_, ap}
-use mathlib.Core.Bool.{Bool, true, false, cond, _&&_, and-eq-true-iff}
-use mathlib.Core.List.{List, [], _∷_, _++_}
-use mathlib.Core.Option.{Option, none, some, Option·none-ne-some, Option·some-injective}
+use mathlib.Core.Bool.{Bool, true, false, cond, not, _&&_, and-eq-true-iff}
+use mathlib.Core.List.{List, [], _∷_, _++_, cons≢nil}
+use mathlib.Core.Option.{Option, none, some}
 use Prim.Native.Nat.{ℕ, zero, suc, _≤_, _<_, _^_, _-_}
 use native.Mathlib.Omega.{arith}
 use lib.Dec.{eqb, leb}
-use borrow.Author.Tests.{leb-true}
+use borrow.Author.Tests.{le-leb}
 use Rattle.rules.specs.Size.{lastDomain, deepestWatch}
-use Rattle.rules.specs.Octets.{Octets, text, nul, same, number, numberIn, signed}
-use Rattle.rules.specs.Path.{Domain, Connection, domainOf, Names, Given, malformed, absolute, relative, special, given}
+use Rattle.rules.specs.Octets.{Octets, text, nul, same, numberIn, signed}
+use Rattle.rules.specs.Path.{Domain, Connection, domainOf, Names, Given, malformed, absolute, relative, special, given, allNames, base, slashed, beyond}
 use Rattle.rules.specs.Node.{Entry}
-use Rattle.rules.specs.Payload.{Ask, directory, read, getPerms, write, mkdir, rm, setPerms, Place, Request, ask, watch, unwatch, start, end, introduce, release, domainPath, isIntroduced, reset, Parsed, unknown, invalid, request, Taken, strings, firstString, accessLetter, entryOf, entriesOf, namesOf, placeOf, proper, asking, plain, writing, setting, settingAll, depthFor, watchingTo, watching, unwatching, introducingOf, introducing, ofDomain, bare, starting, ending, parse}
+use Rattle.rules.specs.Payload.{Ask, directory, read, getPerms, write, mkdir, rm, setPerms, Place, Request, ask, watch, unwatch, start, end, introduce, release, domainPath, isIntroduced, reset, Parsed, unknown, invalid, request, Taken, before, ended, strings, firstString, accessLetter, entryOf, entriesOf, namesOf, placeOf, proper, asking, plain, writing, setting, settingAll, depthFor, watchingTo, watching, unwatching, introducingOf, introducing, ofDomain, bare, starting, ending, parse}
 use Rattle.rules.proofs.Cases.{cond-case, cond-known}
-use Rattle.rules.proofs.Tables.{Each}
+use Rattle.rules.specs.Sound.{goodEntries, noNul, strictlyBelow}
+use Rattle.rules.proofs.Decimals.{range-bounds}
+use Rattle.rules.proofs.PathLaws.{Means, means, beyond-append}
+use Rattle.rules.proofs.RelativeLaws.{names-append, base-names}
+use Rattle.rules.proofs.Tables.{Each, each-map}
 use Rattle.rules.proofs.Slots.{EntryFits}
 use Rattle.rules.proofs.Fitting.{AskFits}
-
--- a request whose numbers fit their fields
-abbrev pub RequestFits : Request → Type 0
-RequestFits (ask a ns) = AskFits a
-RequestFits (watch p t depth) = Unit {0}
-RequestFits (unwatch p t) = Unit {0}
-RequestFits start = Unit {0}
-RequestFits (end commit) = Unit {0}
-RequestFits (introduce d page channel) = d < 65536
-RequestFits (release d) = Unit {0}
-RequestFits (domainPath d) = Unit {0}
-RequestFits (isIntroduced d) = Unit {0}
-RequestFits reset = Unit {0}
-
-abbrev pub ParsedFits : Parsed → Type 0
-ParsedFits unknown = Unit {0}
-ParsedFits invalid = Unit {0}
-ParsedFits (request r) = RequestFits r
+use Rattle.rules.proofs.GoodAnswers.{AskGood}
+use Rattle.rules.proofs.GoodRequests.{PlaceGood, RequestGood, ParsedGood}
 
 -- ── numbers and entries ──
-
-number-in : (low high : ℕ) (s : Octets) (n : ℕ) → numberIn low high s ≡ some n → (low ≤ n) × (n ≤ high)
-unfolding numberIn
-number-in low high s n = go (number s)
-  where
-    pick : (m : ℕ) (b : Bool) → (leb low m && leb m high) ≡ b → cond b (some m) none ≡ some n → (low ≤ n) × (n ≤ high)
-    pick m true p q =
-        let h = and-eq-true-iff (leb low m) (leb m high) .0 p in
-        let e = Option·some-injective m n q in
-        (rw (← e) (leb-true low m (h .0)), rw (← e) (leb-true m high (h .1)))
-    pick m false p q = absurd (Option·none-ne-some n q)
-
-    go : (m : Option ℕ) → (elim m [ none ↦ none | some n ↦ cond (leb low n && leb n high) (some n) none ]) ≡ some n → (low ≤ n) × (n ≤ high)
-    go none q = absurd (Option·none-ne-some n q)
-    go (some m) q = pick m (leb low m && leb m high) refl q
 
 -- what an optional value is, if it is there
 abbrev Whenever : {A : Type 0} → (A → Type 0) → Option A → Type 0
@@ -62,7 +35,7 @@ range low high s = go (numberIn low high s) refl
   where
     go : (m : Option ℕ) → numberIn low high s ≡ m → Whenever (λ (n : ℕ). (low ≤ n) × (n ≤ high)) m
     go none e = tt
-    go (some n) e = number-in low high s n e
+    go (some n) e = range-bounds low high s n e
 
 letter : (c : ℕ) → Whenever (λ (a : ℕ). a < 4) (accessLetter c)
 unfolding accessLetter
@@ -72,138 +45,205 @@ letter c =
     P : Option ℕ → Type 0
     P = Whenever (λ (a : ℕ). a < 4)
 
-entry-fits : (s : Octets) → Whenever EntryFits (entryOf s)
+-- an entry's access and domain are in range
+pub record EntryGood (e : Entry) : Type 0 where
+  pub fits : EntryFits e
+  pub domain : leb (e .domain) lastDomain ≡ true
+
+entry-good : (s : Octets) → Whenever EntryGood (entryOf s)
 unfolding entryOf
-entry-fits [] = tt
-entry-fits (c ∷ cs) = go (accessLetter c) (numberIn 0 lastDomain cs) (letter c) (range 0 lastDomain cs)
+entry-good [] = tt
+entry-good (c ∷ cs) = go (accessLetter c) (numberIn 0 lastDomain cs) (letter c) (range 0 lastDomain cs)
   where
     go : (a d : Option ℕ) → Whenever (λ (a : ℕ). a < 4) a → Whenever (λ (n : ℕ). (0 ≤ n) × (n ≤ lastDomain)) d
-        → Whenever EntryFits (elim a [ none ↦ none | some a ↦ elim d [ none ↦ none | some d ↦ some (record { access = a; domain = d }) ] ])
+        → Whenever EntryGood (elim a [ none ↦ none | some a ↦ elim d [ none ↦ none | some d ↦ some (record { access = a; domain = d }) ] ])
     go none d h k = tt
     go (some a) none h k = tt
-    go (some a) (some d) h k = record { access = h; domain = omega (arith, k .1) }
+    go (some a) (some d) h k = record { fits = record { access = h; domain = omega (arith, k .1) }; domain = le-leb d lastDomain (k .1) }
 
-entries-fit : (ss : List Octets) → Whenever (Each EntryFits) (entriesOf ss)
+entries-are : (ss : List Octets) → Whenever (Each EntryGood) (entriesOf ss)
 unfolding entriesOf
-entries-fit [] = tt
-entries-fit (s ∷ ss) = go (entryOf s) (entriesOf ss) (entry-fits s) (entries-fit ss)
+entries-are [] = tt
+entries-are (s ∷ ss) = go (entryOf s) (entriesOf ss) (entry-good s) (entries-are ss)
   where
-    go : (e : Option Entry) (es : Option (List Entry)) → Whenever EntryFits e → Whenever (Each EntryFits) es
-        → Whenever (Each EntryFits) (elim e [ none ↦ none | some e ↦ elim es [ none ↦ none | some es ↦ some (e ∷ es) ] ])
+    go : (e : Option Entry) (es : Option (List Entry)) → Whenever EntryGood e → Whenever (Each EntryGood) es
+        → Whenever (Each EntryGood) (elim e [ none ↦ none | some e ↦ elim es [ none ↦ none | some es ↦ some (e ∷ es) ] ])
     go none es h k = tt
     go (some e) none h k = tt
     go (some e) (some es) h k = (h, k)
 
+all-good : (es : List Entry) → Each EntryGood es → goodEntries es ≡ true
+unfolding goodEntries
+all-good [] h = refl
+all-good (e ∷ es) h = and-eq-true-iff (leb (e .domain) lastDomain) (goodEntries es) .1 (h .0 .domain, all-good es (h .1))
+
+-- ── strings ──
+
+no-nul : (s : Octets) → Whenever (Each (λ (t : Octets). noNul t ≡ true)) (strings s)
+unfolding strings ended before noNul
+no-nul [] = tt
+no-nul (c ∷ cs) = go (strings cs) (no-nul cs)
+  where
+    NoNuls : Option (List Octets) → Type 0
+    NoNuls = Whenever (Each (λ (t : Octets). noNul t ≡ true))
+
+    end-of : (m : Option (List Octets)) → NoNuls m → NoNuls (ended m)
+    end-of none h = tt
+    end-of (some ss) h = (refl, h)
+
+    byte : (m : Option (List Octets)) → eqb c 0 ≡ false → NoNuls m → NoNuls (before c m)
+    byte none e h = tt
+    byte (some []) e h = tt
+    byte (some (t ∷ ts)) e h = (and-eq-true-iff (not (eqb c 0)) (noNul t) .1 (ap not e, h .0), h .1)
+
+    go : (m : Option (List Octets)) → NoNuls m → NoNuls (cond (eqb c 0) (ended m) (before c m))
+    go m h = cond-known NoNuls (eqb c 0) _ _ (λ e. end-of m h) (λ e. byte m e h)
+
+-- ── paths ──
+
+-- below a domain's base
+below-base : (d : Domain) (ns : Names) → allNames ns ≡ true → allNames (base d ++ ns) ≡ true
+below-base d ns h = rw (names-append (base d) ns, base-names d) h
+
+names-are : (d : Domain) (s : Octets) → Whenever (λ (ns : Names). allNames ns ≡ true) (namesOf d (given s))
+unfolding namesOf
+names-are d s = go (given s) (means s)
+  where
+    go : (g : Given) → Means s g → Whenever (λ (ns : Names). allNames ns ≡ true) (namesOf d g)
+    go malformed m = tt
+    go (absolute ns) m = m .names
+    go (relative ns) m = below-base d ns (m .names)
+    go (special t) m = tt
+
+strictly : (c : Connection) (s : Octets) (ns : Names) → 47 ∷ s ≡ slashed ns → strictlyBelow (beyond (base (domainOf c)) (base (domainOf c) ++ ns)) ≡ true
+unfolding slashed strictlyBelow
+strictly c s [] e = absurd (cons≢nil e)
+strictly c s (n ∷ ns) e = rw beyond-append
+
+place-is : (c : Connection) (s : Octets) → Whenever (PlaceGood c) (placeOf (domainOf c) (given s))
+unfolding placeOf
+place-is c s = go (given s) refl (means s)
+  where
+    go : (g : Given) → given s ≡ g → Means s g → Whenever (PlaceGood c) (placeOf (domainOf c) g)
+    go malformed e m = tt
+    go (absolute ns) e m = (m .names, refl)
+    go (relative ns) e m = (below-base (domainOf c) ns (m .names), strictly c s ns (m .text))
+    go (special t) e m = rw (m .text) (e ∙ ap special (m .text))
+
 -- ── each type's payload ──
 
-asking-fits : (d : Domain) (a : Ask) (s : Octets) → AskFits a → ParsedFits (asking d a s)
-unfolding asking
-asking-fits d a s f = go (namesOf d (given s))
-  where
-    go : (m : Option Names) → ParsedFits (elim m [ none ↦ invalid | some ns ↦ cond (proper a ns) (request (ask a ns)) invalid ])
-    go none = tt
-    go (some ns) = cond-case ParsedFits (proper a ns) _ _ f tt
+module _ (c : Connection) where
+  abbrev Fine : Parsed → Type 0
+  Fine = ParsedGood c
 
-plain-fits : (d : Domain) (a : Ask) (ss : Option (List Octets)) → AskFits a → ParsedFits (plain d a ss)
-unfolding plain
-plain-fits d a none f = tt
-plain-fits d a (some []) f = tt
-plain-fits d a (some (s ∷ [])) f = asking-fits d a s f
-plain-fits d a (some (s ∷ t ∷ ss)) f = tt
+  asking-good : (a : Ask) (s : Octets) → AskGood a → AskFits a → Fine (asking (domainOf c) a s)
+  unfolding asking
+  asking-good a s g f = go (namesOf (domainOf c) (given s)) (names-are (domainOf c) s)
+    where
+      go : (m : Option Names) → Whenever (λ (ns : Names). allNames ns ≡ true) m → Fine (elim m [ none ↦ invalid | some ns ↦ cond (proper a ns) (request (ask a ns)) invalid ])
+      go none h = tt
+      go (some ns) h = cond-known Fine (proper a ns) _ _ (λ e. record { names = h; proper = e; entries = g; fits = f }) (λ e. tt)
 
-writing-fits : (d : Domain) (t : Option Taken) → ParsedFits (writing d t)
-unfolding writing
-writing-fits d none = tt
-writing-fits d (some t) = asking-fits d (write (t .rest)) (t .first) tt
+  plain-good : (a : Ask) (ss : Option (List Octets)) → AskGood a → AskFits a → Fine (plain (domainOf c) a ss)
+  unfolding plain
+  plain-good a none g f = tt
+  plain-good a (some []) g f = tt
+  plain-good a (some (s ∷ [])) g f = asking-good a s g f
+  plain-good a (some (s ∷ t ∷ ss)) g f = tt
 
-setting-fits : (d : Domain) (s : Octets) (es : Option (List Entry)) → Whenever (Each EntryFits) es → ParsedFits (setting d s es)
-unfolding setting
-setting-fits d s none h = tt
-setting-fits d s (some []) h = tt
-setting-fits d s (some (o ∷ es)) h = asking-fits d (setPerms o es) s (h .0, h .1)
+  writing-good : (t : Option Taken) → Fine (writing (domainOf c) t)
+  unfolding writing
+  writing-good none = tt
+  writing-good (some t) = asking-good (write (t .rest)) (t .first) tt tt
 
-settingAll-fits : (d : Domain) (ss : Option (List Octets)) → ParsedFits (settingAll d ss)
-unfolding settingAll
-settingAll-fits d none = tt
-settingAll-fits d (some []) = tt
-settingAll-fits d (some (s ∷ ss)) = setting-fits d s (entriesOf ss) (entries-fit ss)
+  setting-good : (s : Octets) (es : Option (List Entry)) → Whenever (Each EntryGood) es → Fine (setting (domainOf c) s es)
+  unfolding setting
+  setting-good s none h = tt
+  setting-good s (some []) h = tt
+  setting-good s (some (o ∷ es)) h = asking-good (setPerms o es) s (all-good (o ∷ es) h) (h .0 .fits, each-map EntryGood EntryFits (λ (e : Entry) (g : EntryGood e). g .fits) es (h .1))
 
-watchingTo-fits : (p : Place) (t : Octets) (k : Option ℕ) → ParsedFits (watchingTo p t k)
-unfolding watchingTo
-watchingTo-fits p t none = tt
-watchingTo-fits p t (some k) = cond-case ParsedFits (depthFor p k) _ _ tt tt
+  settingAll-good : (ss : Option (List Octets)) → Fine (settingAll (domainOf c) ss)
+  unfolding settingAll
+  settingAll-good none = tt
+  settingAll-good (some []) = tt
+  settingAll-good (some (s ∷ ss)) = setting-good s (entriesOf ss) (entries-are ss)
 
-placed : (m : Option Place) (f : Place → Parsed) → ((p : Place) → ParsedFits (f p)) → ParsedFits (elim m [ none ↦ invalid | some p ↦ f p ])
-placed none f h = tt
-placed (some p) f h = h p
+  watchingTo-good : (p : Place) (t : Octets) (k : Option ℕ) → PlaceGood c p → noNul t ≡ true → Whenever (λ (n : ℕ). (0 ≤ n) × (n ≤ deepestWatch)) k → Fine (watchingTo p t k)
+  unfolding watchingTo
+  watchingTo-good p t none g n h = tt
+  watchingTo-good p t (some k) g n h = cond-known Fine (depthFor p k) _ _ (λ e. record { place = g; token = n; depth = (h .1, e) }) (λ e. tt)
 
-watching-fits : (d : Domain) (ss : Option (List Octets)) → ParsedFits (watching d ss)
-unfolding watching
-watching-fits d none = tt
-watching-fits d (some []) = tt
-watching-fits d (some (s ∷ [])) = tt
-watching-fits d (some (s ∷ t ∷ [])) = placed (placeOf d (given s)) _ (λ p. tt)
-watching-fits d (some (s ∷ t ∷ k ∷ [])) = placed (placeOf d (given s)) _ (λ p. watchingTo-fits p t (numberIn 0 deepestWatch k))
-watching-fits d (some (s ∷ t ∷ k ∷ u ∷ us)) = tt
+  placed : (m : Option Place) (f : Place → Parsed) → Whenever (PlaceGood c) m → ((p : Place) → PlaceGood c p → Fine (f p)) → Fine (elim m [ none ↦ invalid | some p ↦ f p ])
+  placed none f g h = tt
+  placed (some p) f g h = h p g
 
-unwatching-fits : (d : Domain) (ss : Option (List Octets)) → ParsedFits (unwatching d ss)
-unfolding unwatching
-unwatching-fits d none = tt
-unwatching-fits d (some []) = tt
-unwatching-fits d (some (s ∷ [])) = tt
-unwatching-fits d (some (s ∷ t ∷ [])) = placed (placeOf d (given s)) _ (λ p. tt)
-unwatching-fits d (some (s ∷ t ∷ u ∷ us)) = tt
+  watching-good : (ss : Option (List Octets)) → Whenever (Each (λ (t : Octets). noNul t ≡ true)) ss → Fine (watching (domainOf c) ss)
+  unfolding watching
+  watching-good none n = tt
+  watching-good (some []) n = tt
+  watching-good (some (s ∷ [])) n = tt
+  watching-good (some (s ∷ t ∷ [])) n = placed (placeOf (domainOf c) (given s)) _ (place-is c s) (λ p g. record { place = g; token = n .1 .0; depth = tt })
+  watching-good (some (s ∷ t ∷ k ∷ [])) n =
+      placed (placeOf (domainOf c) (given s)) _ (place-is c s) (λ p g. watchingTo-good p t (numberIn 0 deepestWatch k) g (n .1 .0) (range 0 deepestWatch k))
+  watching-good (some (s ∷ t ∷ k ∷ u ∷ us)) n = tt
 
-introducing-fits : (ss : Option (List Octets)) → ParsedFits (introducing ss)
-unfolding introducing introducingOf
-introducing-fits none = tt
-introducing-fits (some []) = tt
-introducing-fits (some (s ∷ [])) = tt
-introducing-fits (some (s ∷ t ∷ [])) = tt
-introducing-fits (some (s ∷ t ∷ u ∷ [])) = go (numberIn 1 lastDomain s) (signed t) (numberIn 0 (2 ^ 32 - 1) u) (range 1 lastDomain s)
-  where
-    go : (i p c : Option ℕ) → Whenever (λ (n : ℕ). (1 ≤ n) × (n ≤ lastDomain)) i → ParsedFits (introducingOf i p c)
-    go none p c h = tt
-    go (some i) none c h = tt
-    go (some i) (some p) none h = tt
-    go (some i) (some p) (some c) h = omega (arith, h .1)
-introducing-fits (some (s ∷ t ∷ u ∷ v ∷ vs)) = tt
+  unwatching-good : (ss : Option (List Octets)) → Fine (unwatching (domainOf c) ss)
+  unfolding unwatching
+  unwatching-good none = tt
+  unwatching-good (some []) = tt
+  unwatching-good (some (s ∷ [])) = tt
+  unwatching-good (some (s ∷ t ∷ [])) = placed (placeOf (domainOf c) (given s)) _ (place-is c s) (λ p g. tt)
+  unwatching-good (some (s ∷ t ∷ u ∷ us)) = tt
 
-ofDomain-fits : (low : ℕ) (f : Domain → Request) → ((i : Domain) → RequestFits (f i)) → (ss : Option (List Octets)) → ParsedFits (ofDomain low f ss)
-unfolding ofDomain
-ofDomain-fits low f h none = tt
-ofDomain-fits low f h (some []) = tt
-ofDomain-fits low f h (some (s ∷ [])) = go (numberIn low lastDomain s)
-  where
-    go : (m : Option ℕ) → ParsedFits (elim m [ none ↦ invalid | some i ↦ request (f i) ])
-    go none = tt
-    go (some i) = h i
-ofDomain-fits low f h (some (s ∷ t ∷ ss)) = tt
+  introducing-good : (ss : Option (List Octets)) → Fine (introducing ss)
+  unfolding introducing introducingOf
+  introducing-good none = tt
+  introducing-good (some []) = tt
+  introducing-good (some (s ∷ [])) = tt
+  introducing-good (some (s ∷ t ∷ [])) = tt
+  introducing-good (some (s ∷ t ∷ u ∷ [])) = go (numberIn 1 lastDomain s) (signed t) (numberIn 0 (2 ^ 32 - 1) u) (range 1 lastDomain s)
+    where
+      go : (i p n : Option ℕ) → Whenever (λ (n : ℕ). (1 ≤ n) × (n ≤ lastDomain)) i → Fine (introducingOf i p n)
+      go none p n h = tt
+      go (some i) none n h = tt
+      go (some i) (some p) none h = tt
+      go (some i) (some p) (some n) h = h
+  introducing-good (some (s ∷ t ∷ u ∷ v ∷ vs)) = tt
 
--- ── every message ──
+  ofDomain-good : (low : ℕ) (f : Domain → Request) → ((i : Domain) → (low ≤ i) × (i ≤ lastDomain) → RequestGood c (f i)) → (ss : Option (List Octets)) → Fine (ofDomain low f ss)
+  unfolding ofDomain
+  ofDomain-good low f h none = tt
+  ofDomain-good low f h (some []) = tt
+  ofDomain-good low f h (some (s ∷ [])) = go (numberIn low lastDomain s) (range low lastDomain s)
+    where
+      go : (m : Option ℕ) → Whenever (λ (n : ℕ). (low ≤ n) × (n ≤ lastDomain)) m → Fine (elim m [ none ↦ invalid | some i ↦ request (f i) ])
+      go none r = tt
+      go (some i) r = h i r
+  ofDomain-good low f h (some (s ∷ t ∷ ss)) = tt
 
-pub parse-fits : (c : Connection) (type tx : ℕ) (s : Octets) → ParsedFits (parse c type tx s)
-unfolding parse bare starting ending
-parse-fits c type tx s =
-    let d = domainOf c in
-    let ss = strings s in
-    next 1 _ _ (plain-fits d directory ss tt)
-    (next 2 _ _ (plain-fits d read ss tt)
-    (next 3 _ _ (plain-fits d getPerms ss tt)
-    (next 4 _ _ (watching-fits d ss)
-    (next 5 _ _ (unwatching-fits d ss)
-    (next 6 _ _ (cond-case ParsedFits (eqb tx 0) _ _ (cond-case ParsedFits (same s nul) _ _ tt tt) tt)
-    (next 7 _ _ (cond-case ParsedFits (same s (text "T" ++ nul)) _ _ tt (cond-case ParsedFits (same s (text "F" ++ nul)) _ _ tt tt))
-    (next 8 _ _ (introducing-fits ss)
-    (next 9 _ _ (ofDomain-fits 1 release (λ i. tt) ss)
-    (next 10 _ _ (ofDomain-fits 0 domainPath (λ i. tt) ss)
-    (next 11 _ _ (writing-fits d (firstString s))
-    (next 12 _ _ (plain-fits d mkdir ss tt)
-    (next 13 _ _ (plain-fits d rm ss tt)
-    (next 14 _ _ (settingAll-fits d ss)
-    (next 17 _ _ (ofDomain-fits 0 isIntroduced (λ i. tt) ss)
-    (next 21 _ _ (cond-case ParsedFits (same s nul) _ _ tt tt)
-    tt)))))))))))))))
-  where
-    next : (k : ℕ) (x y : Parsed) → ParsedFits x → ParsedFits y → ParsedFits (cond (eqb type k) x y)
-    next k x y p q = cond-case ParsedFits (eqb type k) x y p q
+  -- ── every message ──
+
+  pub parse-good : (type tx : ℕ) (s : Octets) → Fine (parse c type tx s)
+  unfolding parse bare starting ending
+  parse-good type tx s =
+      let ss = strings s in
+      next 1 _ _ (plain-good directory ss tt tt)
+      (next 2 _ _ (plain-good read ss tt tt)
+      (next 3 _ _ (plain-good getPerms ss tt tt)
+      (next 4 _ _ (watching-good ss (no-nul s))
+      (next 5 _ _ (unwatching-good ss)
+      (next 6 _ _ (cond-case Fine (eqb tx 0) _ _ (cond-case Fine (same s nul) _ _ tt tt) tt)
+      (next 7 _ _ (cond-case Fine (same s (text "T" ++ nul)) _ _ tt (cond-case Fine (same s (text "F" ++ nul)) _ _ tt tt))
+      (next 8 _ _ (introducing-good ss)
+      (next 9 _ _ (ofDomain-good 1 release (λ i r. r) ss)
+      (next 10 _ _ (ofDomain-good 0 domainPath (λ i r. tt) ss)
+      (next 11 _ _ (writing-good (firstString s))
+      (next 12 _ _ (plain-good mkdir ss tt tt)
+      (next 13 _ _ (plain-good rm ss tt tt)
+      (next 14 _ _ (settingAll-good ss)
+      (next 17 _ _ (ofDomain-good 0 isIntroduced (λ i r. tt) ss)
+      (next 21 _ _ (cond-case Fine (same s nul) _ _ tt tt)
+      tt)))))))))))))))
+    where
+      next : (k : ℕ) (x y : Parsed) → Fine x → Fine y → Fine (cond (eqb type k) x y)
+      next k x y p q = cond-case Fine (eqb type k) x y p q

@@ -1,6 +1,6 @@
 -- Entries in places: what a written, freed or found place holds.
 use mathlib.Core.Path.{_≡_, refl, sym, _∙_, ap}
-use mathlib.Core.Bool.{Bool, true, false, cond, not, _&&_, _||_, false≢true, true≢false}
+use mathlib.Core.Bool.{Bool, true, false, cond, not, _&&_, _||_, false≢true, true≢false, and-eq-true-iff}
 use mathlib.Core.List.{List, [], _∷_}
 use mathlib.Core.Option.{Option, none, some}
 use Prim.Native.Nat.{ℕ, zero, suc, _<_}
@@ -8,6 +8,7 @@ use native.Mathlib.Omega.{arith}
 use native.Mathlib.Decide.{ℕ-discrete}
 use lib.ListN.{length, getD, set, replicate}
 use lib.Seq.{getD-set-other}
+use borrow.Author.Tests.{not-true}
 use Rattle.rules.specs.Entries.{lowest, has, without}
 
 pub nothing : {A : Type 0} {y : A} → _≡_ {A = Option A} none (some y) → ⊥
@@ -76,6 +77,14 @@ module _ {A : Type 0} where
       go false p q = (q, cc)
   at-without test (some y ∷ xs) (suc i) x e = at-without test xs i x e
 
+  pub without-at : (test : A → Bool) (xs : List (Option A)) (i : ℕ) (x : A) → At xs i x → test x ≡ false → At (without test xs) i x
+  unfolding without
+  without-at test [] i x e h = e
+  without-at test (none ∷ xs) zero x e h = e
+  without-at test (none ∷ xs) (suc i) x e h = without-at test xs i x e h
+  without-at test (some y ∷ xs) zero x e h = rw (some-is e, h)
+  without-at test (some y ∷ xs) (suc i) x e h = without-at test xs i x e h
+
   pub length-without : (test : A → Bool) (xs : List (Option A)) → length (without test xs) ≡ length xs
   unfolding without
   length-without test [] = refl
@@ -113,3 +122,50 @@ module _ {A : Type 0} where
 
   pub has-not : (test : A → Bool) (xs : List (Option A)) → ((i : ℕ) (x : A) → At xs i x → test x ≡ false) → has test xs ≡ false
   has-not test xs h = is-false (has test xs) λ e. let r = has-at test xs e in true≢false (sym (r .3) ∙ h (r .0) (r .1) (r .2))
+
+  -- ── entries that all pass a test, or differ two by two ──
+
+  unfoldable pub every : (A → Bool) → List (Option A) → Bool
+  every test [] = true
+  every test (none ∷ xs) = every test xs
+  every test (some x ∷ xs) = test x && every test xs
+
+  unfoldable pub apart : (A → A → Bool) → List (Option A) → Bool
+  apart rel [] = true
+  apart rel (none ∷ xs) = apart rel xs
+  apart rel (some x ∷ xs) = not (has (rel x) xs) && apart rel xs
+
+  pub every-at : (test : A → Bool) (xs : List (Option A)) → every test xs ≡ true → (i : ℕ) (x : A) → At xs i x → test x ≡ true
+  unfolding every
+  every-at test [] h i x e = absurd (nothing e)
+  every-at test (none ∷ xs) h zero x e = absurd (nothing e)
+  every-at test (none ∷ xs) h (suc i) x e = every-at test xs h i x e
+  every-at test (some y ∷ xs) h zero x e = rw (← some-is e) (and-eq-true-iff (test y) (every test xs) .0 h .0)
+  every-at test (some y ∷ xs) h (suc i) x e = every-at test xs (and-eq-true-iff (test y) (every test xs) .0 h .1) i x e
+
+  pub at-every : (test : A → Bool) (xs : List (Option A)) → ((i : ℕ) (x : A) → At xs i x → test x ≡ true) → every test xs ≡ true
+  unfolding every
+  at-every test [] h = refl
+  at-every test (none ∷ xs) h = at-every test xs (λ i. h (suc i))
+  at-every test (some y ∷ xs) h = and-eq-true-iff (test y) (every test xs) .1 (h 0 y refl, at-every test xs (λ i. h (suc i)))
+
+  pub apart-at : (rel : A → A → Bool) (xs : List (Option A)) → apart rel xs ≡ true → (i j : ℕ) (x y : A) → i < j → At xs i x → At xs j y → rel x y ≡ false
+  unfolding apart
+  apart-at rel [] h i j x y l p q = absurd (nothing p)
+  apart-at rel (none ∷ xs) h zero j x y l p q = absurd (nothing p)
+  apart-at rel (none ∷ xs) h (suc i) zero x y l p q = absurd (omega arith)
+  apart-at rel (none ∷ xs) h (suc i) (suc j) x y l p q = apart-at rel xs h i j x y (omega arith) p q
+  apart-at rel (some z ∷ xs) h zero zero x y l p q = absurd (omega arith)
+  apart-at rel (some z ∷ xs) h zero (suc j) x y l p q =
+      rw (← some-is p) (not-has (rel z) xs (not-true _ (and-eq-true-iff (not (has (rel z) xs)) (apart rel xs) .0 h .0)) j y q)
+  apart-at rel (some z ∷ xs) h (suc i) zero x y l p q = absurd (omega arith)
+  apart-at rel (some z ∷ xs) h (suc i) (suc j) x y l p q =
+      apart-at rel xs (and-eq-true-iff (not (has (rel z) xs)) (apart rel xs) .0 h .1) i j x y (omega arith) p q
+
+  pub at-apart : (rel : A → A → Bool) (xs : List (Option A)) → ((i j : ℕ) (x y : A) → i < j → At xs i x → At xs j y → rel x y ≡ false) → apart rel xs ≡ true
+  unfolding apart
+  at-apart rel [] h = refl
+  at-apart rel (none ∷ xs) h = at-apart rel xs (λ i j x y l. h (suc i) (suc j) x y (omega arith))
+  at-apart rel (some z ∷ xs) h =
+      and-eq-true-iff (not (has (rel z) xs)) (apart rel xs) .1
+      (ap not (has-not (rel z) xs (λ j y. h 0 (suc j) z y (omega arith) refl)), at-apart rel xs (λ i j x y l. h (suc i) (suc j) x y (omega arith)))
