@@ -55,3 +55,23 @@ pub fn child(t: &[u8], p: usize, n: &[u8]) -> Found
     }
     Found::Nowhere
 }
+
+// How far a full path leads: the last slot that is there, and where in the text the first missing name begins, or its end.
+pub fn reach(t: &[u8], path: &[u8]) -> Reached
+    requires { ⌜ (soundTable (now t) ≡ true) × (isFull (now path) ≡ true) ⌝ }
+    ensures { λ r. ⌜ Reaches (now (t .entry)) (now (path .entry)) (r .slot) (r .at) ⌝ }
+{
+    let mut slot = 0;
+    let mut at = 1;
+    while at < path.len() {
+        let end = name_end(path, at);
+        match child(t, slot, &path[at..end]) {
+            Found::At(i) => {
+                slot = i;
+                at = end + 1;
+            }
+            Found::Nowhere => return Reached { slot, at },
+        }
+    }
+    Reached { slot, at }
+}

@@ -8,7 +8,7 @@ use native.Mathlib.Nat.{add-zero, min-le-left, min-le-right}
 use native.Mathlib.Omega.{arith}
 use lib.ListN.{length, getD, take, drop, length-take}
 use lib.Seq.{getD-take}
-use lib.Dec.{eqb}
+use lib.Dec.{eqb, lit<}
 use borrow.Author.Tests.{eqb-true}
 use Rattle.rules.specs.Size.{slots, slotSize, tableSize}
 use Rattle.rules.specs.Octets.{Octets, same, field, bitsAt, pack, packFrom}
@@ -20,6 +20,7 @@ use Rattle.rules.proofs.Tables.{encoded-at, each-map}
 use Rattle.rules.proofs.Fields.{field-part, field-first}
 use Rattle.rules.proofs.Slots.{SlotFits, NodeFits, slot-width, head-bound, length-tableOf}
 use Rattle.rules.proofs.Places.{some-is}
+use Rattle.rules.proofs.GoodTables.{Good, good-of}
 use Rattle.rules.proofs.Fitting.{decoded-fits, slotAt-fits}
 use Rattle.slots.specs.Slot.{slotAt, isUsed, head, nameLength, valueLength, entryCount, entryOf, Canonical}
 use Rattle.slots.proofs.Reading.{chunk, meant, used-slot}
@@ -127,3 +128,10 @@ module _ (t : Octets) (s : soundTable t ≡ true) (i : ℕ) (h : i < slots) (u :
 
   pub value-short : valueLength t i ≤ 64
   value-short = rw (value-length-is t (sound-canonical t s) i h (node .0) (node .1)) (node-fits t (sound-canonical t s) i h (node .0) (node .1) .value)
+
+-- what holds of a sound table, slot by slot
+pub sound-slots : (t : Octets) → soundTable t ≡ true → Good (tableOf t)
+sound-slots t s = good-of (tableOf t) (rw (length-tableOf t) (lit< tt)) (sound-good t s)
+
+pub root-used : (t : Octets) → soundTable t ≡ true → isUsed (slotAt t 0) ≡ true
+root-used t s = ap isUsed (sound-slots t s .used)
