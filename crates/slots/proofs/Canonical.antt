@@ -115,7 +115,7 @@ entry-is t i h n e k d hk =
 
 -- ── a sound table's used slots ──
 
-used-some : (x : Option Node) → isUsed x ≡ true → (n : Node) × (x ≡ some n)
+pub used-some : (x : Option Node) → isUsed x ≡ true → (n : Node) × (x ≡ some n)
 used-some none u = absurd (let z : _≡_ {A = Bool} false true = u in true≢false (sym z))
 used-some (some n) u = (n, refl)
 
