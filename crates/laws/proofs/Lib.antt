@@ -7,3 +7,4 @@ pub mod Eagain
 pub mod Refusals
 pub mod Order
 pub mod SoundWorld
+pub mod Soundness
