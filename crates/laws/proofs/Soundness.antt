@@ -5,27 +5,28 @@ use mathlib.Core.List.{List, [], _∷_, _++_, map, flatMap}
 use mathlib.Core.Option.{Option, none, some}
 use Prim.Native.Nat.{ℕ, zero, suc, _+_, _*_, _-_, _≤_, _<_}
 use native.Mathlib.Omega.{arith}
-use lib.ListN.{length, getD, set, take, drop, length-map}
+use lib.ListN.{length, getD, set, take, drop, length-map, length-take, length-drop, take-append-drop}
 use lib.Seq.{take-at, drop-at}
 use lib.Dec.{eqb, ltb, leb}
 use borrow.Author.Tests.{eqb-true, eq-eqb, eqb-false, ne-eqb, leb-true, le-leb, not-true}
-use Rattle.rules.specs.Size.{mostTransactions, mostDomains, mostWatches, tableSize, copiesSize, domainsSize, watchesSize, transactionsSize, lastDomain}
-use Rattle.rules.specs.Octets.{Octets, same, chunks}
+use Rattle.rules.specs.Size.{mostTransactions, mostDomains, mostWatches, tableSize, copiesSize, domainsSize, watchesSize, transactionsSize, transactionSize, mostChanges, lastDomain}
+use Rattle.rules.specs.Octets.{Octets, same, chunks, field}
 use Rattle.rules.specs.Entries.{has}
 use Rattle.rules.specs.Path.{Domain, domainOf}
+use Rattle.rules.specs.Payload.{Place, path, event}
 use Rattle.rules.specs.Answer.{Change}
 use Rattle.rules.specs.Event.{Watch, Watches, placeText}
-use Rattle.rules.specs.Layout.{Domains, Transaction, Transactions, tableBytes, tableOf, domainsBytes, domainsOf, watchesBytes, watchesOf, transactionsBytes, transactionsOf}
-use Rattle.rules.specs.Sound.{introduced, known, watched, goodDomains, soundDomains, goodWatch, goodWatches, soundWatches, goodChange, goodChanges, soundTable, goodTransactions, soundTransactions, goodPlace, noNul}
+use Rattle.rules.specs.Layout.{Domains, Transaction, Transactions, tableBytes, tableOf, domainsBytes, domainsOf, watchesBytes, watchesOf, transactionIn, transactionsBytes, transactionsOf}
+use Rattle.rules.specs.Sound.{introduced, known, watched, goodDomains, soundDomains, goodWatch, goodWatches, soundWatches, goodChange, goodChanges, goodTable, soundTable, goodTransactions, soundTransactions, goodPlace, noNul}
 use Rattle.rules.specs.World.{World, Outcome, freshWorld}
 use Rattle.rules.specs.Call.{Tables, sizedTables, sound, worldOf, tablesOf}
 use Rattle.rules.proofs.Compare.{same-refl, same-eq, eq-same}
 use Rattle.rules.proofs.Tables.{Each, length-encoded, length-chunks, decoded-at}
 use Rattle.rules.proofs.Slots.{table-read}
 use Rattle.rules.proofs.Places.{nothing, some-is, At, at-below, every, apart, every-at, at-every, related-one, one-related}
-use Rattle.rules.proofs.EntryLayouts.{DomainFits, domains-read, length-domains, WatchFits, MaybeWatch, watches-read, length-watches, TransactionFits, MaybeTransaction, transactions-read, length-transactions}
+use Rattle.rules.proofs.EntryLayouts.{DomainFits, domains-read, length-domains, WatchFits, MaybeWatch, watches-read, length-watches, ChangeFits, WatchRead, watch-in, watch-decoded, transaction-in, transaction-decoded, TransactionFits, MaybeTransaction, transactions-read, length-transactions}
 use Rattle.laws.specs.Soundness.{Lendable}
-use Rattle.laws.proofs.SoundWorld.{DomainsSound, WatchSound, twins, WatchesSound, TransactionSound, TransactionsSound, TableSound, SoundWorld, table-encoded, table-decoded, known-range}
+use Rattle.laws.proofs.SoundWorld.{DomainsSound, WatchSound, twins, WatchesSound, TransactionSound, TransactionsSound, TableSound, SoundWorld, table-encoded, table-decoded, known-range, twins-sym}
 
 -- ── entries one by one ──
 
@@ -48,9 +49,10 @@ domains-parts (some d ∷ ds) h =
     let p = and-eq-true-iff (leb 1 d) (leb d lastDomain && (not (has (eqb d) ds) && goodDomains ds)) .0 h in
     let q = and-eq-true-iff (leb d lastDomain) (not (has (eqb d) ds) && goodDomains ds) .0 (p .1) in
     let r = and-eq-true-iff (not (has (eqb d) ds)) (goodDomains ds) .0 (q .1) in
-    let u = domains-parts ds (r .1) in
-    (and-eq-true-iff (leb 1 d && leb d lastDomain) (every inRange ds) .1 (and-eq-true-iff (leb 1 d) (leb d lastDomain) .1 (p .0, q .0), u .0),
-    and-eq-true-iff (not (has (eqb d) ds)) (apart eqb ds) .1 (r .0, u .1))
+    let u = domains-parts ds (r .1) in (
+      and-eq-true-iff (leb 1 d && leb d lastDomain) (every inRange ds) .1 (and-eq-true-iff (leb 1 d) (leb d lastDomain) .1 (p .0, q .0), u .0),
+      and-eq-true-iff (not (has (eqb d) ds)) (apart eqb ds) .1 (r .0, u .1),
+    )
 
 parts-domains : (ds : Domains) → every inRange ds ≡ true → apart eqb ds ≡ true → goodDomains ds ≡ true
 unfolding goodDomains every apart inRange introduced
@@ -113,9 +115,9 @@ unfolding goodWatch
 watches-good ds ws s =
     parts-watches ds ws
     (at-every (goodWatch ds) ws (λ i v q.
-      let w = s .each i v q in
-      and-eq-true-iff (known (domainOf (v .owner)) ds) (noNul (v .token) && goodPlace (v .owner) (v .depth) (v .place)) .1
-      (w .known, and-eq-true-iff (noNul (v .token)) (goodPlace (v .owner) (v .depth) (v .place)) .1 (w .token, w .place))))
+    let w = s .each i v q in
+    and-eq-true-iff (known (domainOf (v .owner)) ds) (noNul (v .token) && goodPlace (v .owner) (v .depth) (v .place)) .1
+    (w .known, and-eq-true-iff (noNul (v .token)) (goodPlace (v .owner) (v .depth) (v .place)) .1 (w .token, w .place))))
     (one-related twins ws (s .differ))
 
 watches-fit : (ds : Domains) (ws : Watches) → DomainsSound ds → WatchesSound ds ws → Each MaybeWatch ws
@@ -148,9 +150,11 @@ transactions-good ds (none ∷ xs) (c ∷ cs) l h = transactions-good ds xs cs (
 transactions-good ds (some x ∷ xs) [] l h = absurd (omega arith)
 transactions-good ds (some x ∷ xs) (c ∷ cs) l h =
     let p = h 0 x refl in
-    and-eq-true-iff (known (domainOf (x .holder)) ds) (goodChanges (x .changes) && (soundTable c && goodTransactions ds xs cs)) .1
-    (p .0, and-eq-true-iff (goodChanges (x .changes)) (soundTable c && goodTransactions ds xs cs) .1
-    (p .1, and-eq-true-iff (soundTable c) (goodTransactions ds xs cs) .1 (p .2, transactions-good ds xs cs (omega arith) (λ k. h (suc k)))))
+    and-eq-true-iff (known (domainOf (x .holder)) ds) (goodChanges (x .changes) && (soundTable c && goodTransactions ds xs cs)) .1 (
+      p .0,
+      and-eq-true-iff (goodChanges (x .changes)) (soundTable c && goodTransactions ds xs cs) .1
+          (p .1, and-eq-true-iff (soundTable c) (goodTransactions ds xs cs) .1 (p .2, transactions-good ds xs cs (omega arith) (λ k. h (suc k)))),
+    )
 
 good-transactions : (ds : Domains) (xs : Transactions) (cs : List Octets) → goodTransactions ds xs cs ≡ true → length cs ≡ length xs
     → (k : ℕ) (x : Transaction) → At xs k x → GoodTransaction ds (getD cs k []) x
@@ -239,7 +243,7 @@ module _ (w : World) (s : SoundWorld w) where
   encoded-transactions =
       rw (transactions-back, eq-eqb _ _ length-of-transactions, same-refl (transactionsBytes (w .transactions)))
       (transactions-good (w .domains) (w .transactions) (w .copies) (s .transactions .copies ∙ sym (s .transactions .long))
-        (λ k x q. let y = s .transactions .each k x q in (y .known, changes-good (x .changes) (y .good), y .copy)))
+      (λ k x q. let y = s .transactions .each k x q in (y .known, changes-good (x .changes) (y .good), y .copy)))
 
   encoded-sound : sound (tablesOf w) ≡ true
   unfolding sound tablesOf
@@ -247,3 +251,137 @@ module _ (w : World) (s : SoundWorld w) where
 
   pub encoded : Lendable (tablesOf w)
   encoded = record { sized = encoded-sized; sound = encoded-sound }
+
+-- ── what sound bytes mean ──
+
+-- an entry that was read, and the row that it was read from
+row-of : {A : Type 0} (decode : Octets → Option A) (n k : ℕ) (s : Octets) (i : ℕ) (x : A) → At (map decode (chunks n k s)) i x → (row : Octets) × (decode row ≡ some x)
+row-of decode n k s i x e =
+    let l : i < n = rw (length-map (chunks n k s) decode, length-chunks n k s) at (at-below (map decode (chunks n k s)) i x e) in
+    (take k (drop (i * k) s), sym (decoded-at decode n k i s none l) ∙ e)
+
+sized-rows : (n k : ℕ) (s : Octets) → length s ≡ n * k → Each (λ (r : Octets). length r ≡ k) (chunks n k s)
+unfolding chunks
+sized-rows zero k s h = tt
+sized-rows (suc n) k s h = (simp length-take (omega arith), sized-rows n k (drop k s) (simp length-drop (omega arith)))
+
+rows-joined : (n k : ℕ) (s : Octets) → length s ≡ n * k → flatMap whole (chunks n k s) ≡ s
+unfolding chunks flatMap
+rows-joined zero k [] h = refl
+rows-joined zero k (c ∷ s) h = absurd (omega arith)
+rows-joined (suc n) k s h = ap (λ (r : Octets). take k s ++ r) (rows-joined n k (drop k s) (simp length-drop (omega arith))) ∙ take-append-drop k s
+
+no-event : (c : ℕ) (depth : Option ℕ) (p : Place) → goodPlace c depth p ≡ true → p ≡ event [] → ⊥
+unfolding goodPlace
+no-event c depth p h e = false≢true (rw (e, goodPlace) at h)
+
+module _ (t : Tables) (l : Lendable t) where
+  ds : Domains
+  ds = domainsOf (t .domains)
+
+  ws : Watches
+  ws = watchesOf (t .watches)
+
+  xs : Transactions
+  xs = transactionsOf (t .transactions)
+
+  cs : List Octets
+  cs = chunks mostTransactions tableSize (t .copies)
+
+  -- the parts of the two tests
+  sizes : (eqb (length (t .nodes)) tableSize ≡ true) × (eqb (length (t .copies)) copiesSize ≡ true)
+  unfolding sizedTables
+  sizes =
+      let p = and-eq-true-iff (eqb (length (t .nodes)) tableSize) (eqb (length (t .copies)) copiesSize
+      && (eqb (length (t .watches)) watchesSize && (eqb (length (t .transactions)) transactionsSize && eqb (length (t .domains)) domainsSize))) .0 (l .sized) in (
+        p .0,
+        and-eq-true-iff (eqb (length (t .copies)) copiesSize)
+            (eqb (length (t .watches)) watchesSize && (eqb (length (t .transactions)) transactionsSize && eqb (length (t .domains)) domainsSize)) .0 (p .1) .0,
+      )
+
+  tests : (soundTable (t .nodes) ≡ true) × (soundDomains (t .domains) ≡ true) × (soundWatches ds (t .watches) ≡ true) × (soundTransactions ds cs (t .transactions) ≡ true)
+  unfolding sound ds cs
+  tests =
+      let p = and-eq-true-iff (soundTable (t .nodes)) (soundDomains (t .domains) && (soundWatches ds (t .watches) && soundTransactions ds cs (t .transactions))) .0 (l .sound) in
+      let q = and-eq-true-iff (soundDomains (t .domains)) (soundWatches ds (t .watches) && soundTransactions ds cs (t .transactions)) .0 (p .1) in
+      let r = and-eq-true-iff (soundWatches ds (t .watches)) (soundTransactions ds cs (t .transactions)) .0 (q .1) in
+      (p .0, q .0, r .0, r .1)
+
+  domains-test : (same (domainsBytes ds) (t .domains) ≡ true) × (goodDomains ds ≡ true)
+  unfolding soundDomains ds
+  domains-test =
+      and-eq-true-iff (same (domainsBytes ds) (t .domains)) (goodDomains ds) .0
+      (and-eq-true-iff (eqb (length (t .domains)) domainsSize) (same (domainsBytes ds) (t .domains) && goodDomains ds) .0 (tests .1) .1)
+
+  watches-test : (same (watchesBytes ws) (t .watches) ≡ true) × (goodWatches ds ws ≡ true)
+  unfolding soundWatches ws
+  watches-test =
+      and-eq-true-iff (same (watchesBytes ws) (t .watches)) (goodWatches ds ws) .0
+      (and-eq-true-iff (eqb (length (t .watches)) watchesSize) (same (watchesBytes ws) (t .watches) && goodWatches ds ws) .0 (tests .2) .1)
+
+  transactions-test : (same (transactionsBytes xs) (t .transactions) ≡ true) × (goodTransactions ds xs cs ≡ true)
+  unfolding soundTransactions xs
+  transactions-test =
+      and-eq-true-iff (same (transactionsBytes xs) (t .transactions)) (goodTransactions ds xs cs) .0
+      (and-eq-true-iff (eqb (length (t .transactions)) transactionsSize) (same (transactionsBytes xs) (t .transactions) && goodTransactions ds xs cs) .0 (tests .3) .1)
+
+  nodes-test : same (tableBytes (tableOf (t .nodes))) (t .nodes) ≡ true
+  unfolding soundTable
+  nodes-test =
+      and-eq-true-iff (same (tableBytes (tableOf (t .nodes))) (t .nodes)) (goodTable (tableOf (t .nodes))) .0
+      (and-eq-true-iff (eqb (length (t .nodes)) tableSize) (same (tableBytes (tableOf (t .nodes))) (t .nodes) && goodTable (tableOf (t .nodes))) .0 (tests .0) .1) .0
+
+  decoded-domains : DomainsSound ds
+  unfolding ds domainsOf
+  decoded-domains = good-domains ds (length-map (chunks mostDomains _ (t .domains)) _ ∙ length-chunks mostDomains _ (t .domains)) (domains-test .1)
+
+  decoded-watch : (i : ℕ) (v : Watch) → At ws i v → WatchSound ds v
+  unfolding ws watchesOf goodWatch
+  decoded-watch i v e =
+      let r = row-of _ mostWatches _ (t .watches) i v e in
+      let w = subst WatchRead (watch-in (r .0) v (r .1)) (watch-decoded (r .0) (field (r .0) 0 6)) in
+      let g = every-at (goodWatch ds) ws (watches-parts ds ws (watches-test .1) .0) i v e in
+      let p = and-eq-true-iff (known (domainOf (v .owner)) ds) (noNul (v .token) && goodPlace (v .owner) (v .depth) (v .place)) .0 g in
+      let q = and-eq-true-iff (noNul (v .token)) (goodPlace (v .owner) (v .depth) (v .place)) .0 (p .1) in
+      record { known = p .0; token = q .0; place = q .1; depth-fits = w .depth; token-fits = w .token; place-fits = w .place (no-event (v .owner) (v .depth) (v .place) (q .1)) }
+
+  decoded-watches : WatchesSound ds ws
+  unfolding ws watchesOf
+  decoded-watches =
+      record {
+        long = length-map (chunks mostWatches _ (t .watches)) _ ∙ length-chunks mostWatches _ (t .watches);
+        each = decoded-watch;
+        differ = related-one twins twins-sym ws (watches-parts ds ws (watches-test .1) .1);
+      }
+
+  decoded-transactions : TransactionsSound ds xs cs
+  unfolding xs cs transactionsOf
+  decoded-transactions =
+      record {
+        long = long;
+        copies = length-chunks mostTransactions tableSize (t .copies);
+        sized = sized-rows mostTransactions tableSize (t .copies) (eqb-true _ _ (sizes .1));
+        each = λ k x e.
+            let r = row-of transactionIn mostTransactions transactionSize (t .transactions) k x e in
+            let w = subst (λ (y : Transaction). (length (y .changes) ≤ mostChanges) × Each ChangeFits (y .changes)) (transaction-in (r .0) x (r .1)) (transaction-decoded (r .0) (field (r .0) 0 3)) in
+            let g = good-transactions ds xs cs (transactions-test .1) (length-chunks mostTransactions tableSize (t .copies) ∙ sym long) k x e in
+            record { known = g .0; few = w .0; good = good-changes (x .changes) (g .1); fit = w .1; copy = g .2 };
+      }
+    where
+      long : length (map transactionIn (chunks mostTransactions transactionSize (t .transactions))) ≡ mostTransactions
+      long = length-map (chunks mostTransactions transactionSize (t .transactions)) transactionIn ∙ length-chunks mostTransactions transactionSize (t .transactions)
+
+  pub decoded : SoundWorld (worldOf t)
+  unfolding worldOf ds ws xs cs
+  decoded = record { nodes = table-decoded (t .nodes) (tests .0); domains = decoded-domains; watches = decoded-watches; transactions = decoded-transactions }
+
+  -- the copies' bytes as rows are the copies' bytes
+  pub bytes-back : tablesOf (worldOf t) ≡ t
+  unfolding tablesOf worldOf ds ws xs cs
+  bytes-back = λ i. record {
+    nodes = same-eq _ _ nodes-test i;
+    copies = rows-joined mostTransactions tableSize (t .copies) (eqb-true _ _ (sizes .1)) i;
+    watches = same-eq _ _ (watches-test .0) i;
+    transactions = same-eq _ _ (transactions-test .0) i;
+    domains = same-eq _ _ (domains-test .0) i;
+  }

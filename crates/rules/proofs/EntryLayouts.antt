@@ -5,18 +5,21 @@ use mathlib.Core.List.{List, [], _∷_, _++_, map, flatMap, append-nil, append-a
 use mathlib.Core.Option.{Option, none, some}
 use Prim.Native.Nat.{ℕ, zero, suc, _+_, _*_, _-_, _^_, _≤_, _<_}
 use native.Mathlib.Omega.{arith}
-use lib.ListN.{length, take, drop, replicate, length-append, length-replicate}
+use native.Mathlib.Nat.{mod-lt}
+use lib.ListN.{length, take, drop, replicate, length-append, length-replicate, length-take, length-map}
 use lib.Seq.{take-append-seam, take-at, drop-at}
-use lib.Dec.{eqb, lit<}
+use lib.Dec.{eqb, lit<, lit≤}
 use Rattle.rules.specs.Size.{longestToken, longestPath, mostChanges, domainSize, mostDomains, watchSize, mostWatches, changeSize, transactionSize, mostTransactions}
 use Rattle.rules.specs.Octets.{Octets, padded, bit, Bits, _bits_, chunks, bigEndian, bigFrom, field, pack, packFrom, bitsAt}
-use Rattle.rules.specs.Path.{Domain, Names, allNames, special, given, pathText, namesIn}
+use Rattle.rules.specs.Path.{Domain, Names, Given, malformed, absolute, relative, special, given, allNames, pathText, namesIn}
 use Rattle.rules.specs.Payload.{Place, path, event}
 use Rattle.rules.specs.Answer.{Change}
 use Rattle.rules.specs.Event.{Watch, Watches, placeText}
 use Rattle.rules.specs.Layout.{textAt, isRelative, depthBits, watchBits, watchBytes, placeIn, watchAt, watchIn, watchesBytes, watchesOf, changeBytes, transactionBytes, changeIn, transactionAt, transactionIn, transactionsBytes, transactionsOf, Transactions, Domains, domainBytes, domainIn, domainsBytes, domainsOf, Transaction}
-use Rattle.rules.proofs.Tables.{Each, each-map, length-encoded, decoded}
-use Rattle.rules.proofs.PathLaws.{text-given, text-names}
+use Rattle.rules.proofs.Tables.{Each, each-map, length-chunks, length-encoded, decoded}
+use Rattle.rules.proofs.PathLaws.{Means, means, text-given, text-names}
+use Rattle.rules.proofs.Places.{nothing, some-is}
+use Rattle.rules.proofs.Cases.{cond-case}
 use Rattle.rules.proofs.Fields.{length-big, field-first}
 
 -- ── what fits ──
@@ -391,3 +394,80 @@ transactions-read xs h f =
 pub length-transactions : (xs : Transactions) → Each MaybeTransaction xs → length (transactionsBytes xs) ≡ length xs * transactionSize
 unfolding transactionsBytes
 length-transactions xs f = length-encoded transactionBytes transactionSize xs (each-map MaybeTransaction _ transaction-width xs f)
+
+-- ── decoded entries fit ──
+
+text-short : (s : Octets) (i k n : ℕ) → length (textAt s i k n) ≤ k
+unfolding textAt
+text-short s i k n = simp length-take (omega arith)
+
+pub watch-in : (s : Octets) (v : Watch) → watchIn s ≡ some v → watchAt s (field s 0 6) ≡ v
+unfolding watchIn
+watch-in s v = go (eqb (bitsAt (field s 0 6) 47 1) 1)
+  where
+    go : (b : Bool) → cond b (some (watchAt s (field s 0 6))) none ≡ some v → watchAt s (field s 0 6) ≡ v
+    go true e = some-is e
+    go false e = absurd (nothing e)
+
+place-decoded : (r : Bool) (s : Octets) → length s ≤ longestPath → (placeIn r s ≡ event [] → ⊥) → PlaceFits (placeIn r s)
+unfolding placeIn
+place-decoded r s l = go (given s) refl (means s)
+  where
+    go : (g : Given) → given s ≡ g → Means s g
+        → let p = elim g as (λ g. Place) [ malformed ↦ event [] | absolute ns ↦ path r ns | relative ns ↦ event [] | special e ↦ event e ] in
+        (p ≡ event [] → ⊥) → PlaceFits p
+    go malformed e m h = absurd (h refl)
+    go (absolute ns) e m h = (m .names, rw (← m .text) l)
+    go (relative ns) e m h = absurd (h refl)
+    go (special t) e m h = rw (m .text) (e ∙ ap special (m .text), l)
+
+-- what is sure of a watch that was read, where its place is a path or an event
+pub record WatchRead (v : Watch) : Type 0 where
+  pub depth : DepthFits (v .depth)
+  pub token : length (v .token) ≤ longestToken
+  pub place : (v .place ≡ event [] → ⊥) → PlaceFits (v .place)
+
+pub watch-decoded : (s : Octets) (head : ℕ) → WatchRead (watchAt s head)
+unfolding watchAt bitsAt
+watch-decoded s head =
+    record {
+      depth = cond-case DepthFits (eqb (bitsAt head 45 1) 1) _ _ (mod-lt _ (lit< tt)) tt;
+      token = text-short s (6 + longestPath) longestToken _;
+      place = place-decoded _ _ (text-short s 6 longestPath _);
+    }
+
+change-decoded : (s : Octets) → ChangeFits (changeIn s)
+unfolding changeIn namesIn allNames pathText
+change-decoded s = go (given t) (means t)
+  where
+    t : Octets
+    t = textAt s 2 longestPath (bitsAt (field s 0 2) 0 9)
+
+    go : (g : Given) → Means t g
+        → ChangeFits (record { removal = eqb (bitsAt (field s 0 2) 15 1) 1; names = elim g [ malformed ↦ [] | absolute ns ↦ ns | relative ns ↦ [] | special e ↦ [] ] })
+    go malformed m = record { names = refl; short = lit≤ tt }
+    go (absolute ns) m = record { names = m .names; short = rw (← m .text) (text-short s 2 longestPath _) }
+    go (relative ns) m = record { names = refl; short = lit≤ tt }
+    go (special e) m = record { names = refl; short = lit≤ tt }
+
+pub transaction-in : (s : Octets) (x : Transaction) → transactionIn s ≡ some x → transactionAt s (field s 0 3) ≡ x
+unfolding transactionIn
+transaction-in s x = go (eqb (bitsAt (field s 0 3) 23 1) 1)
+  where
+    go : (b : Bool) → cond b (some (transactionAt s (field s 0 3))) none ≡ some x → transactionAt s (field s 0 3) ≡ x
+    go true e = some-is e
+    go false e = absurd (nothing e)
+
+pub transaction-decoded : (s : Octets) (head : ℕ) → (length (transactionAt s head .changes) ≤ mostChanges) × Each ChangeFits (transactionAt s head .changes)
+unfolding transactionAt
+transaction-decoded s head = (few, go rows)
+  where
+    rows : List Octets
+    rows = take (bitsAt head 16 4) (chunks mostChanges changeSize (drop 3 s))
+
+    few : length (map changeIn rows) ≤ mostChanges
+    few = rw (length-map rows changeIn, length-take (bitsAt head 16 4) (chunks mostChanges changeSize (drop 3 s)), length-chunks mostChanges changeSize (drop 3 s)) (omega arith)
+
+    go : (rs : List Octets) → Each ChangeFits (map changeIn rs)
+    go [] = tt
+    go (r ∷ rs) = (change-decoded r, go rs)

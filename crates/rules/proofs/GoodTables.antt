@@ -139,7 +139,6 @@ of-good t g =
     rooted : goodRoot (nodeAt t 0) ≡ true
     rooted = rw (nodeAt-is t 0 (g .root) (g .used)) (and-eq-true-iff (eqb (g .root .parent) 0) (isControl (g .root .owner .domain)) .1 (eq-eqb _ _ (g .own-parent), eq-eqb _ _ (g .control)))
 
-
 -- ── looking up a child ──
 
 -- a child that is found is one, and where none is found there is none
