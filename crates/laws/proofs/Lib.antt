@@ -8,3 +8,4 @@ pub mod Refusals
 pub mod Order
 pub mod SoundWorld
 pub mod Soundness
+pub mod SoundCalls
