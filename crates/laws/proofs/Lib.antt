@@ -7,3 +7,5 @@ pub mod Eagain
 pub mod Refusals
 pub mod Order
 pub mod SoundWorld
+pub mod Soundness
+pub mod SoundCalls

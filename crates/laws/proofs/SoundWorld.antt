@@ -179,7 +179,7 @@ watches-left es us s l f =
       differ = λ i j v u p q. s .differ i j v u (f i v p .0) (f j u q .0);
     }
 
-twins-sym : (v u : Watch) → twins v u ≡ true → twins u v ≡ true
+pub twins-sym : (v u : Watch) → twins v u ≡ true → twins u v ≡ true
 unfolding twin
 twins-sym v u h =
     let p = and-eq-true-iff (eqb (v .owner) (u .owner)) (same (placeText (v .place)) (placeText (u .place)) && same (v .token) (u .token)) .0 h in

@@ -3,3 +3,4 @@ pub mod History
 pub mod Eagain
 pub mod Refusals
 pub mod Order
+pub mod Soundness

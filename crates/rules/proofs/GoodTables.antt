@@ -7,8 +7,8 @@ use Prim.Native.Nat.{ℕ, zero, suc, _+_, _<_, _≤_}
 use native.Mathlib.Omega.{arith}
 use native.Mathlib.Nat.{add-zero, zero-add}
 use lib.ListN.{length, getD}
-use lib.Dec.{eqb, ltb, eqb·suc-zero}
-use borrow.Author.Tests.{eqb-true, eqb-false, eq-eqb, ne-eqb, ltb-true, ltb-false}
+use lib.Dec.{eqb, eqb·suc-zero}
+use borrow.Author.Tests.{eqb-true, eqb-false, eq-eqb, ne-eqb}
 use Rattle.rules.specs.Size.{deepest}
 use Rattle.rules.specs.Octets.{same}
 use Rattle.rules.specs.Entries.{has}
@@ -16,7 +16,7 @@ use Rattle.rules.specs.Path.{Name, Names, isControl, isName}
 use Rattle.rules.specs.Node.{Node, Table, nodeAt, isChild, childFrom, child, Reached, reachFrom, reach, pathUp, pathOf}
 use Rattle.rules.specs.Sound.{goodEntries, reachesRoot, goodName, goodNode, goodNodes, goodRoot, clash, distinct, goodTable}
 use Rattle.rules.proofs.Compare.{same-eq, eq-same}
-use Rattle.rules.proofs.Places.{nothing, some-is, is-false, At, at-below, apart, apart-at, at-apart}
+use Rattle.rules.proofs.Places.{nothing, some-is, At, at-below, apart, related-one, one-related}
 
 -- a good table, place by place
 pub record Good (t : Table) : Type 0 where
@@ -75,20 +75,20 @@ good-at t h i n e =
     let q = and-eq-true-iff (goodEntries (n .owner ∷ n .others)) (reachesRoot deepest t i) .0 (p .1) in
     record { name = p .0; entries = q .0; reaches = q .1 }
 
+clashing : (n m : Node) → n .parent ≡ m .parent → n .name ≡ m .name → clash n m ≡ true
+unfolding clash
+clashing n m e f = and-eq-true-iff (eqb (n .parent) (m .parent)) (same (n .name) (m .name)) .1 (eq-eqb _ _ e, eq-same f)
+
+clashed : (n m : Node) → clash n m ≡ true → (n .parent ≡ m .parent) × (n .name ≡ m .name)
+unfolding clash
+clashed n m c = let r = and-eq-true-iff (eqb (n .parent) (m .parent)) (same (n .name) (m .name)) .0 c in (eqb-true _ _ (r .0), same-eq _ _ (r .1))
+
+clash-sym : (n m : Node) → clash n m ≡ true → clash m n ≡ true
+clash-sym n m c = let r = clashed n m c in clashing m n (sym (r .0)) (sym (r .1))
+
 -- siblings with one name are one slot
 one-slot : (t : Table) → distinct t ≡ true → (i j : ℕ) (n m : Node) → At t i n → At t j m → n .parent ≡ m .parent → n .name ≡ m .name → i ≡ j
-unfolding clash
-one-slot t h i j n m p q e f = go (ltb i j) (ltb j i) refl refl
-  where
-    off : (i j : ℕ) (n m : Node) → i < j → At t i n → At t j m → n .parent ≡ m .parent → n .name ≡ m .name → ⊥
-    off i j n m l p q e f =
-        true≢false (sym (and-eq-true-iff (eqb (n .parent) (m .parent)) (same (n .name) (m .name)) .1 (eq-eqb _ _ e, eq-same f))
-        ∙ apart-at clash t (sym (distinct-is t) ∙ h) i j n m l p q)
-
-    go : (b c : Bool) → ltb i j ≡ b → ltb j i ≡ c → i ≡ j
-    go true c x y = absurd (off i j n m (ltb-true i j x) p q e f)
-    go false true x y = absurd (off j i m n (ltb-true j i y) q p (sym e) (sym f))
-    go false false x y = omega (arith, ltb-false i j x, ltb-false j i y)
+one-slot t h i j n m p q e f = related-one clash clash-sym t (sym (distinct-is t) ∙ h) i j n m p q (clashing n m e f)
 
 pub good-of : (t : Table) → 0 < length t → goodTable t ≡ true → Good t
 unfolding goodTable goodRoot goodName goodNode
@@ -120,10 +120,10 @@ good-of t l h = go (getD t 0 none) refl (rw (zero-add 0) at (node-at t 0 t (p .0
 -- ── and back ──
 
 pub of-good : (t : Table) → Good t → goodTable t ≡ true
-unfolding goodTable goodRoot goodName goodNode clash
+unfolding goodTable goodRoot goodName goodNode
 of-good t g =
     and-eq-true-iff (goodNodes t 0 t) (goodRoot (nodeAt t 0) && distinct t) .1
-    (at-node t 0 t (λ i l. rw zero-add (slot i (getD t i none) refl)), and-eq-true-iff (goodRoot (nodeAt t 0)) (distinct t) .1 (rooted, distinct-is t ∙ at-apart clash t differ))
+    (at-node t 0 t (λ i l. rw zero-add (slot i (getD t i none) refl)), and-eq-true-iff (goodRoot (nodeAt t 0)) (distinct t) .1 (rooted, distinct-is t ∙ one-related clash t (λ i j n m p q c. let r = clashed n m c in g .apart i j n m p q (r .0) (r .1))))
   where
     name : (i : ℕ) (n : Node) → At t i n → goodName i (n .name) ≡ true
     name zero n e = eq-same (ap Node.name (some-is (sym e ∙ g .used)) ∙ g .nameless)
@@ -138,12 +138,6 @@ of-good t g =
 
     rooted : goodRoot (nodeAt t 0) ≡ true
     rooted = rw (nodeAt-is t 0 (g .root) (g .used)) (and-eq-true-iff (eqb (g .root .parent) 0) (isControl (g .root .owner .domain)) .1 (eq-eqb _ _ (g .own-parent), eq-eqb _ _ (g .control)))
-
-    differ : (i j : ℕ) (n m : Node) → i < j → At t i n → At t j m → clash n m ≡ false
-    differ i j n m l p q = is-false (clash n m) λ c.
-        let r = and-eq-true-iff (eqb (n .parent) (m .parent)) (same (n .name) (m .name)) .0 c in
-        let e : i ≡ j = g .apart i j n m p q (eqb-true _ _ (r .0)) (same-eq _ _ (r .1)) in
-        omega arith
 
 -- ── looking up a child ──
 

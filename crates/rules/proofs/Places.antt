@@ -8,7 +8,8 @@ use native.Mathlib.Omega.{arith}
 use native.Mathlib.Decide.{ℕ-discrete}
 use lib.ListN.{length, getD, set, replicate}
 use lib.Seq.{getD-set-other}
-use borrow.Author.Tests.{not-true}
+use borrow.Author.Tests.{not-true, ltb-true, ltb-false}
+use lib.Dec.{ltb}
 use Rattle.rules.specs.Entries.{lowest, has, without}
 
 pub nothing : {A : Type 0} {y : A} → _≡_ {A = Option A} none (some y) → ⊥
@@ -169,3 +170,16 @@ module _ {A : Type 0} where
   at-apart rel (some z ∷ xs) h =
       and-eq-true-iff (not (has (rel z) xs)) (apart rel xs) .1
       (ap not (has-not (rel z) xs (λ j y. h 0 (suc j) z y (omega arith) refl)), at-apart rel xs (λ i j x y l. h (suc i) (suc j) x y (omega arith)))
+
+  -- entries apart by a symmetric relation: two that it relates stand in one place
+  pub related-one : (rel : A → A → Bool) → ((x y : A) → rel x y ≡ true → rel y x ≡ true) → (xs : List (Option A)) → apart rel xs ≡ true
+      → (i j : ℕ) (x y : A) → At xs i x → At xs j y → rel x y ≡ true → i ≡ j
+  related-one rel s xs h i j x y p q e = go (ltb i j) (ltb j i) refl refl
+    where
+      go : (b c : Bool) → ltb i j ≡ b → ltb j i ≡ c → i ≡ j
+      go true c u v = absurd (true≢false (sym e ∙ apart-at rel xs h i j x y (ltb-true i j u) p q))
+      go false true u v = absurd (true≢false (sym (s x y e) ∙ apart-at rel xs h j i y x (ltb-true j i v) q p))
+      go false false u v = omega (arith, ltb-false i j u, ltb-false j i v)
+
+  pub one-related : (rel : A → A → Bool) (xs : List (Option A)) → ((i j : ℕ) (x y : A) → At xs i x → At xs j y → rel x y ≡ true → i ≡ j) → apart rel xs ≡ true
+  one-related rel xs h = at-apart rel xs λ i j x y l p q. is-false (rel x y) λ e. let z : i ≡ j = h i j x y p q e in omega arith
