@@ -1,2 +1,3 @@
 pub mod ReachLaws
 pub mod RightsLaws
+pub mod ChildrenLaws

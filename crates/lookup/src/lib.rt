@@ -1,3 +1,4 @@
 // The node table read: paths, rights and children, on the bytes of a sound table.
+pub mod children;
 pub mod reach;
 pub mod rights;
