@@ -1,3 +1,4 @@
 pub mod ReachLaws
 pub mod RightsLaws
 pub mod ChildrenLaws
+pub mod ListingLaws

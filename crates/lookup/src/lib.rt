@@ -1,4 +1,5 @@
 // The node table read: paths, rights and children, on the bytes of a sound table.
 pub mod children;
+pub mod listing;
 pub mod reach;
 pub mod rights;

@@ -1,0 +1,110 @@
+use mathlib.Core.Path.{_≡_, refl, sym, ap, ap₂, _∙_}
+use mathlib.Core.List.{flatMap}
+use Prim.Native.Nat.{ℕ, _+_, _*_, _-_, _≤_}
+use native.Mathlib.Omega.{arith}
+use borrow.Author.Needs.{needs}
+use lib.ListN.{length, getD, take}
+use Rattle.rules.specs.Answer.{nameList}
+use Rattle.rules.specs.Layout.{tableOf}
+use Rattle.slots.proofs.Canonical.{sound-canonical}
+use Rattle.lookup.proofs.ChildrenLaws.{listed}
+use Rattle.lookup.proofs.ListingLaws.{names-longer, name-length, name-fits}
+use Rattle.lookup.proofs.listing.names_length.Statement.{statement}
+use Rattle.lookup.proofs.listing.names_length.Tie as tie
+use Rattle.lookup.proofs.listing.names_length.Reads as reads
+use Rattle.lookup.proofs.listing.names_length.Lts as lts
+use Rattle.slots.proofs.fields.name_length.Reads as name-length-reads
+
+abbrev Inv-loop : tie.InvT-loop
+Inv-loop t list n sum₀ k₀ sum k = (k ≤ n) × (sum ≤ 33 * k) × (sum ≡ length (nameList (tableOf t) (take k list)))
+
+abbrev μ-loop : tie.MeasureT-loop
+μ-loop t list n sum₀ k₀ sum k = n - k
+
+-- src/listing.rt:27:5
+loop-holds : tie.Need-loop-holds Inv-loop μ-loop
+unfolding nameList flatMap
+loop-holds c = (search needs, search needs, refl)
+
+-- src/listing.rt:28:31
+shared-slice-read-name-length : tie.Need-shared-slice-read-name-length Inv-loop μ-loop
+shared-slice-read-name-length c = omega arith
+
+-- src/listing.rt:28:31
+cast-name-length : tie.Need-cast-name-length Inv-loop μ-loop
+cast-name-length c = omega (arith, c .shared-slice-known3 .given (c .before .before .loop .k))
+
+-- src/listing.rt:28:16
+name-length-requires : tie.Need-name-length-requires Inv-loop μ-loop
+name-length-requires c κs =
+    let a = c .before .before .before .before .before in
+    let b = c .before .before in
+    let q = listed (a .args .t .now) (a .args .list .now) (a .args .n) (b .loop .k) (a .pre .2) (omega arith) (a .pre .1) in
+    (q .below, sound-canonical _ (q .sound) .whole)
+
+-- src/listing.rt:28:16
+add-sum : tie.Need-add-sum Inv-loop μ-loop
+add-sum c =
+    let a = c .before .before .before .before .before .before in
+    let b = c .before .before .before in
+    let q = listed (a .args .t .now) (a .args .list .now) (a .args .n) (b .loop .k) (a .pre .2) (omega arith) (a .pre .1) in
+    let i = getD (a .args .list .now) (b .loop .k) 0 in
+    let l = name-length (a .args .t .now) i q in
+    let f = name-fits (a .args .t .now) i in
+    omega (arith, c .name-length .ensures)
+
+-- src/listing.rt:28:9
+add-sum-2 : tie.Need-add-sum-2 Inv-loop μ-loop
+add-sum-2 c =
+    let a = c .before .before .before .before .before .before in
+    let b = c .before .before .before in
+    let q = listed (a .args .t .now) (a .args .list .now) (a .args .n) (b .loop .k) (a .pre .2) (omega arith) (a .pre .1) in
+    let i = getD (a .args .list .now) (b .loop .k) 0 in
+    let l = name-length (a .args .t .now) i q in
+    let f = name-fits (a .args .t .now) i in
+    omega (arith, c .name-length .ensures)
+
+-- src/listing.rt:29:9
+add-k : tie.Need-add-k Inv-loop μ-loop
+add-k c = omega arith
+
+-- src/listing.rt:27:5
+loop-less : tie.Need-loop-less Inv-loop μ-loop
+loop-less c = omega arith
+
+-- src/listing.rt:27:5
+loop-again : tie.Need-loop-again Inv-loop μ-loop
+loop-again c =
+    let a = c .before .before .before .before .before .before in
+    let b = c .before .before .before in
+    let q = listed (a .args .t .now) (a .args .list .now) (a .args .n) (b .loop .k) (a .pre .2) (omega arith) (a .pre .1) in
+    let i = getD (a .args .list .now) (b .loop .k) 0 in
+    let l = name-length (a .args .t .now) i q in
+    let f = name-fits (a .args .t .now) i in
+    let e = names-longer (a .args .t .now) (a .args .list .now) (b .loop .k) (omega arith) q in
+    (omega arith, omega (arith, c .name-length .ensures), omega (arith, c .name-length .ensures, e))
+
+-- src/listing.rt:21:1
+returns : tie.Need-returns Inv-loop μ-loop
+returns c =
+    let a = c .before .before .before .before in
+    let b = c .before in
+    let e : b .loop .k ≡ a .args .n = omega arith in
+    b .loop .inv .2 ∙ ap (λ (k : ℕ). length (nameList (tableOf (a .args .t .now)) (take k (a .args .list .now)))) e
+
+pub names-length-spec : {M : Type 1} → statement M
+names-length-spec =
+    tie.close
+    (tie.spec
+    Inv-loop
+    μ-loop
+    loop-holds
+    shared-slice-read-name-length
+    cast-name-length
+    name-length-requires
+    add-sum
+    add-sum-2
+    add-k
+    loop-less
+    loop-again
+    returns)
