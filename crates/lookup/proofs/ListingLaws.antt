@@ -2,24 +2,27 @@
 use mathlib.Core.Path.{_≡_, refl, sym, ap, ap₂, _∙_}
 use mathlib.Core.List.{List, [], _∷_, _++_, flatMap, append-nil, append-assoc}
 use mathlib.Core.Option.{some}
-use Prim.Native.Nat.{ℕ, _+_, _-_, _≤_, _<_}
-use native.Mathlib.Nat.{add-assoc}
+use Prim.Native.Nat.{ℕ, suc, _+_, _*_, _-_, _≤_, _<_}
+use native.Mathlib.Nat.{add-zero, add-assoc}
 use native.Mathlib.Numerals.{add-one}
 use native.Mathlib.Omega.{arith}
 use lib.ListN.{length, getD, take, drop, set, length-append}
 use lib.Seq as Seq
-use Rattle.rules.specs.Octets.{Octets, nul, paste}
-use Rattle.rules.specs.Node.{Node, Table, nodeAt}
-use Rattle.rules.specs.Answer.{nameList}
-use Rattle.rules.specs.Layout.{tableOf}
-use Rattle.rules.proofs.Paste.{length-paste}
+use lib.Dec.{lit≤}
+use Rattle.rules.specs.Octets.{Octets, nul, paste, decimal, bitsAt}
+use Rattle.rules.specs.Node.{Entry, Node, Table, nodeAt}
+use Rattle.rules.specs.Answer.{nameList, accessText, entryText}
+use Rattle.rules.specs.Layout.{tableOf, entryAt}
+use Rattle.rules.proofs.Decimals.{length-decimal-lt}
+use Rattle.rules.proofs.Paste.{paste-nil, length-paste}
 use Rattle.rules.proofs.Joined.{paste-behind, set-paste}
 use Rattle.rules.proofs.Fitting.{nodeAt-fits, decoded-fits}
-use Rattle.slots.specs.Slot.{slotAt, nameLength}
+use Rattle.octets.specs.Numbers.{Put}
+use Rattle.slots.specs.Slot.{slotAt, nameLength, entryOf}
 use Rattle.slots.proofs.Reading.{node-some}
-use Rattle.slots.proofs.Canonical.{sound-canonical, used-some, name-length-is}
+use Rattle.slots.proofs.Canonical.{sound-canonical, used-some, name-length-is, entry-is}
 use Rattle.lookup.specs.Rights.{Asked}
-use Rattle.lookup.specs.Children.{AllAsked}
+use Rattle.lookup.proofs.RightsLaws.{few}
 
 -- ── one more of a list ──
 
@@ -99,3 +102,94 @@ module _ (at : ℕ) (xs before into : Octets) (to : ℕ) (written : into ≡ pas
         ∙ ap (paste (to + length ys) nul) joined
         ∙ paste-behind at (to + length ys) (xs ++ ys) nul before (omega arith) e
         ∙ ap (λ (l : Octets). paste at l before) (append-assoc xs ys nul)
+
+-- ── an entry ──
+
+module _ (before : Octets) (at access domain letter : ℕ) (is : letter ≡ accessText access) (low : domain < 65536) (room : at + 22 ≤ length before)
+    (after : Octets) (next : ℕ) (put : Put (at + 1) (decimal domain) (set before at letter) after next) where
+  digits : length (decimal domain) ≤ 5
+  digits = length-decimal-lt 5 domain (lit≤ tt) (omega arith)
+
+  front : set before at letter ≡ paste at (letter ∷ []) before
+  front = set-paste before at letter (omega arith)
+
+  enough : at + (1 + (length (decimal domain) + 1)) ≤ length before
+  enough = omega (arith, digits)
+
+  pub entry-room : length after ≡ length before
+  entry-room = room-after at (letter ∷ []) before (set before at letter) (at + 1) front refl (decimal domain) enough after (put .bytes)
+
+  pub entry-next : (next ≤ at + 6) × (next < length after)
+  entry-next = omega (arith, digits, put .behind, entry-room)
+
+  pub entry-put : Put at (entryText (record { access = access; domain = domain })) before (set after next 0) (next + 1)
+  unfolding entryText
+  entry-put =
+      record {
+        bytes = ap (λ (n : ℕ). set after n 0) (put .behind)
+            ∙ nul-behind at (letter ∷ []) before (set before at letter) (at + 1) front refl (decimal domain) enough after (put .bytes)
+            ∙ ap (λ (l : ℕ). paste at (l ∷ (decimal domain ++ nul)) before) is;
+        behind = omega (arith, put .behind, length-append (decimal domain) nul);
+      }
+
+-- an entry's text has at most seven bytes
+pub entry-short : (e : Entry) → e .domain < 65536 → length (entryText e) ≤ 7
+unfolding entryText
+entry-short e low = omega (arith, length-decimal-lt 5 (e .domain) (lit≤ tt) (omega arith), length-append (decimal (e .domain)) nul)
+
+-- ── a node's entries, one after the other ──
+
+-- the owner's entry and the others
+abbrev pub entries : Octets → ℕ → List Entry
+entries t i = nodeAt (tableOf t) i .owner ∷ nodeAt (tableOf t) i .others
+
+pub entry-listed : (t : Octets) (i : ℕ) → Asked t i → (k : ℕ) → k < suc (length (nodeAt (tableOf t) i .others)) → entryOf t i k ≡ getD (entries t i) k (entryOf t i k)
+entry-listed t i a k h =
+    let n = used-some (slotAt t i) (a .used) in
+    let e = node-some (tableOf t) i (n .0) (n .1) in
+    let b : k < suc (length (n .0 .others)) = rw e at h in
+    entry-is t i (a .below) (n .0) (n .1) k (entryOf t i k) b ∙ ap (λ (m : Node). getD (m .owner ∷ m .others) k (entryOf t i k)) (sym e)
+
+-- the first k entries are written
+pub record Written (t : Octets) (i at : ℕ) (before : Octets) (k : ℕ) (into : Octets) (to : ℕ) : Type 0 where
+  pub bytes : into ≡ paste at (flatMap entryText (take k (entries t i))) before
+  pub behind : to ≡ at + length (flatMap entryText (take k (entries t i)))
+  pub short : to ≤ at + 7 * k
+
+module _ (t : Octets) (i : ℕ) (a : Asked t i) (at : ℕ) (before : Octets) (room : at + 64 ≤ length before) where
+  pub none-written : Written t i at before 0 before at
+  unfolding flatMap
+  none-written = record { bytes = sym (paste-nil at before); behind = sym (add-zero at); short = omega arith }
+
+  module _ (k : ℕ) (into : Octets) (to : ℕ) (w : Written t i at before k into to) (h : k < suc (length (nodeAt (tableOf t) i .others))) where
+    low : k < 4
+    low = omega (arith, few t i a)
+
+    pub entry-fits : (entryOf t i k .access < 4) × (entryOf t i k .domain < 65536)
+    unfolding entryOf entryAt bitsAt
+    entry-fits = omega arith
+
+    pub written-room : length into ≡ length before
+    written-room = ap length (w .bytes) ∙ length-paste at (flatMap entryText (take k (entries t i))) before (omega (arith, w .behind, w .short, low))
+
+    pub one-more : (access domain : ℕ) → access ≡ entryOf t i k .access → domain ≡ entryOf t i k .domain → (after : Octets) (next : ℕ) →
+        Put to (entryText (record { access = access; domain = domain })) into after next → Written t i at before (k + 1) after next
+    one-more access domain ea ed after next p =
+        let xs = flatMap entryText (take k (entries t i)) in
+        let e : Entry = record { access = access; domain = domain } in
+        let same : e ≡ getD (entries t i) k (entryOf t i k) = (λ j. record { access = ea j; domain = ed j }) ∙ entry-listed t i a k h in
+        let more : xs ++ entryText e ≡ flatMap entryText (take (k + 1) (entries t i)) =
+        ap (λ (x : Entry). xs ++ entryText x) same ∙ sym (flat-next entryText (entries t i) k (entryOf t i k) h) in
+        record {
+          bytes = p .bytes ∙ ap (paste to (entryText e)) (w .bytes) ∙ paste-behind at to xs (entryText e) before (omega arith) (w .behind) ∙ ap (λ (l : Octets). paste at l before) more;
+          behind = p .behind ∙ ap (λ (n : ℕ). n + length (entryText e)) (w .behind) ∙ add-assoc at (length xs) (length (entryText e)) ∙ ap (λ (n : ℕ). at + n) (sym (length-append xs (entryText e)) ∙ ap length more);
+          short = omega (arith, p .behind, w .short, entry-short e (omega (arith, entry-fits)));
+        }
+
+  pub all-written : (k : ℕ) (into : Octets) (to : ℕ) → Written t i at before k into to → length (entries t i) ≤ k → Put at (flatMap entryText (entries t i)) before into to
+  all-written k into to w h =
+      let e = Seq.take-all k (entries t i) h in
+      record {
+        bytes = w .bytes ∙ ap (λ (es : List Entry). paste at (flatMap entryText es) before) e;
+        behind = w .behind ∙ ap (λ (es : List Entry). at + length (flatMap entryText es)) e;
+      }
