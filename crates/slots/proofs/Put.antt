@@ -1,7 +1,7 @@
 -- What the written parts of a slot make of the table.
 use mathlib.Core.Path.{_≡_, refl, sym, ap, _∙_}
 use mathlib.Core.Bool.{true}
-use mathlib.Core.List.{[], _∷_, _++_, append-nil, append-assoc}
+use mathlib.Core.List.{List, [], _∷_, _++_, append-nil, append-assoc}
 use mathlib.Core.Option.{Option, none, some}
 use Prim.Native.Nat.{ℕ, suc, _+_, _*_, _-_, _/_, _%_, _≤_, _<_}
 use native.Mathlib.Nat.{mod-lt}
@@ -10,16 +10,20 @@ use lib.ListN.{length, getD, take, drop, set, replicate, length-append, length-r
 use lib.Seq.{drop-drop, take-at, drop-at}
 use Rattle.rules.specs.Size.{slots, slotSize, tableSize}
 use Rattle.rules.specs.Octets.{Octets, padded, paste, bigEndian, pack, packFrom, bitsAt}
-use Rattle.rules.specs.Node.{Entry, Node, nodeAt, withValue}
+use Rattle.rules.specs.Path.{Domain, isControl}
+use Rattle.rules.specs.Node.{Entry, Node, nodeAt, heir, newNode, withValue, withEntries}
 use Rattle.rules.specs.Layout.{tableOf, tableBytes, slotBytes, nodeBits, entryBits}
-use Rattle.rules.proofs.Slots.{NodeFits, SlotFits, slot-written, length-tableOf}
+use Rattle.rules.proofs.Cases.{cond-case}
+use Rattle.rules.proofs.Joined.{paste-behind}
+use Rattle.rules.proofs.Tables.{Each}
+use Rattle.rules.proofs.Slots.{EntryFits, NodeFits, SlotFits, slot-written, length-tableOf}
 use Rattle.rules.proofs.Fields.{length-big, take-drop-take}
 use Rattle.rules.proofs.Fitting.{decoded-fits, nodeAt-fits}
 use Rattle.rules.proofs.Paste.{paste-sets, paste-append, paste-own, part-before, length-paste}
 use Rattle.slots.specs.Slot.{Canonical, slotAt, isUsed, nameLength, valueLength, entryCount}
 use Rattle.slots.specs.Written.{fieldsOf, entriesOf, entriesBytes}
 use Rattle.slots.proofs.Reading.{used-slot, used-node}
-use Rattle.slots.proofs.Canonical.{chunk-bytes, name-length-is, entry-count-is}
+use Rattle.slots.proofs.Canonical.{chunk-bytes, name-length-is, value-length-is, entry-count-is}
 
 -- ── parts of a slot ──
 
@@ -118,35 +122,78 @@ length-padded : (n : ℕ) (s : Octets) → length s ≤ n → length (padded n s
 unfolding padded
 length-padded n s h = length-append s (replicate (n - length s) 0) ∙ rw length-replicate (omega arith)
 
-module _ (t : Octets) (k : Canonical t) (i : ℕ) (h : i < slots) where
-  pub used-is : isUsed (slotAt t i) ≡ true → slotAt t i ≡ some (nodeAt (tableOf t) i)
-  used-is u = used-slot t i h u ∙ ap some (sym (used-node t i h u))
+pub used-is : (t : Octets) (i : ℕ) → i < slots → isUsed (slotAt t i) ≡ true → slotAt t i ≡ some (nodeAt (tableOf t) i)
+used-is t i h u = used-slot t i h u ∙ ap some (sym (used-node t i h u))
 
+length-entries : (o : Entry) (es : List Entry) → length (entriesBytes o es) ≡ 9
+unfolding entriesBytes
+length-entries o es = length-big 9 _
+
+pub heir-fits : (d : Domain) (e : Entry) → d < 65536 → EntryFits e → EntryFits (heir d e)
+unfolding heir
+heir-fits d e h f = cond-case EntryFits (isControl d) _ _ f (record { access = f .access; domain = h })
+
+module _ (t : Octets) (k : Canonical t) (i : ℕ) (h : i < slots) where
   -- a slot's bytes put in place
   pub slot-put : (x : Option Node) → SlotFits x → paste (i * slotSize) (slotBytes x) t ≡ tableBytes (set (tableOf t) i x)
   slot-put x f =
       ap (paste (i * slotSize) (slotBytes x)) (sym (k .kept))
       ∙ sym (slot-written (tableOf t) i x (decoded-fits t .all) f (rw length-tableOf h))
 
-  -- the four parts of a used slot, put in from the last on
+  -- the parts of a used slot: all behind the fields, then the fields
+  rest-put : (m : Node) → NodeFits m → (f : ℕ) → f ≡ fieldsOf (m .parent) (length (m .name)) (length (m .value)) (suc (length (m .others))) →
+      paste (i * slotSize) (bigEndian 3 f) (paste (i * slotSize + 3) (entriesBytes (m .owner) (m .others) ++ (padded 32 (m .name) ++ padded 64 (m .value))) t)
+      ≡ tableBytes (set (tableOf t) i (some m))
+  unfolding slotBytes entriesBytes
+  rest-put m g f e =
+      let at = i * slotSize in
+      let w = k .whole in
+      let rest = entriesBytes (m .owner) (m .others) ++ (padded 32 (m .name) ++ padded 64 (m .value)) in
+      ap (λ (j : ℕ). paste at (bigEndian 3 j) (paste (at + 3) rest t)) (e ∙ sym (fields-packed m))
+      ∙ sym (seam at 3 (at + 3) (bigEndian 3 (pack (nodeBits m))) rest t (length-big 3 _) refl (omega arith))
+      ∙ slot-put (some m) g
+
+  -- the same, put in from the last on
   node-put : (m : Node) → NodeFits m → (f : ℕ) → f ≡ fieldsOf (m .parent) (length (m .name)) (length (m .value)) (suc (length (m .others))) →
       let at = i * slotSize in
       paste at (bigEndian 3 f) (paste (at + 3) (entriesBytes (m .owner) (m .others)) (paste (at + 12) (padded 32 (m .name)) (paste (at + 44) (padded 64 (m .value)) t)))
       ≡ tableBytes (set (tableOf t) i (some m))
-  unfolding slotBytes entriesBytes
   node-put m g f e =
       let at = i * slotSize in
       let w = k .whole in
-      let a = bigEndian 3 (pack (nodeBits m)) in
-      let b = bigEndian 9 (pack (entryBits 4 (m .owner ∷ m .others))) in
+      let b = entriesBytes (m .owner) (m .others) in
       let n = padded 32 (m .name) in
       let v = padded 64 (m .value) in
-      ap (λ (j : ℕ). paste at (bigEndian 3 j) (paste (at + 3) b (paste (at + 12) n (paste (at + 44) v t)))) (e ∙ sym (fields-packed m))
-      ∙ sym
-      (seam at 3 (at + 3) a (b ++ (n ++ v)) t (length-big 3 _) refl (omega arith)
-      ∙ ap (paste at a) (seam (at + 3) 9 (at + 12) b (n ++ v) t (length-big 9 _) (omega arith) (omega arith)
+      ap (paste at (bigEndian 3 f))
+      (sym
+      (seam (at + 3) 9 (at + 12) b (n ++ v) t (length-entries (m .owner) (m .others)) (omega arith) (omega arith)
       ∙ ap (paste (at + 3) b) (seam (at + 12) 32 (at + 44) n v t (length-padded 32 (m .name) (g .name)) (omega arith) (omega arith))))
-      ∙ slot-put (some m) g
+      ∙ rest-put m g f e
+
+  -- a new node: its entries, its name, its value, its fields
+  pub new-put : (p : ℕ) (n v : Octets) (d e : ℕ) → p < slots → isUsed (slotAt t p) ≡ true → length n ≤ 32 → length v ≤ 64 → d < 65536 → e ≡ entryCount t p →
+      {x y z r : Octets} → x ≡ paste (i * slotSize + 3) (entriesBytes (heir d (nodeAt (tableOf t) p .owner)) (nodeAt (tableOf t) p .others)) t → y ≡ paste (i * slotSize + 12) (padded 32 n) x →
+      z ≡ paste (i * slotSize + 44) (padded 64 v) y → r ≡ paste (i * slotSize) (bigEndian 3 (fieldsOf p (length n) (length v) e)) z →
+      r ≡ tableBytes (set (tableOf t) i (some (newNode d (tableOf t) p n v)))
+  unfolding newNode
+  new-put p n v d e hp u hn hv hd he q₁ q₂ q₃ q₄ =
+      let w = k .whole in
+      let at = i * slotSize in
+      let parent = nodeAt (tableOf t) p in
+      let f = nodeAt-fits (tableOf t) p (decoded-fits t .all) in
+      let o = heir d (parent .owner) in
+      let b = entriesBytes o (parent .others) in
+      let l = length-entries o (parent .others) in
+      let m : Node = record { parent = p; name = n; value = v; owner = o; others = parent .others } in
+      let g : NodeFits m = record { parent = hp; name = hn; value = hv; owner = heir-fits d (parent .owner) hd (f .owner); few = f .few; others = f .others } in
+      let ln : length (padded 32 n) ≡ 32 = length-padded 32 n hn in
+      q₄
+      ∙ ap (paste at (bigEndian 3 (fieldsOf p (length n) (length v) e)))
+      (q₃
+      ∙ ap (paste (at + 44) (padded 64 v)) (q₂ ∙ ap (paste (at + 12) (padded 32 n)) q₁ ∙ paste-behind (at + 3) (at + 12) b (padded 32 n) t (omega arith) (omega arith))
+      ∙ paste-behind (at + 3) (at + 44) (b ++ padded 32 n) (padded 64 v) t (omega arith) (omega (arith, length-append b (padded 32 n)))
+      ∙ ap (λ (s : Octets). paste (at + 3) s t) (append-assoc b (padded 32 n) (padded 64 v)))
+      ∙ rest-put m g (fieldsOf p (length n) (length v) e) (ap (fieldsOf p (length n) (length v)) (he ∙ entry-count-is t k p hp parent (used-is t p hp u)))
 
   -- what stands in place already
   stays : (j l : ℕ) (b x : Octets) → length x ≡ length t → take l (drop (i * slotSize + j) x) ≡ b → j + l ≤ slotSize → paste (i * slotSize + j) b x ≡ x
@@ -167,7 +214,7 @@ module _ (t : Octets) (k : Canonical t) (i : ℕ) (h : i < slots) where
     part j l a b c e ha hb hl =
         ap (take l) (sym (drop-drop j (i * slotSize) t))
         ∙ sym (take-drop-take l j slotSize (drop (i * slotSize) t) hl)
-        ∙ ap (λ (s : Octets). take l (drop j s)) (chunk-bytes t k i h ∙ ap slotBytes (used-is u) ∙ e)
+        ∙ ap (λ (s : Octets). take l (drop j s)) (chunk-bytes t k i h ∙ ap slotBytes (used-is t i h u) ∙ e)
         ∙ ap (take l) (drop-at a (b ++ c) j ha)
         ∙ take-at b c l hb
 
@@ -200,6 +247,24 @@ module _ (t : Octets) (k : Canonical t) (i : ℕ) (h : i < slots) where
         (length-padded 64 (node .value) (fits .value))
         (omega arith)
 
+    pub entries-put : (o : Entry) (es : List Entry) → EntryFits o → Each EntryFits es → length es ≤ 3 → (p l v e : ℕ) →
+        p ≡ nodeAt (tableOf t) i .parent → l ≡ nameLength t i → v ≡ valueLength t i → e ≡ suc (length es) →
+        {x y : Octets} → x ≡ paste (i * slotSize + 3) (entriesBytes o es) t → y ≡ paste (i * slotSize) (bigEndian 3 (fieldsOf p l v e)) x →
+        y ≡ tableBytes (withEntries (tableOf t) i o es)
+    unfolding withEntries node
+    entries-put o es ho hes few p l v e hp hl hv he q r =
+        let at = i * slotSize in
+        let b = entriesBytes o es in
+        let m : Node = record { parent = node .parent; name = node .name; value = node .value; owner = o; others = es } in
+        let g : NodeFits m = record { parent = fits .parent; name = fits .name; value = fits .value; owner = ho; few = few; others = hes } in
+        let s = used-is t i h u in
+        let lvalue = stays 44 64 (padded 64 (node .value)) t refl value-part (omega arith) in
+        let lname = stays 12 32 (padded 32 (node .name)) t refl name-part (omega arith) in
+        r
+        ∙ ap (paste at (bigEndian 3 (fieldsOf p l v e))) (q ∙ ap (paste (at + 3) b) (sym (ap (paste (at + 12) (padded 32 (node .name))) lvalue ∙ lname)))
+        ∙ node-put m g (fieldsOf p l v e)
+        (λ j. fieldsOf (hp j) ((hl ∙ name-length-is t k i h node s) j) ((hv ∙ value-length-is t k i h node s) j) (he j))
+
     pub value-put : (v : Octets) → length v ≤ 64 → (p l e : ℕ) → p ≡ nodeAt (tableOf t) i .parent → l ≡ nameLength t i → e ≡ entryCount t i →
         {x y : Octets} → x ≡ paste (i * slotSize + 44) (padded 64 v) t → y ≡ paste (i * slotSize) (bigEndian 3 (fieldsOf p l (length v) e)) x →
         y ≡ tableBytes (withValue (tableOf t) i v)
@@ -217,7 +282,7 @@ module _ (t : Octets) (k : Canonical t) (i : ℕ) (h : i < slots) where
         r
         ∙ ap (paste at (bigEndian 3 (fieldsOf p l (length v) e))) (q ∙ sym (ap (paste (at + 3) (entriesBytes (node .owner) (node .others))) lname ∙ lentries))
         ∙ node-put m g (fieldsOf p l (length v) e)
-        (λ s. fieldsOf (hp s) ((hl ∙ name-length-is t k i h node (used-is u)) s) (length v) ((he ∙ entry-count-is t k i h node (used-is u)) s))
+        (λ s. fieldsOf (hp s) ((hl ∙ name-length-is t k i h node (used-is t i h u)) s) (length v) ((he ∙ entry-count-is t k i h node (used-is t i h u)) s))
 
   pub free-put : {y : Octets} → y ≡ paste (i * slotSize) (replicate slotSize 0) t → y ≡ tableBytes (set (tableOf t) i none)
   unfolding slotBytes

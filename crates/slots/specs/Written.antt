@@ -2,7 +2,7 @@
 use mathlib.Core.List.{List, [], _∷_}
 use Prim.Native.Nat.{ℕ, zero, suc, _+_, _*_, _-_, _≤_, _<_}
 use lib.ListN.{length, getD, take}
-use Rattle.rules.specs.Size.{entriesSize, mostEntries}
+use Rattle.rules.specs.Size.{entriesSize, mostEntries, longestName, longestValue}
 use Rattle.rules.specs.Octets.{Octets, bigEndian, pack}
 use Rattle.rules.specs.Node.{Entry}
 use Rattle.rules.specs.Layout.{entryBits}
@@ -42,3 +42,9 @@ pub record Given (count : ℕ) (access domain : List ℕ) : Type 0 where
   pub domains : count ≤ length domain
   pub kinds : (k : ℕ) → k < count → getD access k 0 < 4
   pub ids : (k : ℕ) → k < count → getD domain k 0 < 65536
+
+-- a new node's name, value and owner are within their sizes
+pub record Room (n v d : ℕ) : Type 0 where
+  pub name : n ≤ longestName
+  pub value : v ≤ longestValue
+  pub domain : d < 65536

@@ -20,7 +20,7 @@ same-length c = search needs
 
 -- src/writing.rt:19:1
 returns : tie.Need-returns
-returns c = 
+returns c =
     let b = c .before .before .before .before .before in
     free-put _ (b .pre .1) (b .args .i) (b .pre .0) (c .before .before .clear .ensures)
 

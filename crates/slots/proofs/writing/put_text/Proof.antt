@@ -29,7 +29,7 @@ same-length c = search needs
 
 -- src/writing.rt:27:1
 returns : tie.Need-returns
-returns c = 
+returns c =
     let b = c .before .before .before .before .before .before .before .before .before .before in
     text-put (b .args .at) (b .args .room) _ _ (b .pre .0) (b .pre .1) (c .before .before .before .before .before .before .clear .ensures) (c .before .before .copy .ensures)
 

@@ -37,7 +37,7 @@ put-text-requires c κs = search needs
 
 -- src/writing.rt:81:5
 put-fields-requires : tie.Need-put-fields-requires
-put-fields-requires c κs = 
+put-fields-requires c κs =
     let b = c .before .before .before .before .before .before .before .before .before .before .before .before .before in
     (omega arith, omega arith, omega (arith, name-small (b .args .t .now) (b .args .i)), omega arith, omega (arith, count-small (b .args .t .now) (b .args .i)))
 
@@ -47,7 +47,7 @@ same-length c = search needs
 
 -- src/writing.rt:72:1
 returns : tie.Need-returns
-returns c = 
+returns c =
     let b = c .before .before .before .before .before .before .before .before .before .before .before .before .before .before .before .before in
     let p = c .before .before .before .before .before .before in
     value-put _ (b .pre .1) (b .args .i) (b .pre .0) (b .pre .2) _ (b .pre .3) _ _ _ (p .before .before .before .before .before .before .parent .ensures .1) (p .before .before .before .before .name-length .ensures) (p .before .before .entry-count .ensures) (p .put-text .ensures) (c .before .before .put-fields .ensures)
