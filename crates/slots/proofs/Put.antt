@@ -11,14 +11,14 @@ use lib.Seq.{drop-drop, take-at, drop-at}
 use Rattle.rules.specs.Size.{slots, slotSize, tableSize}
 use Rattle.rules.specs.Octets.{Octets, padded, paste, bigEndian, pack, packFrom, bitsAt}
 use Rattle.rules.specs.Path.{Domain, isControl}
-use Rattle.rules.specs.Node.{Entry, Node, nodeAt, heir, newNode, withValue, withEntries}
+use Rattle.rules.specs.Node.{Entry, Node, Table, nodeAt, heir, newNode, withValue, withEntries}
 use Rattle.rules.specs.Layout.{tableOf, tableBytes, slotBytes, nodeBits, entryBits}
 use Rattle.rules.proofs.Cases.{cond-case}
 use Rattle.rules.proofs.Joined.{paste-behind}
 use Rattle.rules.proofs.Tables.{Each}
-use Rattle.rules.proofs.Slots.{EntryFits, NodeFits, SlotFits, slot-written, length-tableOf}
+use Rattle.rules.proofs.Slots.{EntryFits, NodeFits, SlotFits, slot-written, length-tableOf, length-table, table-read}
 use Rattle.rules.proofs.Fields.{length-big, take-drop-take}
-use Rattle.rules.proofs.Fitting.{decoded-fits, nodeAt-fits}
+use Rattle.rules.proofs.Fitting.{Fitting, decoded-fits, nodeAt-fits}
 use Rattle.rules.proofs.Paste.{paste-sets, paste-append, paste-own, part-before, length-paste}
 use Rattle.slots.specs.Slot.{Canonical, slotAt, isUsed, nameLength, valueLength, entryCount}
 use Rattle.slots.specs.Written.{fieldsOf, entriesOf, entriesBytes}
@@ -287,3 +287,13 @@ module _ (t : Octets) (k : Canonical t) (i : ℕ) (h : i < slots) where
   pub free-put : {y : Octets} → y ≡ paste (i * slotSize) (replicate slotSize 0) t → y ≡ tableBytes (set (tableOf t) i none)
   unfolding slotBytes
   free-put e = e ∙ slot-put none tt
+
+-- ── tables that are written ──
+
+-- the bytes of a table that fits its fields
+pub fitting-bytes : (ts : Table) → Fitting ts → Canonical (tableBytes ts)
+fitting-bytes ts f =
+    record {
+      whole = length-table ts (f .all) ∙ ap (λ (n : ℕ). n * slotSize) (f .long);
+      kept = ap tableBytes (table-read ts (f .long) (f .all));
+    }

@@ -1,0 +1,3 @@
+pub mod FreeSlots
+pub mod WithinLaws
+pub mod MadeLaws
