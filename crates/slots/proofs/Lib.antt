@@ -1,2 +1,4 @@
 pub mod Reading
 pub mod Canonical
+pub mod Put
+pub mod Numbers

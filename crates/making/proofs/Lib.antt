@@ -1,0 +1,4 @@
+pub mod FreeSlots
+pub mod WithinLaws
+pub mod MadeLaws
+pub mod SweptLaws
