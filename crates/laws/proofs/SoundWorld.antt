@@ -237,7 +237,7 @@ transactions-written {ds} {xs} {cs} k y t s l h f =
     }
 
 -- an entry after some became stale, or none did
-unstaled : (b : Bool) (ys : Transactions) (k : ℕ) (y : Transaction) → At (staledIf b ys) k y → (x : Transaction) × At ys k x × (y .holder ≡ x .holder) × (y .changes ≡ x .changes)
+pub unstaled : (b : Bool) (ys : Transactions) (k : ℕ) (y : Transaction) → At (staledIf b ys) k y → (x : Transaction) × At ys k x × (y .holder ≡ x .holder) × (y .changes ≡ x .changes)
 unfolding staledIf
 unstaled false ys k y e = (y, e, refl, refl)
 unstaled true ys k y e = let r = getD-staled ys k y e in (r .0, r .1, r .2, r .4)
@@ -255,7 +255,7 @@ closed-before xs j k y q = set-cases (At xs k y) xs j k none y q (λ r p. absurd
 
 -- ── what a release removes ──
 
-abbrev NotRoot : ℕ → Type 0
+abbrev pub NotRoot : ℕ → Type 0
 NotRoot i = i ≡ 0 → ⊥
 
 each-append : {A : Type 0} (P : A → Type 0) (xs ys : List A) → Each P xs → Each P ys → Each P (xs ++ ys)
@@ -288,7 +288,7 @@ owned-not-root (suc k) t d i h =
     cond-known (Each NotRoot) (eqb (nodeAt t i .owner .domain) d) _ _ (λ e. (h e, tt))
     (λ e. below-not-root k t d (childrenFrom t i 0 t) (λ j z. owned-not-root k t d j (λ x. z)) (children-not-root t i 0 t))
 
-owned-fine : (t : Table) (d : Domain) → Good t → 1 ≤ d → Each NotRoot (ownedBy t d)
+pub owned-fine : (t : Table) (d : Domain) → Good t → 1 ≤ d → Each NotRoot (ownedBy t d)
 unfolding ownedBy
 owned-fine t d g h = owned-not-root 9 t d 0 λ e.
     absurd (not-suc-le-zero (rw (sym (eqb-true _ _ e) ∙ (ap (λ (n : Node). n .owner .domain) (nodeAt-is t 0 (g .root) (g .used)) ∙ g .control)) at h))
