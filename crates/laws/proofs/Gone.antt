@@ -1,30 +1,29 @@
 -- Gone is gone: the walk over a domain's nodes reaches each of them, and each removal stands.
 use mathlib.Core.Path.{_≡_, refl, sym, _∙_, ap, subst}
 use mathlib.Core.Bool.{Bool, true, false, cond, not, _&&_, _||_, false≢true, true≢false, and-eq-true-iff}
-use mathlib.Core.List.{List, [], _∷_, _++_, map, flatMap, List·Memᴰ, List·Memᴰ·head, Memᴰ·append-right}
+use mathlib.Core.List.{List, [], _∷_, _++_, map, flatMap, List·Memᴰ·head, Memᴰ·append-right}
 use mathlib.Core.Option.{Option, none, some}
 use Prim.Native.Nat.{ℕ, zero, suc, _+_, _-_, _≤_, _<_}
 use native.Mathlib.Omega.{arith}
 use native.Mathlib.Nat.{zero-add, suc-add, add-zero}
-use native.Mathlib.Decide.{ℕ-discrete}
 use lib.ListN.{length, getD}
 use lib.Dec.{eqb, leb}
 use borrow.Author.Tests.{eqb-true, eq-eqb, ne-eqb, eqb-false}
 use Rattle.rules.specs.Size.{deepest, lastDomain}
-use Rattle.rules.specs.Octets.{Octets, same, less, decimal}
+use Rattle.rules.specs.Octets.{Octets, less, decimal}
 use Rattle.rules.specs.Entries.{has, without, isEmpty}
 use Rattle.rules.specs.Path.{Domain, Connection, domainOf, isControl, releaseName}
 use Rattle.rules.specs.Node.{Node, Table, nodeAt, within, removed, insert, hasParent, childrenFrom, children, ownedBelow, ownedBy, withoutAll}
 use Rattle.rules.specs.Payload.{Place, path, event, release, request}
-use Rattle.rules.specs.Answer.{Errno, EACCES, ENOENT, Reply, done, refused, OK}
+use Rattle.rules.specs.Answer.{Errno, EACCES, ENOENT, refused, OK}
 use Rattle.rules.specs.Event.{Watch, Watches, Record, maskOf, anyBit, kept, heard, isEvent, heardOf}
 use Rattle.rules.specs.Layout.{Transaction}
 use Rattle.rules.specs.Sound.{reachesRoot, introduced, goodPlace, eventDepth}
 use Rattle.rules.specs.World.{World, Outcome, freshWorld, withoutTransactions, withoutWatches, speaksFor, left, to, removalOf, releasing, forControl, handle}
 use Rattle.rules.specs.Call.{txOf, outcomeOf}
 use Rattle.rules.proofs.GoodRequests.{ParsedGood}
-use Rattle.rules.proofs.Tables.{Each, each-map}
-use Rattle.rules.proofs.Cases.{cond-case, cond-known}
+use Rattle.rules.proofs.Tables.{Each}
+use Rattle.rules.proofs.Cases.{cond-case}
 use Rattle.rules.proofs.Places.{nothing, some-is, is-false, At, has-not, at-without, without-at}
 use Rattle.rules.proofs.GoodTables.{Good, nodeAt-is}
 use Rattle.rules.proofs.GoodAnswers.{reaches-cases, reaches-zero, parent-used, stayed, removed-good}
@@ -32,7 +31,7 @@ use Rattle.rules.proofs.Compare.{same-refl}
 use Rattle.laws.specs.Gone.{Gone, Hears, GoneIsGone}
 use Rattle.laws.proofs.Kept.{or-true}
 use Rattle.laws.proofs.SoundWorld.{SoundWorld, NotRoot, owned-fine, unstaled}
-use Rattle.laws.specs.History.{requestOf, served, run}
+use Rattle.laws.specs.History.{run}
 use Rattle.laws.proofs.Calls.{served-is, request-good}
 use Rattle.laws.proofs.SoundCalls.{fresh-sound, run-keeps}
 

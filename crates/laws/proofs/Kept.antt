@@ -1,13 +1,10 @@
 -- What a call leaves of an open transaction: its holder, and its stale mark with the call's change.
 use mathlib.Core.Path.{_≡_, refl, sym, _∙_, ap}
-use mathlib.Core.Bool.{Bool, true, false, cond, not, _&&_, _||_}
-use mathlib.Core.List.{List, [], _∷_}
+use mathlib.Core.Bool.{Bool, true, false, _||_}
+use mathlib.Core.List.{[], _∷_}
 use mathlib.Core.Option.{Option, none, some}
-use Prim.Native.Nat.{ℕ, zero, suc, _<_}
-use lib.ListN.{getD, set, length}
-use lib.Seq.{getD-set-same, getD-set-other}
-use native.Mathlib.Omega.{arith}
-use native.Mathlib.Decide.{ℕ-discrete}
+use Prim.Native.Nat.{ℕ, zero, suc}
+use lib.ListN.{getD, set}
 use Rattle.rules.specs.Entries.{lowest, without}
 use Rattle.rules.specs.Layout.{Transaction, Transactions}
 use Rattle.rules.specs.World.{staled, staledIf}

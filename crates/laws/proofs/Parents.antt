@@ -1,12 +1,12 @@
 -- Parents: the proofs.
-use mathlib.Core.Path.{_≡_, refl, sym, _∙_, ap}
-use mathlib.Core.Bool.{Bool, true, false, false≢true}
-use mathlib.Core.List.{List, [], _∷_, _++_}
+use mathlib.Core.Path.{_≡_, refl}
+use mathlib.Core.Bool.{true, false≢true}
+use mathlib.Core.List.{[], _∷_, _++_}
 use mathlib.Core.Option.{Option, none, some}
-use Prim.Native.Nat.{ℕ, zero, suc}
+use Prim.Native.Nat.{ℕ}
 use native.Mathlib.Omega.{arith}
 use Rattle.rules.specs.Entries.{isEmpty}
-use Rattle.rules.specs.Path.{Name, Names}
+use Rattle.rules.specs.Path.{Names}
 use Rattle.rules.specs.Node.{Table, Reached, child, reachFrom, reach}
 use Rattle.rules.specs.World.{freshWorld}
 use Rattle.rules.proofs.GoodTables.{good-of, path-back}

@@ -1,12 +1,12 @@
 -- Soundness through calls and histories: the proofs of the laws.
-use mathlib.Core.Path.{_≡_, refl, sym, _∙_, ap, subst}
-use mathlib.Core.Bool.{Bool, true, false, cond, _&&_, _||_, false≢true, and-eq-true-iff}
-use mathlib.Core.List.{List, [], _∷_}
+use mathlib.Core.Path.{_≡_, refl, sym, _∙_, subst}
+use mathlib.Core.Bool.{Bool, true, false, cond, _&&_, false≢true, and-eq-true-iff}
+use mathlib.Core.List.{[], _∷_}
 use mathlib.Core.Option.{Option, none, some}
-use Prim.Native.Nat.{ℕ, zero, suc, _<_}
+use Prim.Native.Nat.{ℕ}
 use native.Mathlib.Omega.{arith}
-use lib.ListN.{length, getD, replicate, length-replicate}
-use lib.Dec.{eqb, lit<}
+use lib.ListN.{length, length-replicate}
+use lib.Dec.{eqb}
 use borrow.Author.Tests.{eq-eqb}
 use Rattle.rules.specs.Size.{mostTransactions, mostWatches, mostDomains, tableSize, replySize, eventsSize}
 use Rattle.rules.specs.Octets.{Octets, same}
@@ -16,10 +16,9 @@ use Rattle.rules.specs.Node.{root, freshTable, nodeAt}
 use Rattle.rules.specs.Layout.{domainsOf}
 use Rattle.rules.specs.Sound.{goodEntries, reachesRoot, goodName, goodNode, goodNodes, goodRoot, distinct, goodTable, known}
 use Rattle.rules.specs.World.{World, Outcome, freshWorld}
-use Rattle.rules.specs.Call.{Verdict, handled, wrongSize, unsound, stranger, callNumber, isHandled, Tables, sizedTables, sound, worldOf, tablesOf, txOf, frameVerdict, requestVerdict, outcome, outcomeOf, Result, turnedAway, delivered, requestBy, requestCall}
+use Rattle.rules.specs.Call.{Verdict, wrongSize, unsound, stranger, callNumber, isHandled, Tables, sizedTables, sound, worldOf, tablesOf, txOf, frameVerdict, requestVerdict, outcome, turnedAway, delivered, requestBy, requestCall}
 use Rattle.rules.proofs.Cases.{cond-known}
 use Rattle.rules.proofs.Places.{nothing, none-at}
-use Rattle.rules.proofs.Tables.{Each}
 use Rattle.rules.proofs.Fitting.{fresh-fits}
 use Rattle.rules.proofs.GoodTables.{good-of}
 use Rattle.laws.specs.History.{Call, History, requestOf, served, after, run}

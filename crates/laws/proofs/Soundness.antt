@@ -1,32 +1,32 @@
 -- Soundness of the bytes: a sound world's bytes are sound, and sound bytes mean a sound world.
-use mathlib.Core.Path.{_≡_, refl, sym, _∙_, ap, ap₂, subst}
-use mathlib.Core.Bool.{Bool, true, false, cond, not, _&&_, _||_, false≢true, true≢false, and-eq-true-iff}
+use mathlib.Core.Path.{_≡_, refl, sym, _∙_, ap, subst}
+use mathlib.Core.Bool.{Bool, true, not, _&&_, false≢true, and-eq-true-iff}
 use mathlib.Core.List.{List, [], _∷_, _++_, map, flatMap}
 use mathlib.Core.Option.{Option, none, some}
-use Prim.Native.Nat.{ℕ, zero, suc, _+_, _*_, _-_, _≤_, _<_}
+use Prim.Native.Nat.{ℕ, zero, suc, _*_, _≤_, _<_}
 use native.Mathlib.Omega.{arith}
-use lib.ListN.{length, getD, set, take, drop, length-map, length-take, length-drop, take-append-drop}
+use lib.ListN.{length, getD, take, drop, length-map, length-take, length-drop, take-append-drop}
 use lib.Seq.{take-at, drop-at}
-use lib.Dec.{eqb, ltb, leb}
-use borrow.Author.Tests.{eqb-true, eq-eqb, eqb-false, ne-eqb, leb-true, le-leb, not-true}
+use lib.Dec.{eqb, leb}
+use borrow.Author.Tests.{eqb-true, eq-eqb, leb-true, le-leb}
 use Rattle.rules.specs.Size.{mostTransactions, mostDomains, mostWatches, tableSize, copiesSize, domainsSize, watchesSize, transactionsSize, transactionSize, mostChanges, lastDomain}
 use Rattle.rules.specs.Octets.{Octets, same, chunks, field}
 use Rattle.rules.specs.Entries.{has}
 use Rattle.rules.specs.Path.{Domain, domainOf}
-use Rattle.rules.specs.Payload.{Place, path, event}
+use Rattle.rules.specs.Payload.{Place, event}
 use Rattle.rules.specs.Answer.{Change}
-use Rattle.rules.specs.Event.{Watch, Watches, placeText}
+use Rattle.rules.specs.Event.{Watch, Watches}
 use Rattle.rules.specs.Layout.{Domains, Transaction, Transactions, tableBytes, tableOf, domainsBytes, domainsOf, watchesBytes, watchesOf, transactionIn, transactionsBytes, transactionsOf}
 use Rattle.rules.specs.Sound.{introduced, known, watched, goodDomains, soundDomains, goodWatch, goodWatches, soundWatches, goodChange, goodChanges, goodTable, soundTable, goodTransactions, soundTransactions, goodPlace, noNul}
-use Rattle.rules.specs.World.{World, Outcome, freshWorld}
+use Rattle.rules.specs.World.{World}
 use Rattle.rules.specs.Call.{Tables, sizedTables, sound, worldOf, tablesOf}
-use Rattle.rules.proofs.Compare.{same-refl, same-eq, eq-same}
+use Rattle.rules.proofs.Compare.{same-refl, same-eq}
 use Rattle.rules.proofs.Tables.{Each, length-encoded, length-chunks, decoded-at}
 use Rattle.rules.proofs.Slots.{table-read}
 use Rattle.rules.proofs.Places.{nothing, some-is, At, at-below, every, apart, every-at, at-every, related-one, one-related}
-use Rattle.rules.proofs.EntryLayouts.{DomainFits, domains-read, length-domains, WatchFits, MaybeWatch, watches-read, length-watches, ChangeFits, WatchRead, watch-in, watch-decoded, transaction-in, transaction-decoded, TransactionFits, MaybeTransaction, transactions-read, length-transactions}
+use Rattle.rules.proofs.EntryLayouts.{DomainFits, domains-read, length-domains, MaybeWatch, watches-read, length-watches, ChangeFits, WatchRead, watch-in, watch-decoded, transaction-in, transaction-decoded, MaybeTransaction, transactions-read, length-transactions}
 use Rattle.laws.specs.Soundness.{Lendable}
-use Rattle.laws.proofs.SoundWorld.{DomainsSound, WatchSound, twins, WatchesSound, TransactionSound, TransactionsSound, TableSound, SoundWorld, table-encoded, table-decoded, known-range, twins-sym}
+use Rattle.laws.proofs.SoundWorld.{DomainsSound, WatchSound, twins, WatchesSound, TransactionsSound, SoundWorld, table-encoded, table-decoded, known-range, twins-sym}
 
 -- ── entries one by one ──
 

@@ -1,14 +1,13 @@
 -- Soundness: the tables that the calls leave can always be lent again.
 use mathlib.Core.Path.{_≡_}
 use mathlib.Core.Bool.{true}
-use mathlib.Core.List.{List}
 use lib.ListN.{length}
 use Rattle.rules.specs.Size.{replySize, eventsSize}
 use Rattle.rules.specs.Octets.{Octets}
 use Rattle.rules.specs.Path.{Connection}
 use Rattle.rules.specs.World.{freshWorld}
 use Rattle.rules.specs.Call.{Tables, sizedTables, sound, worldOf, tablesOf, requestCall}
-use Rattle.laws.specs.History.{Call, History, after, run}
+use Rattle.laws.specs.History.{History, after, run}
 
 -- tables of the right sizes that are sound
 pub record Lendable (t : Tables) : Type 0 where

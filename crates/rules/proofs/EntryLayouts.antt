@@ -10,8 +10,8 @@ use lib.ListN.{length, take, drop, replicate, length-append, length-replicate, l
 use lib.Seq.{take-append-seam, take-at, drop-at}
 use lib.Dec.{eqb, lit<, lit≤}
 use Rattle.rules.specs.Size.{longestToken, longestPath, mostChanges, domainSize, mostDomains, watchSize, mostWatches, changeSize, transactionSize, mostTransactions}
-use Rattle.rules.specs.Octets.{Octets, padded, bit, Bits, _bits_, chunks, bigEndian, bigFrom, field, pack, packFrom, bitsAt}
-use Rattle.rules.specs.Path.{Domain, Names, Given, malformed, absolute, relative, special, given, allNames, pathText, namesIn}
+use Rattle.rules.specs.Octets.{Octets, padded, bit, _bits_, chunks, bigEndian, bigFrom, field, pack, packFrom, bitsAt}
+use Rattle.rules.specs.Path.{Domain, Given, malformed, absolute, relative, special, given, allNames, pathText, namesIn}
 use Rattle.rules.specs.Payload.{Place, path, event}
 use Rattle.rules.specs.Answer.{Change}
 use Rattle.rules.specs.Event.{Watch, Watches, placeText}

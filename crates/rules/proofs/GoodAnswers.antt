@@ -1,7 +1,7 @@
 -- A good table stays good: written, made and removed nodes, and so every node request.
 use mathlib.Core.Path.{_≡_, refl, sym, _∙_, ap, subst}
 use mathlib.Core.Bool.{Bool, true, false, cond, not, _&&_, _||_, false≢true, true≢false, and-eq-true-iff}
-use mathlib.Core.List.{List, [], _∷_, _++_, nil≢cons, cons≢nil, head-eq-of-cons-eq}
+use mathlib.Core.List.{List, [], _∷_, nil≢cons, cons≢nil, head-eq-of-cons-eq}
 use mathlib.Core.Option.{Option, none, some}
 use Prim.Native.Nat.{ℕ, zero, suc, _+_, _-_, _<_, _≤_}
 use native.Mathlib.Omega.{arith}
@@ -9,10 +9,10 @@ use native.Mathlib.Nat.{add-zero, zero-add, suc-add, add-suc}
 use native.Mathlib.Decide.{ℕ-discrete}
 use lib.ListN.{length, getD, set}
 use lib.Seq.{getD-set-same, getD-set-other}
-use lib.Dec.{eqb, ltb, leb, eqb·suc-zero}
-use borrow.Author.Tests.{eqb-true, eqb-false, eq-eqb, ne-eqb, leb-true, le-leb}
+use lib.Dec.{eqb, leb, eqb·suc-zero}
+use borrow.Author.Tests.{eqb-true, eq-eqb, ne-eqb, leb-true, le-leb}
 use Rattle.rules.specs.Size.{deepest, lastDomain, longestName, longestValue, mostEntries}
-use Rattle.rules.specs.Octets.{Octets, same}
+use Rattle.rules.specs.Octets.{Octets}
 use Rattle.rules.specs.Entries.{lowest, freeCount}
 use Rattle.rules.specs.Path.{Domain, Name, Names, isControl, isName, allNames, shortNames, fits}
 use Rattle.rules.specs.Node.{Entry, Node, Table, Reached, nodeAt, child, reachFrom, reach, heir, newNode, lastValue, made, withValue, withEntries, within, clearedFrom, removed, withoutAll}
@@ -21,7 +21,7 @@ use Rattle.rules.specs.Payload.{Ask, directory, read, getPerms, write, m
 use Rattle.rules.specs.Answer.{Reply, Change, Answer, unchanged, changed, looked, room, created, written, directoryMade, taken, maySet, permitted, answered, answer}
 use Rattle.rules.specs.Sound.{goodEntries, reachesRoot, goodChange}
 use Rattle.rules.proofs.Cases.{cond-case, cond-known}
-use Rattle.rules.proofs.Places.{nothing, some-is, is-false, At, at-below, at-set, set-cases, lowest-free}
+use Rattle.rules.proofs.Places.{nothing, some-is, At, at-below, set-cases, lowest-free}
 use Rattle.rules.proofs.Tables.{Each}
 use Rattle.rules.proofs.Slots.{SlotFits}
 use Rattle.rules.proofs.Fitting.{Fitting, slotAt-fits, lowest-below, free-fewer}
