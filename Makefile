@@ -5,6 +5,7 @@ help:
 
 test:
 	rt fmt --check
+	sh tests/review-sheet.sh
 	rt ci
 
 worked:

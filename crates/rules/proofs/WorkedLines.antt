@@ -2,23 +2,23 @@
 use mathlib.Core.Path.{_≡_, refl}
 use mathlib.Core.Bool.{Bool, true}
 use mathlib.Core.List.{List, flatMap}
-use Rattle.rules.specs.Octets.{text, same, begins, fourBytes, littleEndian, bigEndian, packFrom, pack, digitsBefore, decimal, isDigit, valueFrom, plainForm, number, numberIn, signed}
-use Rattle.rules.specs.Path.{nameByte, allBytes, isName, allNames, glued, split, checked, afterSlash, given, slashed, pathText, shortNames, fits, beyond}
-use Rattle.rules.specs.Entries.{isEmpty, lowest, freeCount, has}
-use Rattle.rules.specs.Node.{root, freshTable, nodeAt, isChild, childFrom, child, reachFrom, reach, newNode, lastValue, made, withValue, withEntries}
+use Rattle.rules.specs.Octets.{text, same, less, begins, allZero, padded, paste, chunks, fourBytes, littleEndian, bigEndian, bigFrom, field, packFrom, pack, bitsAt, digitsBefore, decimal, isDigit, allDigits, valueFrom, plainForm, number, numberIn, signed}
+use Rattle.rules.specs.Path.{nameByte, allBytes, isName, allNames, glued, split, introduceName, releaseName, specialOf, checked, afterSlash, given, namesIn, isFull, base, slashed, pathText, shortNames, fits, beyond, isBelow}
+use Rattle.rules.specs.Entries.{isEmpty, lowest, freeCount, has, without}
+use Rattle.rules.specs.Node.{root, freshTable, nodeAt, isChild, childFrom, child, reachFrom, reach, heir, newNode, lastValue, made, withValue, withEntries, within, clearedFrom, removed, insert, hasParent, childrenFrom, children, pathUp, pathOf, ownedBelow, ownedBy, withoutAll}
 use Rattle.rules.specs.Rights.{named, accessOf, mayRead, mayWrite, mayOwn, readable}
-use Rattle.rules.specs.Payload.{before, ended, strings, firstString, accessLetter, entryOf, entriesOf, namesOf, placeOf, onRoot, proper, asking, plain, writing, setting, settingAll, depthFor, watchingTo, watching as watching-payload, introducingOf, introducing as introducing-payload, bare, starting as starting-payload, ending as ending-payload, parse}
-use Rattle.rules.specs.Answer.{errnoText, OK, unchanged, changed, absent, looked, room, created, written, directoryMade, taken, maySet, permitted, answered, answer}
-use Rattle.rules.specs.Event.{placeText, deepEnough, mayHear, hearsAt, hears, maskOf, anyBit, kept, heardChange, heard, firstHeard}
-use Rattle.rules.specs.Layout.{nodeBits, slotBytes}
-use Rattle.rules.specs.Sound.{introduced, known, twin, watched}
-use Rattle.rules.specs.World.{freshWorld, staled, left, to, plainly, transactionOf, asked, placeFits, watching as watching-request, starting as starting-request, closing, committing, ending as ending-request, introducing as introducing-request, forControl, forPlace, handle}
-use Rattle.rules.specs.Call.{isHandled, typeOf, txOf, lenOf, payloadOf, frameVerdict, replyType, replyPayload, replyTo, outcomeOf, outcome}
+use Rattle.rules.specs.Payload.{before, ended, strings, firstString, accessLetter, entryOf, entriesOf, namesOf, placeOf, onRoot, proper, asking, plain, writing, setting, settingAll, depthFor, watchingTo, watching as watching-payload, unwatching as unwatching-payload, introducingOf, introducing as introducing-payload, ofDomain, bare, starting as starting-payload, ending as ending-payload, parse}
+use Rattle.rules.specs.Answer.{errnoText, OK, accessText, entryText, permissions, nameList, listing, listed, unchanged, changed, absent, looked, room, created, written, directoryMade, taken, maySet, permitted, answered, answer}
+use Rattle.rules.specs.Event.{placeText, deepEnough, mayHear, hearsAt, hears, maskOf, anyBit, kept, heardChange, heard, isEvent, heardOf, onlyFrom, firstHeard}
+use Rattle.rules.specs.Layout.{textAt, entryBits, nodeBits, slotBytes, entryAt, nodeOf, slotOf, tableBytes, tableOf, domainBytes, domainIn, domainsBytes, domainsOf, isRelative, depthBits, watchBits, watchBytes, placeIn, watchAt, watchIn, watchesBytes, watchesOf, changeBytes, transactionBytes, changeIn, transactionAt, transactionIn, transactionsBytes, transactionsOf, maskBits, recordBytes}
+use Rattle.rules.specs.Sound.{goodEntries, reachesRoot, goodName, goodNode, goodNodes, goodRoot, clash, distinct, goodTable, soundTable, introduced, known, goodDomains, soundDomains, noNul, strictlyBelow, eventDepth, goodPlace, twin, watched, goodWatch, goodWatches, soundWatches, goodChange, goodChanges, goodTransactions, soundTransactions}
+use Rattle.rules.specs.World.{freshWorld, staled, staledIf, withoutTransactions, withoutWatches, speaksFor, left, to, plainly, transactionOf, inside, copyOf, asked, placeFits, watching as watching-request, unwatching as unwatching-request, starting as starting-request, closing, committing, ending as ending-request, introducing as introducing-request, removalOf, releasing, resetting, forControl, forPlace, introducedText, handle}
+use Rattle.rules.specs.Call.{callNumber, isHandled, sizedTables, sound, worldOf, tablesOf, freshCall, typeOf, txOf, lenOf, payloadOf, frameVerdict, requestVerdict, replyType, replyPayload, replyTo, outcomeOf, outcome, turnedAway, delivered, requestBy, requestCall}
 use Rattle.rules.specs.Worked.{Line, starred, added, isSeen, allSeen, stepsHold, lineHolds, allHold, message, string}
 
 -- all that a call computes with, opened
 computed : List Line → Bool
-unfolding flatMap text same begins fourBytes littleEndian bigEndian packFrom pack digitsBefore decimal isDigit valueFrom plainForm number numberIn signed nameByte allBytes isName allNames glued split checked afterSlash given slashed pathText shortNames fits beyond isEmpty lowest freeCount has root freshTable nodeAt isChild childFrom child reachFrom reach newNode lastValue made withValue withEntries named accessOf mayRead mayWrite mayOwn readable before ended strings firstString accessLetter entryOf entriesOf namesOf placeOf onRoot proper asking plain writing setting settingAll depthFor watchingTo watching-payload introducingOf introducing-payload bare starting-payload ending-payload parse errnoText OK unchanged changed absent looked room created written directoryMade taken maySet permitted answered answer placeText deepEnough mayHear hearsAt hears maskOf anyBit kept heardChange heard firstHeard nodeBits slotBytes introduced known twin watched freshWorld staled left to plainly transactionOf asked placeFits watching-request starting-request closing committing ending-request introducing-request forControl forPlace handle isHandled typeOf txOf lenOf payloadOf frameVerdict replyType replyPayload replyTo outcomeOf outcome isSeen allSeen stepsHold lineHolds allHold message string
+unfolding flatMap text same less begins allZero padded paste chunks fourBytes littleEndian bigEndian bigFrom field packFrom pack bitsAt digitsBefore decimal isDigit allDigits valueFrom plainForm number numberIn signed nameByte allBytes isName allNames glued split introduceName releaseName specialOf checked afterSlash given namesIn isFull base slashed pathText shortNames fits beyond isBelow isEmpty lowest freeCount has without root freshTable nodeAt isChild childFrom child reachFrom reach heir newNode lastValue made withValue withEntries within clearedFrom removed insert hasParent childrenFrom children pathUp pathOf ownedBelow ownedBy withoutAll named accessOf mayRead mayWrite mayOwn readable before ended strings firstString accessLetter entryOf entriesOf namesOf placeOf onRoot proper asking plain writing setting settingAll depthFor watchingTo watching-payload unwatching-payload introducingOf introducing-payload ofDomain bare starting-payload ending-payload parse errnoText OK accessText entryText permissions nameList listing listed unchanged changed absent looked room created written directoryMade taken maySet permitted answered answer placeText deepEnough mayHear hearsAt hears maskOf anyBit kept heardChange heard isEvent heardOf onlyFrom firstHeard textAt entryBits nodeBits slotBytes entryAt nodeOf slotOf tableBytes tableOf domainBytes domainIn domainsBytes domainsOf isRelative depthBits watchBits watchBytes placeIn watchAt watchIn watchesBytes watchesOf changeBytes transactionBytes changeIn transactionAt transactionIn transactionsBytes transactionsOf maskBits recordBytes goodEntries reachesRoot goodName goodNode goodNodes goodRoot clash distinct goodTable soundTable introduced known goodDomains soundDomains noNul strictlyBelow eventDepth goodPlace twin watched goodWatch goodWatches soundWatches goodChange goodChanges goodTransactions soundTransactions freshWorld staled staledIf withoutTransactions withoutWatches speaksFor left to plainly transactionOf inside copyOf asked placeFits watching-request unwatching-request starting-request closing committing ending-request introducing-request removalOf releasing resetting forControl forPlace introducedText handle callNumber isHandled sizedTables sound worldOf tablesOf freshCall typeOf txOf lenOf payloadOf frameVerdict requestVerdict replyType replyPayload replyTo outcomeOf outcome turnedAway delivered requestBy requestCall isSeen allSeen stepsHold lineHolds allHold message string
 computed ls = allHold ls
 
 -- every starred line of document 01 holds
