@@ -1,6 +1,6 @@
 -- The two shapes of an answer: it leaves the table, or it is OK and names its change.
 use mathlib.Core.Path.{_≡_, refl}
-use mathlib.Core.Bool.{Bool, true, false, cond, _&&_}
+use mathlib.Core.Bool.{Bool, true, false, cond, _&&_, and-true, and-false}
 use mathlib.Core.List.{[], _∷_}
 use Prim.Native.Nat.{ℕ, suc}
 use lib.ListN.{length}
@@ -28,14 +28,6 @@ isEAGAIN (refused ENOSPC) = false
 isEAGAIN (refused E2BIG) = false
 isEAGAIN (refused EAGAIN) = true
 isEAGAIN (refused ENOSYS) = false
-
-pub and-true : (b : Bool) → (b && true) ≡ b
-and-true true = refl
-and-true false = refl
-
-pub and-false : (b : Bool) → (b && false) ≡ false
-and-false true = refl
-and-false false = refl
 
 -- ── answers ──
 

@@ -1,7 +1,7 @@
 -- EAGAIN, exactly: the proofs.
 use mathlib.Core.Path.{_≡_, refl, sym, _∙_, ap}
 use mathlib.Core.Logic.{_↔_}
-use mathlib.Core.Bool.{Bool, true, false, cond, false≢true}
+use mathlib.Core.Bool.{Bool, true, false, cond, false≢true, or-true}
 use mathlib.Core.List.{[], _∷_, _++_}
 use mathlib.Core.Option.{Option, none, some}
 use Prim.Native.Nat.{ℕ, suc, _-_}
@@ -21,7 +21,6 @@ use Rattle.rules.specs.Call.{outcomeOf}
 use Rattle.laws.specs.History.{Call, History, requestOf, served, after, run, changes, anyChange, transactionAt, isOpen, staysOpen}
 use Rattle.laws.specs.Eagain.{Opens, Commits, EagainExactly, UndisturbedCommits, ChangedAndBackCounts, StartAnswersItsNumber}
 use Rattle.rules.proofs.Places.{some-is, at-set}
-use Rattle.laws.proofs.Kept.{or-true}
 use Rattle.rules.proofs.Cases.{cond-case}
 use Rattle.laws.proofs.Calls.{served-is, open-at, is-open, run-kept}
 

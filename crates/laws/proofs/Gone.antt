@@ -1,6 +1,6 @@
 -- Gone is gone: the walk over a domain's nodes reaches each of them, and each removal stands.
 use mathlib.Core.Path.{_≡_, refl, sym, _∙_, ap, subst}
-use mathlib.Core.Bool.{Bool, true, false, cond, not, _&&_, _||_, false≢true, true≢false, and-eq-true-iff}
+use mathlib.Core.Bool.{Bool, true, false, cond, not, _&&_, _||_, false≢true, true≢false, and-eq-true-iff, or-true}
 use mathlib.Core.List.{List, [], _∷_, _++_, map, flatMap, List·Memᴰ·head, Memᴰ·append-right}
 use mathlib.Core.Option.{Option, none, some}
 use Prim.Native.Nat.{ℕ, zero, suc, _+_, _-_, _≤_, _<_}
@@ -29,7 +29,6 @@ use Rattle.rules.proofs.GoodTables.{Good, nodeAt-is}
 use Rattle.rules.proofs.GoodAnswers.{reaches-cases, reaches-zero, parent-used, stayed, removed-good}
 use Rattle.rules.proofs.Compare.{same-refl}
 use Rattle.laws.specs.Gone.{Gone, Hears, GoneIsGone}
-use Rattle.laws.proofs.Kept.{or-true}
 use Rattle.laws.proofs.SoundWorld.{SoundWorld, NotRoot, owned-fine, unstaled}
 use Rattle.laws.specs.History.{run}
 use Rattle.laws.proofs.Calls.{served-is, request-good}
@@ -105,11 +104,7 @@ within-split P k t i j h here up = go (eqb i j) refl (eqb j 0) refl h
 
 within-parent : (k : ℕ) (t : Table) (i j : ℕ) → NotRoot j → within k t i (nodeAt t j .parent) ≡ true → within (suc k) t i j ≡ true
 unfolding within
-within-parent k t i j z h = rw (ne-eqb j 0 z, h) (go (eqb i j))
-  where
-    go : (b : Bool) → (b || true) ≡ true
-    go true = refl
-    go false = refl
+within-parent k t i j z h = rw (ne-eqb j 0 z, h) (or-true (eqb i j))
 
 within-grows : (k : ℕ) (t : Table) (i j : ℕ) → within k t i j ≡ true → within (suc k) t i j ≡ true
 unfolding within

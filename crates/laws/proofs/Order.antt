@@ -1,6 +1,6 @@
 -- One order: what each request adds, and that it keeps the open transactions' logs in step with their copies.
 use mathlib.Core.Path.{_≡_, refl, sym, _∙_, ap, subst}
-use mathlib.Core.Bool.{Bool, true, false, cond, not, _&&_, _||_, false≢true, true≢false}
+use mathlib.Core.Bool.{Bool, true, false, cond, not, _&&_, _||_, false≢true, true≢false, and-false}
 use mathlib.Core.List.{List, [], _∷_, _++_}
 use mathlib.Core.Option.{Option, none, some}
 use Prim.Native.Nat.{ℕ, zero, suc, _-_, _<_}
@@ -29,7 +29,7 @@ use Rattle.laws.specs.History.{Call, History, requestOf, served, after, 
 use Rattle.laws.specs.Order.{Single, node, released, then, replay, Agrees, Logs, isNinth, addedBy, noted, loggedBy, addedAs, loggedAs, added, logged, orderFrom, order, OneOrder}
 use Rattle.rules.proofs.Places.{nothing, some-is, at-below, none-at, at-set, set-cases, at-without, length-without, has-at}
 use Rattle.laws.proofs.Kept.{getD-staled}
-use Rattle.laws.proofs.Answers.{and-false, Shape, stays, alters-to, answer-shape}
+use Rattle.laws.proofs.Answers.{Shape, stays, alters-to, answer-shape}
 use Rattle.laws.proofs.Step.{named}
 use Rattle.laws.proofs.Calls.{served-is, served-known, request-good}
 use Rattle.rules.proofs.GoodRequests.{RequestGood, ParsedGood}

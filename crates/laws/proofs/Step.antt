@@ -1,6 +1,6 @@
 -- One request, whatever it is: what it leaves of the open transactions, and what a refusal leaves of the world.
 use mathlib.Core.Path.{_≡_, refl, sym, _∙_, ap}
-use mathlib.Core.Bool.{Bool, true, false, cond, not, _&&_, _||_}
+use mathlib.Core.Bool.{Bool, true, false, cond, not, _&&_, _||_, or-false, and-false}
 use mathlib.Core.List.{List}
 use mathlib.Core.Option.{Option, none, some}
 use Prim.Native.Nat.{ℕ, zero, suc, _-_}
@@ -23,8 +23,8 @@ use Rattle.rules.specs.Call.{outcomeOf}
 use Rattle.rules.proofs.Cases.{cond-case}
 use Rattle.laws.specs.History.{succeeds, alters, recorded, changedBy, changedAs}
 use Rattle.rules.proofs.Places.{nothing, some-is}
-use Rattle.laws.proofs.Kept.{Kept, or-false, kept-all, kept-without, kept-set, kept-closed, kept-opened, kept-staledIf}
-use Rattle.laws.proofs.Answers.{isEAGAIN, and-false, Shape, stays, alters-to, answer-shape}
+use Rattle.laws.proofs.Kept.{Kept, kept-all, kept-without, kept-set, kept-closed, kept-opened, kept-staledIf}
+use Rattle.laws.proofs.Answers.{isEAGAIN, Shape, stays, alters-to, answer-shape}
 
 -- what an outcome is by its reply: a refusal leaves the world, but EAGAIN closes the transaction
 abbrev pub Sent : World → ℕ → Outcome → Reply → Type 0

@@ -1,6 +1,6 @@
 -- A good table stays good: written, made and removed nodes, and so every node request.
 use mathlib.Core.Path.{_≡_, refl, sym, _∙_, ap, subst}
-use mathlib.Core.Bool.{Bool, true, false, cond, not, _&&_, _||_, false≢true, true≢false, and-eq-true-iff}
+use mathlib.Core.Bool.{Bool, true, false, cond, not, _&&_, _||_, false≢true, true≢false, and-eq-true-iff, or-false}
 use mathlib.Core.List.{List, [], _∷_, nil≢cons, cons≢nil, head-eq-of-cons-eq}
 use mathlib.Core.Option.{Option, none, some}
 use Prim.Native.Nat.{ℕ, zero, suc, _+_, _-_, _<_, _≤_}
@@ -242,10 +242,6 @@ within-cases k t i j n e z h = go (eqb i j) (rw (ne-eqb j 0 z, nodeAt-is t j n e
     go : (b : Bool) → (b || within k t i (n .parent)) ≡ false → (b ≡ false) × (within k t i (n .parent) ≡ false)
     go true q = absurd (true≢false q)
     go false q = (refl, q)
-
-or-false : (b : Bool) → (b || false) ≡ b
-or-false true = refl
-or-false false = refl
 
 root-out : (t : Table) (i : ℕ) → (i ≡ 0 → ⊥) → within 0 t i 0 ≡ false
 unfolding within
