@@ -1,20 +1,18 @@
 -- The two shapes of an answer: it leaves the table, or it is OK and names its change.
-use mathlib.Core.Path.{_≡_, refl, sym, _∙_, ap}
-use mathlib.Core.Bool.{Bool, true, false, cond, not, _&&_, _||_}
-use mathlib.Core.List.{List, [], _∷_}
-use mathlib.Core.Option.{Option, none, some}
-use Prim.Native.Nat.{ℕ, zero, suc, _+_}
+use mathlib.Core.Path.{_≡_, refl}
+use mathlib.Core.Bool.{Bool, true, false, cond, _&&_, and-true, and-false}
+use mathlib.Core.List.{[], _∷_}
+use Prim.Native.Nat.{ℕ, suc}
 use lib.ListN.{length}
 use lib.Dec.{leb}
-use native.Mathlib.Omega.{arith}
 use Rattle.rules.specs.Size.{longestPayload, longestValue, mostEntries}
 use Rattle.rules.specs.Octets.{Octets}
 use Rattle.rules.specs.Entries.{isEmpty}
 use Rattle.rules.specs.Path.{Domain, Names}
-use Rattle.rules.specs.Node.{Entry, Table, Reached, nodeAt, reach, children}
+use Rattle.rules.specs.Node.{Table, Reached, nodeAt, reach, children}
 use Rattle.rules.specs.Rights.{mayRead, mayWrite}
 use Rattle.rules.specs.Payload.{Ask, directory, read, getPerms, write, mkdir, rm, setPerms}
-use Rattle.rules.specs.Answer.{Errno, EINVAL, EACCES, EEXIST, ENOENT, ENOSPC, E2BIG, EAGAIN, ENOSYS, Reply, done, refused, OK, Change, Answer, permissions, nameList, listing, listed, unchanged, changed, absent, looked, room, created, written, directoryMade, taken, maySet, permitted, answered, answer}
+use Rattle.rules.specs.Answer.{EINVAL, EACCES, EEXIST, ENOENT, ENOSPC, E2BIG, EAGAIN, ENOSYS, Reply, done, refused, OK, Answer, permissions, nameList, listing, listed, unchanged, changed, absent, looked, room, created, written, directoryMade, taken, maySet, permitted, answered, answer}
 use Rattle.rules.proofs.Cases.{cond-case}
 use Rattle.laws.specs.History.{succeeds, isThere, alters}
 
@@ -30,14 +28,6 @@ isEAGAIN (refused ENOSPC) = false
 isEAGAIN (refused E2BIG) = false
 isEAGAIN (refused EAGAIN) = true
 isEAGAIN (refused ENOSYS) = false
-
-pub and-true : (b : Bool) → (b && true) ≡ b
-and-true true = refl
-and-true false = refl
-
-pub and-false : (b : Bool) → (b && false) ≡ false
-and-false true = refl
-and-false false = refl
 
 -- ── answers ──
 

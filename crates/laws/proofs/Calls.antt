@@ -1,10 +1,9 @@
 -- A call's outcome, and what a call and a run leave of an open transaction.
 use mathlib.Core.Path.{_≡_, refl, sym, _∙_, ap}
-use mathlib.Core.Bool.{Bool, true, false, cond, not, _&&_, _||_, false≢true, and-eq-true-iff}
-use mathlib.Core.List.{List, [], _∷_}
+use mathlib.Core.Bool.{Bool, true, false, cond, _&&_, _||_, false≢true, and-eq-true-iff, or-assoc, or-false}
+use mathlib.Core.List.{[], _∷_}
 use mathlib.Core.Option.{Option, none, some}
-use Prim.Native.Nat.{ℕ, zero, suc}
-use lib.ListN.{getD}
+use Prim.Native.Nat.{ℕ}
 use Rattle.rules.specs.Path.{domainOf}
 use Rattle.rules.specs.Layout.{Transaction}
 use Rattle.rules.specs.Sound.{known}
@@ -14,12 +13,8 @@ use Rattle.laws.specs.History.{Call, History, requestOf, served, after, 
 use Rattle.rules.proofs.GoodRequests.{ParsedGood}
 use Rattle.rules.proofs.Parsing.{parse-good}
 use Rattle.rules.proofs.Places.{nothing, some-is}
-use Rattle.laws.proofs.Kept.{Kept, kept-all, or-false}
+use Rattle.laws.proofs.Kept.{Kept, kept-all}
 use Rattle.laws.proofs.Step.{Step, outcome-step}
-
-pub or-assoc : (a b c : Bool) → ((a || b) || c) ≡ (a || (b || c))
-or-assoc true b c = refl
-or-assoc false b c = refl
 
 -- what a served call's outcome is
 pub served-is : (w : World) (c : Call) (o : Outcome) → served w c ≡ some o → outcomeOf w (c .sender) (txOf (c .message)) (requestOf c) ≡ o

@@ -1,28 +1,26 @@
 -- EAGAIN, exactly: the proofs.
 use mathlib.Core.Path.{_≡_, refl, sym, _∙_, ap}
 use mathlib.Core.Logic.{_↔_}
-use mathlib.Core.Bool.{Bool, true, false, cond, _&&_, _||_, false≢true, true≢false}
-use mathlib.Core.List.{List, [], _∷_, _++_}
+use mathlib.Core.Bool.{Bool, true, false, cond, false≢true, or-true}
+use mathlib.Core.List.{[], _∷_, _++_}
 use mathlib.Core.Option.{Option, none, some}
-use Prim.Native.Nat.{ℕ, zero, suc, _-_}
-use native.Mathlib.Numerals.{sub-one}
+use Prim.Native.Nat.{ℕ, suc, _-_}
 use native.Mathlib.Decide.{ℕ-discrete}
-use lib.ListN.{getD, set, length}
+use lib.ListN.{set, length}
 use lib.Seq.{getD-set-other}
-use lib.Dec.{eqb, ltb}
+use lib.Dec.{ltb}
 use borrow.Author.Tests.{eq-eqb}
 use Rattle.rules.specs.Octets.{nul, decimal}
 use Rattle.rules.specs.Entries.{lowest}
 use Rattle.rules.specs.Path.{Connection}
-use Rattle.rules.specs.Payload.{start, end, request}
-use Rattle.rules.specs.Answer.{Errno, EINVAL, EACCES, EEXIST, ENOENT, ENOSPC, E2BIG, EAGAIN, ENOSYS, Reply, done, refused, OK}
+use Rattle.rules.specs.Payload.{start, request}
+use Rattle.rules.specs.Answer.{EAGAIN, Reply, done, refused, OK}
 use Rattle.rules.specs.Layout.{Transaction, tableBytes}
 use Rattle.rules.specs.World.{World, Outcome, left, to, transactionOf, starting, closing, committing, ending, handle}
-use Rattle.rules.specs.Call.{txOf, outcomeOf}
+use Rattle.rules.specs.Call.{outcomeOf}
 use Rattle.laws.specs.History.{Call, History, requestOf, served, after, run, changes, anyChange, transactionAt, isOpen, staysOpen}
 use Rattle.laws.specs.Eagain.{Opens, Commits, EagainExactly, UndisturbedCommits, ChangedAndBackCounts, StartAnswersItsNumber}
-use Rattle.rules.proofs.Places.{nothing, some-is, at-set}
-use Rattle.laws.proofs.Kept.{or-true}
+use Rattle.rules.proofs.Places.{some-is, at-set}
 use Rattle.rules.proofs.Cases.{cond-case}
 use Rattle.laws.proofs.Calls.{served-is, open-at, is-open, run-kept}
 

@@ -1,13 +1,10 @@
 -- What a call leaves of an open transaction: its holder, and its stale mark with the call's change.
 use mathlib.Core.Path.{_≡_, refl, sym, _∙_, ap}
-use mathlib.Core.Bool.{Bool, true, false, cond, not, _&&_, _||_}
-use mathlib.Core.List.{List, [], _∷_}
+use mathlib.Core.Bool.{Bool, true, false, _||_, or-false, or-true}
+use mathlib.Core.List.{[], _∷_}
 use mathlib.Core.Option.{Option, none, some}
-use Prim.Native.Nat.{ℕ, zero, suc, _<_}
-use lib.ListN.{getD, set, length}
-use lib.Seq.{getD-set-same, getD-set-other}
-use native.Mathlib.Omega.{arith}
-use native.Mathlib.Decide.{ℕ-discrete}
+use Prim.Native.Nat.{ℕ, zero, suc}
+use lib.ListN.{getD, set}
 use Rattle.rules.specs.Entries.{lowest, without}
 use Rattle.rules.specs.Layout.{Transaction, Transactions}
 use Rattle.rules.specs.World.{staled, staledIf}
@@ -28,14 +25,6 @@ getD-staled (some x ∷ xs) (suc k) y e = getD-staled xs k y e
 -- after a call that changes the store or not, an entry open before and after has the same holder, and is stale if it was or the call changed the store
 pub record Kept (b : Bool) (xs ys : Transactions) : Type 0 where
   pub at : (k : ℕ) (x y : Transaction) → getD xs k none ≡ some x → getD ys k none ≡ some y → (y .holder ≡ x .holder) × (y .stale ≡ (x .stale || b))
-
-pub or-false : (b : Bool) → (b || false) ≡ b
-or-false true = refl
-or-false false = refl
-
-pub or-true : (b : Bool) → (b || true) ≡ true
-or-true true = refl
-or-true false = refl
 
 -- an entry that is after the call as it was before
 same-entry : (x y : Transaction) → some x ≡ some y → (y .holder ≡ x .holder) × (y .stale ≡ (x .stale || false))

@@ -9,3 +9,5 @@ pub mod Order
 pub mod SoundWorld
 pub mod Soundness
 pub mod SoundCalls
+pub mod Parents
+pub mod Gone

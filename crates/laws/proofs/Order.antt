@@ -1,6 +1,6 @@
 -- One order: what each request adds, and that it keeps the open transactions' logs in step with their copies.
 use mathlib.Core.Path.{_≡_, refl, sym, _∙_, ap, subst}
-use mathlib.Core.Bool.{Bool, true, false, cond, not, _&&_, _||_, false≢true, true≢false}
+use mathlib.Core.Bool.{Bool, true, false, cond, not, _&&_, _||_, false≢true, true≢false, and-false}
 use mathlib.Core.List.{List, [], _∷_, _++_}
 use mathlib.Core.Option.{Option, none, some}
 use Prim.Native.Nat.{ℕ, zero, suc, _-_, _<_}
@@ -17,22 +17,22 @@ use Rattle.rules.specs.Path.{Domain, Connection, domainOf, Names, isControl}
 use Rattle.rules.specs.Node.{Table, ownedBy, withoutAll}
 use Rattle.rules.specs.Payload.{Ask, Place, path, event, Request, ask, watch, unwatch, start, end, introduce, release, domainPath, isIntroduced, reset, Parsed, unknown, invalid, request}
 use Rattle.rules.specs.Call.{txOf, outcomeOf}
-use Rattle.rules.specs.Answer.{EINVAL, ENOSYS, EACCES, EEXIST, ENOENT, ENOSPC, EAGAIN, Reply, done, refused, OK, Change, Answer, unchanged, changed, answer}
+use Rattle.rules.specs.Answer.{EINVAL, ENOSYS, EACCES, EEXIST, ENOENT, ENOSPC, EAGAIN, Reply, refused, OK, Change, Answer, unchanged, changed, answer}
 use Rattle.rules.specs.Layout.{Domains, Transaction, Transactions, tableBytes, tableOf}
 use Rattle.rules.specs.Sound.{introduced, known, watched}
 use Rattle.rules.specs.Event.{placeText}
-use Rattle.rules.specs.World.{World, Outcome, freshWorld, staled, staledIf, withoutTransactions, speaksFor, left, to, plainly, transactionOf, inside, copyOf, asked, placeFits, watching, unwatching, starting, closing, committing, ending, introducing, releasing, resetting, forControl, forPlace, handle}
+use Rattle.rules.specs.World.{World, Outcome, freshWorld, staled, staledIf, withoutTransactions, left, to, plainly, transactionOf, inside, copyOf, asked, placeFits, watching, unwatching, starting, closing, committing, ending, introducing, releasing, resetting, forControl, forPlace, handle}
 use Rattle.rules.proofs.Cases.{cond-case, cond-known}
 use Rattle.rules.proofs.Slots.{table-read}
 use Rattle.rules.proofs.Fitting.{Fitting, AskFits, decoded-fits, answer-fits, withoutAll-fits, fresh-fits}
 use Rattle.laws.specs.History.{Call, History, requestOf, served, after, run, succeeds}
-use Rattle.laws.specs.Order.{Single, node, released, then, replay, Answered, Agrees, Logs, isNinth, addedBy, noted, loggedBy, addedAs, loggedAs, added, logged, orderFrom, order, OneOrder}
+use Rattle.laws.specs.Order.{Single, node, released, then, replay, Agrees, Logs, isNinth, addedBy, noted, loggedBy, addedAs, loggedAs, added, logged, orderFrom, order, OneOrder}
 use Rattle.rules.proofs.Places.{nothing, some-is, at-below, none-at, at-set, set-cases, at-without, length-without, has-at}
 use Rattle.laws.proofs.Kept.{getD-staled}
-use Rattle.laws.proofs.Answers.{and-false, Shape, stays, alters-to, answer-shape}
+use Rattle.laws.proofs.Answers.{Shape, stays, alters-to, answer-shape}
 use Rattle.laws.proofs.Step.{named}
 use Rattle.laws.proofs.Calls.{served-is, served-known, request-good}
-use Rattle.rules.proofs.GoodRequests.{AskedGood, RequestGood, ParsedGood}
+use Rattle.rules.proofs.GoodRequests.{RequestGood, ParsedGood}
 
 -- ── singles one after the other ──
 

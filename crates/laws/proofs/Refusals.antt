@@ -1,12 +1,11 @@
 -- Refusals: the proofs.
-use mathlib.Core.Path.{_≡_, refl, sym, _∙_, ap, subst}
-use Prim.Native.Nat.{ℕ, _-_}
+use mathlib.Core.Path.{_≡_, refl, subst}
+use Prim.Native.Nat.{ℕ}
 use Rattle.rules.specs.Answer.{Errno, EINVAL, EACCES, EEXIST, ENOENT, ENOSPC, E2BIG, EAGAIN, ENOSYS, refused}
-use Rattle.rules.specs.World.{World, Outcome, left, closing}
+use Rattle.rules.specs.World.{World, Outcome, left}
 use Rattle.rules.specs.Call.{txOf}
-use Rattle.laws.specs.History.{Call}
 use Rattle.laws.specs.Refusals.{RefusalChangesNothing, EagainClosesAlone}
-use Rattle.laws.proofs.Step.{Sent, Step}
+use Rattle.laws.proofs.Step.{Sent}
 use Rattle.laws.proofs.Calls.{call-step}
 
 leaves : (w : World) (tx : ℕ) (o : Outcome) (e : Errno) → Sent w tx o (refused e) → (e ≡ EAGAIN → ⊥) → o ≡ left w (refused e)

@@ -1,12 +1,12 @@
 -- Soundness through calls and histories: the proofs of the laws.
 use mathlib.Core.Path.{_≡_, refl, sym, _∙_, ap, subst}
-use mathlib.Core.Bool.{Bool, true, false, cond, _&&_, _||_, false≢true, and-eq-true-iff}
-use mathlib.Core.List.{List, [], _∷_}
+use mathlib.Core.Bool.{Bool, true, false, cond, _&&_, false≢true, and-eq-true-iff}
+use mathlib.Core.List.{List, [], _∷_, map}
 use mathlib.Core.Option.{Option, none, some}
-use Prim.Native.Nat.{ℕ, zero, suc, _<_}
+use Prim.Native.Nat.{ℕ}
 use native.Mathlib.Omega.{arith}
-use lib.ListN.{length, getD, replicate, length-replicate}
-use lib.Dec.{eqb, lit<}
+use lib.ListN.{length, length-replicate}
+use lib.Dec.{eqb}
 use borrow.Author.Tests.{eq-eqb}
 use Rattle.rules.specs.Size.{mostTransactions, mostWatches, mostDomains, tableSize, replySize, eventsSize}
 use Rattle.rules.specs.Octets.{Octets, same}
@@ -16,14 +16,13 @@ use Rattle.rules.specs.Node.{root, freshTable, nodeAt}
 use Rattle.rules.specs.Layout.{domainsOf}
 use Rattle.rules.specs.Sound.{goodEntries, reachesRoot, goodName, goodNode, goodNodes, goodRoot, distinct, goodTable, known}
 use Rattle.rules.specs.World.{World, Outcome, freshWorld}
-use Rattle.rules.specs.Call.{Verdict, handled, wrongSize, unsound, stranger, callNumber, isHandled, Tables, sizedTables, sound, worldOf, tablesOf, txOf, frameVerdict, requestVerdict, outcome, outcomeOf, Result, turnedAway, delivered, requestBy, requestCall}
+use Rattle.rules.specs.Call.{Verdict, wrongSize, unsound, stranger, callNumber, isHandled, Tables, sizedTables, sound, worldOf, tablesOf, txOf, frameVerdict, requestVerdict, outcome, turnedAway, delivered, requestBy, requestCall}
 use Rattle.rules.proofs.Cases.{cond-known}
 use Rattle.rules.proofs.Places.{nothing, none-at}
-use Rattle.rules.proofs.Tables.{Each}
 use Rattle.rules.proofs.Fitting.{fresh-fits}
 use Rattle.rules.proofs.GoodTables.{good-of}
 use Rattle.laws.specs.History.{Call, History, requestOf, served, after, run}
-use Rattle.laws.specs.Soundness.{Lendable, FreshIsSound, CallsKeepSound, SoundBytesStay, CallsOnBytes, HistoriesAreSound}
+use Rattle.laws.specs.Soundness.{Lendable, FreshIsSound, CallsKeepSound, SoundBytesStay, CallsOnBytes, HistoriesAreSound, Lent, runBytes, Roomy, HistoriesOnBytes}
 use Rattle.laws.proofs.Calls.{served-is, served-known, request-good}
 use Rattle.laws.proofs.SoundWorld.{SoundWorld, outcome-keeps}
 use Rattle.laws.proofs.Soundness.{encoded, world-back, decoded, bytes-back}
@@ -144,3 +143,19 @@ calls-on-bytes t reply events c m l r e =
     on-bytes t reply events c m l
     (and-eq-true-iff (sizedTables t) (eqb (length reply) replySize && eqb (length events) eventsSize) .1
     (l .sized, and-eq-true-iff (eqb (length reply) replySize) (eqb (length events) eventsSize) .1 (eq-eqb _ _ r, eq-eqb _ _ e)))
+
+-- ── histories on bytes ──
+
+follow : (w : World) (ls : List Lent) → SoundWorld w → Roomy ls → runBytes (tablesOf w) ls ≡ tablesOf (run w (map Lent.call ls))
+unfolding runBytes run
+follow w [] s r = refl
+follow w (x ∷ ls) s r =
+    let c = x .call in
+    let l = encoded w s in
+    let u = requestCall (tablesOf w) (x .reply) (x .events) (c .sender) (c .message) .tables in
+    let e : worldOf u ≡ after w c = calls-on-bytes (tablesOf w) (x .reply) (x .events) (c .sender) (c .message) l (r .0) (r .1) ∙ ap (λ (v : World). after v c) (world-back w s) in
+    let b : u ≡ tablesOf (after w c) = sym (bytes-back u (calls-keep-sound (tablesOf w) (x .reply) (x .events) (c .sender) (c .message) l)) ∙ ap tablesOf e in
+    ap (λ (t : Tables). runBytes t ls) b ∙ follow (after w c) ls (call-keeps w c s) (r .2)
+
+pub histories-on-bytes : HistoriesOnBytes
+histories-on-bytes ls r = follow freshWorld ls fresh-sound r

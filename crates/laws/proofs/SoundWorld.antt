@@ -1,33 +1,32 @@
 -- Sound worlds: what soundness says of decoded tables, and that every request keeps it.
 use mathlib.Core.Path.{_≡_, refl, sym, _∙_, ap, subst}
-use mathlib.Core.Bool.{Bool, true, false, cond, not, _&&_, _||_, false≢true, true≢false, and-eq-true-iff}
+use mathlib.Core.Bool.{Bool, true, false, cond, not, _&&_, _||_, true≢false, and-eq-true-iff}
 use mathlib.Core.List.{List, [], _∷_, _++_, flatMap}
 use mathlib.Core.Option.{Option, none, some}
-use Prim.Native.Nat.{ℕ, zero, suc, _+_, _-_, _≤_, _<_}
+use Prim.Native.Nat.{ℕ, zero, suc, _-_, _≤_, _<_}
 use native.Mathlib.Omega.{arith}
 use native.Mathlib.Nat.{not-suc-le-zero}
-use native.Mathlib.Decide.{ℕ-discrete}
 use lib.ListN.{length, getD, set, length-set, length-append}
 use lib.Seq.{getD-set-same, getD-set-other}
 use lib.Dec.{eqb, ltb, leb, lit≤}
-use borrow.Author.Tests.{eqb-true, eq-eqb, ne-eqb, eqb-false, ltb-true, leb-true, le-leb, not-true}
-use Rattle.rules.specs.Size.{slots, mostChanges, mostTransactions, mostDomains, mostWatches, longestToken, longestPath, tableSize, lastDomain}
+use borrow.Author.Tests.{eqb-true, eq-eqb, eqb-false, ltb-true, leb-true, le-leb}
+use Rattle.rules.specs.Size.{mostChanges, mostTransactions, mostDomains, mostWatches, longestToken, longestPath, tableSize, lastDomain}
 use Rattle.rules.specs.Octets.{Octets, text, same, less}
 use Rattle.rules.specs.Entries.{isEmpty, lowest, without, has}
 use Rattle.rules.specs.Path.{Domain, Connection, domainOf, Names, isControl, allNames, fits, special, given, base, beyond, introduceName, releaseName}
-use Rattle.rules.specs.Node.{Node, Table, nodeAt, insert, hasParent, childrenFrom, children, ownedBelow, ownedBy, withoutAll}
+use Rattle.rules.specs.Node.{Node, Table, nodeAt, insert, hasParent, childrenFrom, children, ownedBelow, ownedBy}
 use Rattle.rules.specs.Payload.{Ask, Place, path, event, Request, ask, watch, unwatch, start, end, introduce, release, domainPath, isIntroduced, reset, Parsed, unknown, invalid, request, depthFor}
-use Rattle.rules.specs.Answer.{EINVAL, ENOSYS, EACCES, EEXIST, ENOENT, ENOSPC, EAGAIN, Reply, done, refused, OK, Change, Answer, answer}
+use Rattle.rules.specs.Answer.{EINVAL, ENOSYS, EACCES, EEXIST, ENOENT, ENOSPC, EAGAIN, Reply, refused, OK, Change, Answer, answer}
 use Rattle.rules.specs.Event.{Watch, Watches, placeText}
 use Rattle.rules.specs.Layout.{Domains, Transaction, Transactions, tableBytes, tableOf}
 use Rattle.rules.specs.Sound.{introduced, known, twin, watched, goodTable, soundTable, goodChange, goodPlace, noNul, strictlyBelow, eventDepth}
-use Rattle.rules.specs.World.{World, Outcome, staled, staledIf, withoutTransactions, withoutWatches, speaksFor, left, to, plainly, transactionOf, inside, copyOf, asked, placeFits, watching, unwatching, starting, closing, committing, ending, introducing, releasing, resetting, forControl, forPlace, handle}
+use Rattle.rules.specs.World.{World, Outcome, staledIf, withoutTransactions, withoutWatches, speaksFor, left, to, plainly, transactionOf, inside, copyOf, asked, placeFits, watching, unwatching, starting, closing, committing, ending, introducing, releasing, resetting, forControl, forPlace, handle}
 use Rattle.rules.specs.Call.{outcomeOf}
 use Rattle.rules.proofs.Cases.{cond-case, cond-known}
 use Rattle.rules.proofs.Compare.{same-refl, same-eq, eq-same}
 use Rattle.rules.proofs.Tables.{Each, each-set}
 use Rattle.rules.proofs.Slots.{table-read, length-table}
-use Rattle.rules.proofs.Places.{nothing, some-is, is-false, At, at-below, at-set, set-cases, lowest-free, at-without, without-at, length-without, has-at, at-has, not-has}
+use Rattle.rules.proofs.Places.{nothing, some-is, At, at-below, set-cases, lowest-free, at-without, without-at, length-without, has-at, at-has, not-has}
 use Rattle.rules.proofs.PathLaws.{Means, means, fits-length}
 use Rattle.rules.proofs.Fitting.{Fitting, decoded-fits, answer-fits, withoutAll-fits}
 use Rattle.rules.proofs.GoodTables.{Good, good-of, of-good, nodeAt-is}
@@ -237,7 +236,7 @@ transactions-written {ds} {xs} {cs} k y t s l h f =
     }
 
 -- an entry after some became stale, or none did
-unstaled : (b : Bool) (ys : Transactions) (k : ℕ) (y : Transaction) → At (staledIf b ys) k y → (x : Transaction) × At ys k x × (y .holder ≡ x .holder) × (y .changes ≡ x .changes)
+pub unstaled : (b : Bool) (ys : Transactions) (k : ℕ) (y : Transaction) → At (staledIf b ys) k y → (x : Transaction) × At ys k x × (y .holder ≡ x .holder) × (y .changes ≡ x .changes)
 unfolding staledIf
 unstaled false ys k y e = (y, e, refl, refl)
 unstaled true ys k y e = let r = getD-staled ys k y e in (r .0, r .1, r .2, r .4)
@@ -255,7 +254,7 @@ closed-before xs j k y q = set-cases (At xs k y) xs j k none y q (λ r p. absurd
 
 -- ── what a release removes ──
 
-abbrev NotRoot : ℕ → Type 0
+abbrev pub NotRoot : ℕ → Type 0
 NotRoot i = i ≡ 0 → ⊥
 
 each-append : {A : Type 0} (P : A → Type 0) (xs ys : List A) → Each P xs → Each P ys → Each P (xs ++ ys)
@@ -288,7 +287,7 @@ owned-not-root (suc k) t d i h =
     cond-known (Each NotRoot) (eqb (nodeAt t i .owner .domain) d) _ _ (λ e. (h e, tt))
     (λ e. below-not-root k t d (childrenFrom t i 0 t) (λ j z. owned-not-root k t d j (λ x. z)) (children-not-root t i 0 t))
 
-owned-fine : (t : Table) (d : Domain) → Good t → 1 ≤ d → Each NotRoot (ownedBy t d)
+pub owned-fine : (t : Table) (d : Domain) → Good t → 1 ≤ d → Each NotRoot (ownedBy t d)
 unfolding ownedBy
 owned-fine t d g h = owned-not-root 9 t d 0 λ e.
     absurd (not-suc-le-zero (rw (sym (eqb-true _ _ e) ∙ (ap (λ (n : Node). n .owner .domain) (nodeAt-is t 0 (g .root) (g .used)) ∙ g .control)) at h))

@@ -1,32 +1,30 @@
 -- Soundness of the bytes: a sound world's bytes are sound, and sound bytes mean a sound world.
-use mathlib.Core.Path.{_≡_, refl, sym, _∙_, ap, ap₂, subst}
-use mathlib.Core.Bool.{Bool, true, false, cond, not, _&&_, _||_, false≢true, true≢false, and-eq-true-iff}
-use mathlib.Core.List.{List, [], _∷_, _++_, map, flatMap}
+use mathlib.Core.Path.{_≡_, refl, sym, _∙_, ap, subst}
+use mathlib.Core.Bool.{Bool, true, not, _&&_, and-eq-true-iff}
+use mathlib.Core.List.{List, [], _∷_, map, flatMap}
 use mathlib.Core.Option.{Option, none, some}
-use Prim.Native.Nat.{ℕ, zero, suc, _+_, _*_, _-_, _≤_, _<_}
+use Prim.Native.Nat.{ℕ, zero, suc, _*_, _≤_, _<_}
 use native.Mathlib.Omega.{arith}
-use lib.ListN.{length, getD, set, take, drop, length-map, length-take, length-drop, take-append-drop}
-use lib.Seq.{take-at, drop-at}
-use lib.Dec.{eqb, ltb, leb}
-use borrow.Author.Tests.{eqb-true, eq-eqb, eqb-false, ne-eqb, leb-true, le-leb, not-true}
+use lib.ListN.{length, getD, take, drop, length-map}
+use lib.Dec.{eqb, leb}
+use borrow.Author.Tests.{eqb-true, eq-eqb, leb-true, le-leb}
 use Rattle.rules.specs.Size.{mostTransactions, mostDomains, mostWatches, tableSize, copiesSize, domainsSize, watchesSize, transactionsSize, transactionSize, mostChanges, lastDomain}
 use Rattle.rules.specs.Octets.{Octets, same, chunks, field}
 use Rattle.rules.specs.Entries.{has}
 use Rattle.rules.specs.Path.{Domain, domainOf}
-use Rattle.rules.specs.Payload.{Place, path, event}
 use Rattle.rules.specs.Answer.{Change}
-use Rattle.rules.specs.Event.{Watch, Watches, placeText}
+use Rattle.rules.specs.Event.{Watch, Watches}
 use Rattle.rules.specs.Layout.{Domains, Transaction, Transactions, tableBytes, tableOf, domainsBytes, domainsOf, watchesBytes, watchesOf, transactionIn, transactionsBytes, transactionsOf}
 use Rattle.rules.specs.Sound.{introduced, known, watched, goodDomains, soundDomains, goodWatch, goodWatches, soundWatches, goodChange, goodChanges, goodTable, soundTable, goodTransactions, soundTransactions, goodPlace, noNul}
-use Rattle.rules.specs.World.{World, Outcome, freshWorld}
+use Rattle.rules.specs.World.{World}
 use Rattle.rules.specs.Call.{Tables, sizedTables, sound, worldOf, tablesOf}
-use Rattle.rules.proofs.Compare.{same-refl, same-eq, eq-same}
+use Rattle.rules.proofs.Compare.{same-refl, same-eq}
 use Rattle.rules.proofs.Tables.{Each, length-encoded, length-chunks, decoded-at}
 use Rattle.rules.proofs.Slots.{table-read}
 use Rattle.rules.proofs.Places.{nothing, some-is, At, at-below, every, apart, every-at, at-every, related-one, one-related}
-use Rattle.rules.proofs.EntryLayouts.{DomainFits, domains-read, length-domains, WatchFits, MaybeWatch, watches-read, length-watches, ChangeFits, WatchRead, watch-in, watch-decoded, transaction-in, transaction-decoded, TransactionFits, MaybeTransaction, transactions-read, length-transactions}
+use Rattle.rules.proofs.EntryLayouts.{whole, copies-read, rows-sized, rows-joined, DomainFits, domains-read, length-domains, MaybeWatch, watches-read, length-watches, ChangeFits, WatchRead, place-named, watch-in, watch-decoded, transaction-in, transaction-decoded, MaybeTransaction, transactions-read, length-transactions}
 use Rattle.laws.specs.Soundness.{Lendable}
-use Rattle.laws.proofs.SoundWorld.{DomainsSound, WatchSound, twins, WatchesSound, TransactionSound, TransactionsSound, TableSound, SoundWorld, table-encoded, table-decoded, known-range, twins-sym}
+use Rattle.laws.proofs.SoundWorld.{DomainsSound, WatchSound, twins, WatchesSound, TransactionsSound, SoundWorld, table-encoded, table-decoded, known-range, twins-sym}
 
 -- ── entries one by one ──
 
@@ -179,18 +177,6 @@ transactions-fit ds xs cs d s = each-of MaybeTransaction xs tt λ k x q.
     let w = s .each k x q in
     record { holder = omega (arith, known-range ds (domainOf (x .holder)) d (w .known)); few = w .few; changes = w .fit }
 
--- ── copies ──
-
-abbrev whole : Octets → Octets
-whole s = s
-
-copies-read : (cs : List Octets) → Each (λ (c : Octets). length c ≡ tableSize) cs → chunks (length cs) tableSize (flatMap whole cs) ≡ cs
-unfolding chunks flatMap
-copies-read [] h = refl
-copies-read (c ∷ cs) h =
-    rw (take-at c (flatMap whole cs) tableSize (h .0), drop-at c (flatMap whole cs) tableSize (h .0))
-    (ap (λ (l : List Octets). c ∷ l) (copies-read cs (h .1)))
-
 -- ── a sound world's bytes ──
 
 module _ (w : World) (s : SoundWorld w) where
@@ -207,7 +193,7 @@ module _ (w : World) (s : SoundWorld w) where
   transactions-back = transactions-read (w .transactions) (s .transactions .long) (transactions-fit (w .domains) (w .transactions) (w .copies) (s .domains) (s .transactions))
 
   copies-back : chunks mostTransactions tableSize (flatMap whole (w .copies)) ≡ w .copies
-  copies-back = ap (λ (n : ℕ). chunks n tableSize (flatMap whole (w .copies))) (sym (s .transactions .copies)) ∙ copies-read (w .copies) (s .transactions .sized)
+  copies-back = ap (λ (n : ℕ). chunks n tableSize (flatMap whole (w .copies))) (sym (s .transactions .copies)) ∙ copies-read tableSize (w .copies) (s .transactions .sized)
 
   pub world-back : worldOf (tablesOf w) ≡ w
   unfolding worldOf tablesOf
@@ -259,21 +245,6 @@ row-of : {A : Type 0} (decode : Octets → Option A) (n k : ℕ) (s : Octets) (i
 row-of decode n k s i x e =
     let l : i < n = rw (length-map (chunks n k s) decode, length-chunks n k s) at (at-below (map decode (chunks n k s)) i x e) in
     (take k (drop (i * k) s), sym (decoded-at decode n k i s none l) ∙ e)
-
-sized-rows : (n k : ℕ) (s : Octets) → length s ≡ n * k → Each (λ (r : Octets). length r ≡ k) (chunks n k s)
-unfolding chunks
-sized-rows zero k s h = tt
-sized-rows (suc n) k s h = (simp length-take (omega arith), sized-rows n k (drop k s) (simp length-drop (omega arith)))
-
-rows-joined : (n k : ℕ) (s : Octets) → length s ≡ n * k → flatMap whole (chunks n k s) ≡ s
-unfolding chunks flatMap
-rows-joined zero k [] h = refl
-rows-joined zero k (c ∷ s) h = absurd (omega arith)
-rows-joined (suc n) k s h = ap (λ (r : Octets). take k s ++ r) (rows-joined n k (drop k s) (simp length-drop (omega arith))) ∙ take-append-drop k s
-
-no-event : (c : ℕ) (depth : Option ℕ) (p : Place) → goodPlace c depth p ≡ true → p ≡ event [] → ⊥
-unfolding goodPlace
-no-event c depth p h e = false≢true (rw (e, goodPlace) at h)
 
 module _ (t : Tables) (l : Lendable t) where
   ds : Domains
@@ -343,7 +314,7 @@ module _ (t : Tables) (l : Lendable t) where
       let g = every-at (goodWatch ds) ws (watches-parts ds ws (watches-test .1) .0) i v e in
       let p = and-eq-true-iff (known (domainOf (v .owner)) ds) (noNul (v .token) && goodPlace (v .owner) (v .depth) (v .place)) .0 g in
       let q = and-eq-true-iff (noNul (v .token)) (goodPlace (v .owner) (v .depth) (v .place)) .0 (p .1) in
-      record { known = p .0; token = q .0; place = q .1; depth-fits = w .depth; token-fits = w .token; place-fits = w .place (no-event (v .owner) (v .depth) (v .place) (q .1)) }
+      record { known = p .0; token = q .0; place = q .1; depth-fits = w .depth; token-fits = w .token; place-fits = w .place (place-named (v .owner) (v .depth) (v .place) (q .1)) }
 
   decoded-watches : WatchesSound ds ws
   unfolding ws watchesOf
@@ -360,7 +331,7 @@ module _ (t : Tables) (l : Lendable t) where
       record {
         long = long;
         copies = length-chunks mostTransactions tableSize (t .copies);
-        sized = sized-rows mostTransactions tableSize (t .copies) (eqb-true _ _ (sizes .1));
+        sized = rows-sized mostTransactions tableSize (t .copies) (eqb-true _ _ (sizes .1));
         each = λ k x e.
             let r = row-of transactionIn mostTransactions transactionSize (t .transactions) k x e in
             let w = subst (λ (y : Transaction). (length (y .changes) ≤ mostChanges) × Each ChangeFits (y .changes)) (transaction-in (r .0) x (r .1)) (transaction-decoded (r .0) (field (r .0) 0 3)) in

@@ -1,30 +1,30 @@
 -- One request, whatever it is: what it leaves of the open transactions, and what a refusal leaves of the world.
 use mathlib.Core.Path.{_≡_, refl, sym, _∙_, ap}
-use mathlib.Core.Bool.{Bool, true, false, cond, not, _&&_, _||_}
-use mathlib.Core.List.{List, [], _∷_, _++_}
+use mathlib.Core.Bool.{Bool, true, false, cond, not, _&&_, _||_, or-false, and-false}
+use mathlib.Core.List.{List}
 use mathlib.Core.Option.{Option, none, some}
 use Prim.Native.Nat.{ℕ, zero, suc, _-_}
 use native.Mathlib.Numerals.{sub-one}
-use lib.ListN.{getD, set, length}
+use lib.ListN.{getD, length}
 use lib.Dec.{eqb, ltb, leb}
 use borrow.Author.Tests.{eqb-true}
 use Rattle.rules.specs.Size.{mostChanges, longestToken}
 use Rattle.rules.specs.Octets.{Octets}
-use Rattle.rules.specs.Entries.{isEmpty, lowest, without}
+use Rattle.rules.specs.Entries.{isEmpty, lowest}
 use Rattle.rules.specs.Path.{Connection, domainOf, Names, isControl}
 use Rattle.rules.specs.Node.{Table, ownedBy}
 use Rattle.rules.specs.Payload.{Ask, Place, path, event, Request, ask, watch, unwatch, start, end, introduce, release, domainPath, isIntroduced, reset, Parsed, unknown, invalid, request}
-use Rattle.rules.specs.Answer.{Errno, EINVAL, EACCES, EEXIST, ENOENT, ENOSPC, E2BIG, EAGAIN, ENOSYS, Reply, done, refused, OK, Change, Answer, unchanged, changed, answer}
-use Rattle.rules.specs.Layout.{Transaction, Transactions}
+use Rattle.rules.specs.Answer.{EINVAL, EACCES, EEXIST, ENOENT, ENOSPC, E2BIG, EAGAIN, ENOSYS, Reply, done, refused, OK, Change, Answer, unchanged, changed, answer}
+use Rattle.rules.specs.Layout.{Transaction}
 use Rattle.rules.specs.Sound.{introduced, watched}
 use Rattle.rules.specs.Event.{placeText}
-use Rattle.rules.specs.World.{World, Outcome, staled, staledIf, withoutTransactions, left, to, plainly, transactionOf, inside, copyOf, asked, placeFits, watching, unwatching, starting, closing, committing, ending, introducing, releasing, resetting, forControl, forPlace, handle}
+use Rattle.rules.specs.World.{World, Outcome, staledIf, withoutTransactions, left, to, plainly, transactionOf, inside, copyOf, asked, placeFits, watching, unwatching, starting, closing, committing, ending, introducing, releasing, resetting, forControl, forPlace, handle}
 use Rattle.rules.specs.Call.{outcomeOf}
 use Rattle.rules.proofs.Cases.{cond-case}
 use Rattle.laws.specs.History.{succeeds, alters, recorded, changedBy, changedAs}
 use Rattle.rules.proofs.Places.{nothing, some-is}
-use Rattle.laws.proofs.Kept.{Kept, or-false, kept-all, kept-without, kept-set, kept-closed, kept-opened, kept-staledIf}
-use Rattle.laws.proofs.Answers.{isEAGAIN, and-false, Shape, stays, alters-to, answer-shape}
+use Rattle.laws.proofs.Kept.{Kept, kept-all, kept-without, kept-set, kept-closed, kept-opened, kept-staledIf}
+use Rattle.laws.proofs.Answers.{isEAGAIN, Shape, stays, alters-to, answer-shape}
 
 -- what an outcome is by its reply: a refusal leaves the world, but EAGAIN closes the transaction
 abbrev pub Sent : World → ℕ → Outcome → Reply → Type 0

@@ -4,3 +4,5 @@ pub mod Eagain
 pub mod Refusals
 pub mod Order
 pub mod Soundness
+pub mod Parents
+pub mod Gone

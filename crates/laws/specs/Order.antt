@@ -1,9 +1,9 @@
 -- One order: the single requests that a history comes to, and what a run of them answers.
 use mathlib.Core.Path.{_≡_}
-use mathlib.Core.Bool.{Bool, true, false, cond, not, _&&_}
+use mathlib.Core.Bool.{Bool, false, cond, not, _&&_}
 use mathlib.Core.List.{List, [], _∷_, _++_}
 use mathlib.Core.Option.{Option, none, some}
-use Prim.Native.Nat.{ℕ, zero, suc, _-_}
+use Prim.Native.Nat.{ℕ, _-_}
 use lib.ListN.{length, getD, set, replicate}
 use lib.Dec.{eqb, ltb}
 use Rattle.rules.specs.Size.{mostTransactions, mostChanges}
@@ -13,7 +13,7 @@ use Rattle.rules.specs.Node.{Table, freshTable, ownedBy, withoutAll}
 use Rattle.rules.specs.Payload.{Ask, Request, ask, watch, unwatch, start, end, introduce, release, domainPath, isIntroduced, reset, Parsed, unknown, invalid, request}
 use Rattle.rules.specs.Answer.{Reply, Change, answer}
 use Rattle.rules.specs.Layout.{Transaction}
-use Rattle.rules.specs.World.{World, Outcome, freshWorld, transactionOf, copyOf}
+use Rattle.rules.specs.World.{World, freshWorld, transactionOf, copyOf}
 use Rattle.rules.specs.Call.{txOf}
 use Rattle.laws.specs.History.{Call, History, requestOf, served, after, run, succeeds}
 

@@ -1,7 +1,7 @@
 -- Refusals: what an errno leaves of the tables.
 use mathlib.Core.Path.{_≡_}
 use mathlib.Core.Option.{some}
-use Prim.Native.Nat.{ℕ, _-_}
+use Prim.Native.Nat.{_-_}
 use Rattle.rules.specs.Answer.{Errno, EAGAIN, refused}
 use Rattle.rules.specs.World.{World, Outcome, left, closing}
 use Rattle.rules.specs.Call.{txOf}

@@ -1,7 +1,7 @@
 -- Soundness: the tables that the calls leave can always be lent again.
 use mathlib.Core.Path.{_≡_}
 use mathlib.Core.Bool.{true}
-use mathlib.Core.List.{List}
+use mathlib.Core.List.{List, [], _∷_, map}
 use lib.ListN.{length}
 use Rattle.rules.specs.Size.{replySize, eventsSize}
 use Rattle.rules.specs.Octets.{Octets}
@@ -36,3 +36,24 @@ CallsOnBytes =
 -- After any history the tables' bytes are sound, and decoding them gives the tables back.
 abbrev pub HistoriesAreSound : Type 0
 HistoriesAreSound = (cs : History) → Lendable (tablesOf (run freshWorld cs)) × (worldOf (tablesOf (run freshWorld cs)) ≡ run freshWorld cs)
+
+-- ── histories on bytes ──
+
+-- a call, and the buffers that are lent with it for its reply and its events
+pub record Lent : Type 0 where
+  pub call : Call
+  pub reply : Octets
+  pub events : Octets
+
+unfoldable pub runBytes : Tables → List Lent → Tables
+runBytes t [] = t
+runBytes t (l ∷ ls) = runBytes (requestCall t (l .reply) (l .events) (l .call .sender) (l .call .message) .tables) ls
+
+-- the buffers have their sizes
+abbrev pub Roomy : List Lent → Type 0
+Roomy [] = Unit {0}
+Roomy (l ∷ ls) = (length (l .reply) ≡ replySize) × (length (l .events) ≡ eventsSize) × Roomy ls
+
+-- Calls made one after the other on the fresh store's bytes leave the bytes of what the history leaves: what is proved of histories holds of the bytes.
+abbrev pub HistoriesOnBytes : Type 0
+HistoriesOnBytes = (ls : List Lent) → Roomy ls → runBytes (tablesOf freshWorld) ls ≡ tablesOf (run freshWorld (map Lent.call ls))

@@ -1,22 +1,23 @@
 -- Domains, watches and transactions as bytes: an entry that fits its fields is written in its width and read back.
 use mathlib.Core.Path.{_≡_, refl, sym, _∙_, ap, ap₂}
-use mathlib.Core.Bool.{Bool, true, false, cond}
+use mathlib.Core.Bool.{Bool, true, false, cond, not, _&&_, false≢true, and-eq-true-iff}
 use mathlib.Core.List.{List, [], _∷_, _++_, map, flatMap, append-nil, append-assoc}
 use mathlib.Core.Option.{Option, none, some}
 use Prim.Native.Nat.{ℕ, zero, suc, _+_, _*_, _-_, _^_, _≤_, _<_}
 use native.Mathlib.Omega.{arith}
 use native.Mathlib.Nat.{mod-lt}
-use lib.ListN.{length, take, drop, replicate, length-append, length-replicate, length-take, length-map}
+use lib.ListN.{length, getD, set, take, drop, replicate, length-append, length-replicate, length-take, length-drop, length-map, take-append-drop}
 use lib.Seq.{take-append-seam, take-at, drop-at}
 use lib.Dec.{eqb, lit<, lit≤}
-use Rattle.rules.specs.Size.{longestToken, longestPath, mostChanges, domainSize, mostDomains, watchSize, mostWatches, changeSize, transactionSize, mostTransactions}
-use Rattle.rules.specs.Octets.{Octets, padded, bit, Bits, _bits_, chunks, bigEndian, bigFrom, field, pack, packFrom, bitsAt}
-use Rattle.rules.specs.Path.{Domain, Names, Given, malformed, absolute, relative, special, given, allNames, pathText, namesIn}
+use Rattle.rules.specs.Size.{longestToken, longestPath, mostChanges, domainSize, mostDomains, watchSize, watchesSize, mostWatches, changeSize, transactionSize, mostTransactions}
+use Rattle.rules.specs.Octets.{Octets, same, paste, padded, bit, _bits_, chunks, bigEndian, bigFrom, field, pack, packFrom, bitsAt}
+use Rattle.rules.specs.Path.{Domain, Connection, domainOf, Given, malformed, absolute, relative, special, given, allNames, pathText, namesIn}
 use Rattle.rules.specs.Payload.{Place, path, event}
 use Rattle.rules.specs.Answer.{Change}
 use Rattle.rules.specs.Event.{Watch, Watches, placeText}
 use Rattle.rules.specs.Layout.{textAt, isRelative, depthBits, watchBits, watchBytes, placeIn, watchAt, watchIn, watchesBytes, watchesOf, changeBytes, transactionBytes, changeIn, transactionAt, transactionIn, transactionsBytes, transactionsOf, Transactions, Domains, domainBytes, domainIn, domainsBytes, domainsOf, Transaction}
-use Rattle.rules.proofs.Tables.{Each, each-map, length-chunks, length-encoded, decoded}
+use Rattle.rules.specs.Sound.{known, noNul, goodPlace, watched, goodWatch, goodWatches, soundWatches}
+use Rattle.rules.proofs.Tables.{Each, each-map, length-chunks, length-encoded, written, decoded, decoded-at}
 use Rattle.rules.proofs.PathLaws.{Means, means, text-given, text-names}
 use Rattle.rules.proofs.Places.{nothing, some-is}
 use Rattle.rules.proofs.Cases.{cond-case}
@@ -53,7 +54,7 @@ abbrev pub DomainFits : Option Domain → Type 0
 DomainFits none = Unit {0}
 DomainFits (some d) = d < 65536
 
-domain-width : (m : Option Domain) → DomainFits m → length (domainBytes m) ≡ domainSize
+pub domain-width : (m : Option Domain) → DomainFits m → length (domainBytes m) ≡ domainSize
 unfolding domainBytes
 domain-width none f = length-replicate {A = ℕ} domainSize 0
 domain-width (some d) f = length-big 3 _
@@ -63,7 +64,7 @@ domain-used : (s : Octets) (head d : ℕ) → field s 0 3 ≡ head → bitsAt he
 unfolding domainIn
 domain-used s head d h u e = rw (h, u, e)
 
-domain-read : (m : Option Domain) → DomainFits m → domainIn (domainBytes m) ≡ m
+pub domain-read : (m : Option Domain) → DomainFits m → domainIn (domainBytes m) ≡ m
 unfolding domainIn domainBytes field bigFrom bitsAt pack packFrom
 domain-read none f = refl
 domain-read (some d) f =
@@ -75,6 +76,16 @@ unfolding domainsBytes domainsOf
 domains-read ds h f =
     ap (λ (n : ℕ). map domainIn (chunks n domainSize (flatMap domainBytes ds))) (sym h)
     ∙ decoded domainBytes domainSize domainIn ds (each-map DomainFits _ domain-width ds f) (each-map DomainFits _ domain-read ds f)
+
+-- a written entry changes its own bytes alone, and what stands in a place
+pub domain-written : (ds : Domains) (i : ℕ) (m : Option Domain) → Each DomainFits ds → DomainFits m → i < length ds
+    → domainsBytes (set ds i m) ≡ paste (i * domainSize) (domainBytes m) (domainsBytes ds)
+unfolding domainsBytes
+domain-written ds i m f g h = written domainBytes domainSize ds i m (each-map DomainFits _ domain-width ds f) (domain-width m g) h
+
+pub domain-at : (s : Octets) (i : ℕ) → i < mostDomains → getD (domainsOf s) i none ≡ domainIn (take domainSize (drop (i * domainSize) s))
+unfolding domainsOf
+domain-at s i h = decoded-at domainIn mostDomains domainSize i s none h
 
 pub length-domains : (ds : Domains) → Each DomainFits ds → length (domainsBytes ds) ≡ length ds * domainSize
 unfolding domainsBytes
@@ -240,12 +251,12 @@ abbrev pub MaybeWatch : Option Watch → Type 0
 MaybeWatch none = Unit {0}
 MaybeWatch (some v) = WatchFits v
 
-watch-width : (m : Option Watch) → MaybeWatch m → length (watchBytes m) ≡ watchSize
+pub watch-width : (m : Option Watch) → MaybeWatch m → length (watchBytes m) ≡ watchSize
 unfolding watchBytes
 watch-width none f = length-replicate {A = ℕ} watchSize 0
 watch-width (some v) f = some-watch-width v f
 
-watch-read : (m : Option Watch) → MaybeWatch m → watchIn (watchBytes m) ≡ m
+pub watch-read : (m : Option Watch) → MaybeWatch m → watchIn (watchBytes m) ≡ m
 unfolding watchIn watchBytes field bigFrom bitsAt
 watch-read none f = refl
 watch-read (some v) f = some-watch-read v f
@@ -255,6 +266,15 @@ unfolding watchesBytes watchesOf
 watches-read ws h f =
     ap (λ (n : ℕ). map watchIn (chunks n watchSize (flatMap watchBytes ws))) (sym h)
     ∙ decoded watchBytes watchSize watchIn ws (each-map MaybeWatch _ watch-width ws f) (each-map MaybeWatch _ watch-read ws f)
+
+pub watch-written : (ws : Watches) (i : ℕ) (m : Option Watch) → Each MaybeWatch ws → MaybeWatch m → i < length ws
+    → watchesBytes (set ws i m) ≡ paste (i * watchSize) (watchBytes m) (watchesBytes ws)
+unfolding watchesBytes
+watch-written ws i m f g h = written watchBytes watchSize ws i m (each-map MaybeWatch _ watch-width ws f) (watch-width m g) h
+
+pub watch-at : (s : Octets) (i : ℕ) → i < mostWatches → getD (watchesOf s) i none ≡ watchIn (take watchSize (drop (i * watchSize) s))
+unfolding watchesOf
+watch-at s i h = decoded-at watchIn mostWatches watchSize i s none h
 
 pub length-watches : (ws : Watches) → Each MaybeWatch ws → length (watchesBytes ws) ≡ length ws * watchSize
 unfolding watchesBytes
@@ -375,12 +395,12 @@ abbrev pub MaybeTransaction : Option Transaction → Type 0
 MaybeTransaction none = Unit {0}
 MaybeTransaction (some x) = TransactionFits x
 
-transaction-width : (m : Option Transaction) → MaybeTransaction m → length (transactionBytes m) ≡ transactionSize
+pub transaction-width : (m : Option Transaction) → MaybeTransaction m → length (transactionBytes m) ≡ transactionSize
 unfolding transactionBytes
 transaction-width none f = length-replicate {A = ℕ} transactionSize 0
 transaction-width (some x) f = some-transaction-width x f
 
-transaction-read : (m : Option Transaction) → MaybeTransaction m → transactionIn (transactionBytes m) ≡ m
+pub transaction-read : (m : Option Transaction) → MaybeTransaction m → transactionIn (transactionBytes m) ≡ m
 unfolding transactionIn transactionBytes field bigFrom bitsAt
 transaction-read none f = refl
 transaction-read (some x) f = some-transaction-read x f
@@ -390,6 +410,15 @@ unfolding transactionsBytes transactionsOf
 transactions-read xs h f =
     ap (λ (n : ℕ). map transactionIn (chunks n transactionSize (flatMap transactionBytes xs))) (sym h)
     ∙ decoded transactionBytes transactionSize transactionIn xs (each-map MaybeTransaction _ transaction-width xs f) (each-map MaybeTransaction _ transaction-read xs f)
+
+pub transaction-written : (xs : Transactions) (i : ℕ) (m : Option Transaction) → Each MaybeTransaction xs → MaybeTransaction m → i < length xs
+    → transactionsBytes (set xs i m) ≡ paste (i * transactionSize) (transactionBytes m) (transactionsBytes xs)
+unfolding transactionsBytes
+transaction-written xs i m f g h = written transactionBytes transactionSize xs i m (each-map MaybeTransaction _ transaction-width xs f) (transaction-width m g) h
+
+pub transaction-at : (s : Octets) (i : ℕ) → i < mostTransactions → getD (transactionsOf s) i none ≡ transactionIn (take transactionSize (drop (i * transactionSize) s))
+unfolding transactionsOf
+transaction-at s i h = decoded-at transactionIn mostTransactions transactionSize i s none h
 
 pub length-transactions : (xs : Transactions) → Each MaybeTransaction xs → length (transactionsBytes xs) ≡ length xs * transactionSize
 unfolding transactionsBytes
@@ -423,6 +452,7 @@ place-decoded r s l = go (given s) refl (means s)
 
 -- what is sure of a watch that was read, where its place is a path or an event
 pub record WatchRead (v : Watch) : Type 0 where
+  pub owner : v .owner < 65536
   pub depth : DepthFits (v .depth)
   pub token : length (v .token) ≤ longestToken
   pub place : (v .place ≡ event [] → ⊥) → PlaceFits (v .place)
@@ -431,6 +461,7 @@ pub watch-decoded : (s : Octets) (head : ℕ) → WatchRead (watchAt s head)
 unfolding watchAt bitsAt
 watch-decoded s head =
     record {
+      owner = mod-lt _ (lit< tt);
       depth = cond-case DepthFits (eqb (bitsAt head 45 1) 1) _ _ (mod-lt _ (lit< tt)) tt;
       token = text-short s (6 + longestPath) longestToken _;
       place = place-decoded _ _ (text-short s 6 longestPath _);
@@ -471,3 +502,93 @@ transaction-decoded s head = (few, go rows)
     go : (rs : List Octets) → Each ChangeFits (map changeIn rs)
     go [] = tt
     go (r ∷ rs) = (change-decoded r, go rs)
+
+-- ── decoded tables fit ──
+
+each-row : {A : Type 0} (P : A → Type 0) (decode : Octets → A) → ((r : Octets) → P (decode r)) → (rows : List Octets) → Each P (map decode rows)
+each-row P decode h [] = tt
+each-row P decode h (r ∷ rows) = (h r, each-row P decode h rows)
+
+domain-in-fits : (s : Octets) → DomainFits (domainIn s)
+unfolding domainIn bitsAt
+domain-in-fits s = cond-case DomainFits (eqb (bitsAt (field s 0 domainSize) 23 1) 1) _ _ (mod-lt _ (lit< tt)) tt
+
+transaction-in-fits : (s : Octets) → MaybeTransaction (transactionIn s)
+unfolding transactionIn transactionAt bitsAt
+transaction-in-fits s =
+    let d = transaction-decoded s (field s 0 3) in
+    cond-case MaybeTransaction (eqb (bitsAt (field s 0 3) 23 1) 1) _ _ (record { holder = mod-lt _ (lit< tt); few = d .0; changes = d .1 }) tt
+
+-- what is sure of an entry that was read
+abbrev MaybeRead : Option Watch → Type 0
+MaybeRead none = Unit {0}
+MaybeRead (some v) = WatchRead v
+
+watch-in-read : (s : Octets) → MaybeRead (watchIn s)
+unfolding watchIn
+watch-in-read s = cond-case MaybeRead (eqb (bitsAt (field s 0 6) 47 1) 1) _ _ (watch-decoded s (field s 0 6)) tt
+
+-- a good watch's place is no empty event
+pub place-named : (c : Connection) (k : Option ℕ) (p : Place) → goodPlace c k p ≡ true → p ≡ event [] → ⊥
+unfolding goodPlace
+place-named c k p h e = false≢true (rw (e, goodPlace) at h)
+
+watches-fit : (ds : Domains) (ws : Watches) → Each MaybeRead ws → goodWatches ds ws ≡ true → Each MaybeWatch ws
+unfolding goodWatches goodWatch
+watches-fit ds [] r h = tt
+watches-fit ds (none ∷ ws) r h = (tt, watches-fit ds ws (r .1) h)
+watches-fit ds (some v ∷ ws) r h =
+    let p = and-eq-true-iff (goodWatch ds v) (not (watched (v .owner) (placeText (v .place)) (v .token) ws) && goodWatches ds ws) .0 h in
+    let q = and-eq-true-iff (known (domainOf (v .owner)) ds) (noNul (v .token) && goodPlace (v .owner) (v .depth) (v .place)) .0 (p .0) in
+    let g = and-eq-true-iff (noNul (v .token)) (goodPlace (v .owner) (v .depth) (v .place)) .0 (q .1) .1 in
+    let w = r .0 in (
+      record { owner = w .owner; depth = w .depth; token = w .token; place = w .place (place-named (v .owner) (v .depth) (v .place) g) },
+      watches-fit ds ws (r .1) (and-eq-true-iff (not (watched (v .owner) (placeText (v .place)) (v .token) ws)) (goodWatches ds ws) .0 (p .1) .1),
+    )
+
+pub decoded-domains-fit : (s : Octets) → Each DomainFits (domainsOf s)
+unfolding domainsOf
+decoded-domains-fit s = each-row DomainFits domainIn domain-in-fits (chunks mostDomains domainSize s)
+
+pub decoded-transactions-fit : (s : Octets) → Each MaybeTransaction (transactionsOf s)
+unfolding transactionsOf
+decoded-transactions-fit s = each-row MaybeTransaction transactionIn transaction-in-fits (chunks mostTransactions transactionSize s)
+
+read-each : (s : Octets) → Each MaybeRead (watchesOf s)
+unfolding watchesOf
+read-each s = each-row MaybeRead watchIn watch-in-read (chunks mostWatches watchSize s)
+
+-- those of sound watches
+pub sound-watches-fit : (ds : Domains) (s : Octets) → soundWatches ds s ≡ true → Each MaybeWatch (watchesOf s)
+unfolding soundWatches
+sound-watches-fit ds s h =
+    let p = and-eq-true-iff (eqb (length s) watchesSize) (same (watchesBytes (watchesOf s)) s && goodWatches ds (watchesOf s)) .0 h in
+    watches-fit ds (watchesOf s) (read-each s) (and-eq-true-iff (same (watchesBytes (watchesOf s)) s) (goodWatches ds (watchesOf s)) .0 (p .1) .1)
+
+-- ── copies: bytes in rows ──
+
+abbrev pub whole : Octets → Octets
+whole s = s
+
+-- rows joined are read back as the rows
+pub copies-read : (k : ℕ) (cs : List Octets) → Each (λ (c : Octets). length c ≡ k) cs → chunks (length cs) k (flatMap whole cs) ≡ cs
+unfolding chunks flatMap
+copies-read k [] h = refl
+copies-read k (c ∷ cs) h = rw (take-at c (flatMap whole cs) k (h .0), drop-at c (flatMap whole cs) k (h .0)) (ap (λ (l : List Octets). c ∷ l) (copies-read k cs (h .1)))
+
+-- a written copy changes its own bytes alone
+pub copy-written : (k : ℕ) (cs : List Octets) (i : ℕ) (c : Octets) → Each (λ (x : Octets). length x ≡ k) cs → length c ≡ k → i < length cs
+    → flatMap whole (set cs i c) ≡ paste (i * k) c (flatMap whole cs)
+copy-written k cs i c f g h = written whole k cs i c f g h
+
+-- bytes taken as rows: each of its size, and joined the bytes again
+pub rows-sized : (n k : ℕ) (s : Octets) → length s ≡ n * k → Each (λ (r : Octets). length r ≡ k) (chunks n k s)
+unfolding chunks
+rows-sized zero k s h = tt
+rows-sized (suc n) k s h = (simp length-take (omega arith), rows-sized n k (drop k s) (simp length-drop (omega arith)))
+
+pub rows-joined : (n k : ℕ) (s : Octets) → length s ≡ n * k → flatMap whole (chunks n k s) ≡ s
+unfolding chunks flatMap
+rows-joined zero k [] h = refl
+rows-joined zero k (c ∷ s) h = absurd (omega arith)
+rows-joined (suc n) k s h = ap (λ (r : Octets). take k s ++ r) (rows-joined n k (drop k s) (simp length-drop (omega arith))) ∙ take-append-drop k s

@@ -1,12 +1,12 @@
 -- Tables that fit their fields: each decoded one does, and a node request's table does where the one before it did.
-use mathlib.Core.Path.{_≡_, refl, sym, _∙_, ap}
+use mathlib.Core.Path.{_≡_, refl, _∙_, ap}
 use mathlib.Core.Bool.{Bool, true, false, cond, _&&_, and-eq-true-iff}
-use mathlib.Core.List.{List, [], _∷_, _++_, map}
+use mathlib.Core.List.{List, [], _∷_, map}
 use mathlib.Core.Option.{Option, none, some, Option·none-ne-some, Option·some-injective}
-use Prim.Native.Nat.{ℕ, zero, suc, _+_, _*_, _-_, _/_, _%_, _^_, _≤_, _<_}
+use Prim.Native.Nat.{ℕ, zero, suc, _+_, _-_, _≤_, _<_}
 use native.Mathlib.Nat.{mod-lt, le-of-suc-le-suc}
 use native.Mathlib.Omega.{arith}
-use lib.ListN.{length, getD, take, drop, set, replicate, length-take, length-set}
+use lib.ListN.{length, getD, take, set, replicate, length-take, length-set}
 use lib.Dec.{eqb, leb, lit<}
 use borrow.Author.Tests.{leb-true}
 use Rattle.rules.specs.Size.{slots, longestValue, mostEntries, deepest, longestName}
@@ -19,7 +19,7 @@ use Rattle.rules.specs.Payload.{Ask, directory, read, getPerms, write, m
 use Rattle.rules.specs.Answer.{Answer, unchanged, changed, looked, room, created, written, directoryMade, taken, maySet, permitted, answered, answer}
 use Rattle.rules.specs.Layout.{textAt, entryAt, nodeOf, slotOf, tableOf}
 use Rattle.rules.proofs.Cases.{cond-case, cond-known}
-use Rattle.rules.proofs.Tables.{Each, each-at, each-set}
+use Rattle.rules.proofs.Tables.{Each, each-set}
 use Rattle.rules.proofs.Slots.{EntryFits, NodeFits, SlotFits, TableFits, length-tableOf}
 
 -- a table of 128 slots whose nodes fit their fields

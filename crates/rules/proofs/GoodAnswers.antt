@@ -1,7 +1,7 @@
 -- A good table stays good: written, made and removed nodes, and so every node request.
 use mathlib.Core.Path.{_≡_, refl, sym, _∙_, ap, subst}
-use mathlib.Core.Bool.{Bool, true, false, cond, not, _&&_, _||_, false≢true, true≢false, and-eq-true-iff}
-use mathlib.Core.List.{List, [], _∷_, _++_, nil≢cons, cons≢nil, head-eq-of-cons-eq}
+use mathlib.Core.Bool.{Bool, true, false, cond, not, _&&_, _||_, false≢true, true≢false, and-eq-true-iff, or-false}
+use mathlib.Core.List.{List, [], _∷_, nil≢cons, cons≢nil, head-eq-of-cons-eq}
 use mathlib.Core.Option.{Option, none, some}
 use Prim.Native.Nat.{ℕ, zero, suc, _+_, _-_, _<_, _≤_}
 use native.Mathlib.Omega.{arith}
@@ -9,10 +9,10 @@ use native.Mathlib.Nat.{add-zero, zero-add, suc-add, add-suc}
 use native.Mathlib.Decide.{ℕ-discrete}
 use lib.ListN.{length, getD, set}
 use lib.Seq.{getD-set-same, getD-set-other}
-use lib.Dec.{eqb, ltb, leb, eqb·suc-zero}
-use borrow.Author.Tests.{eqb-true, eqb-false, eq-eqb, ne-eqb, leb-true, le-leb}
+use lib.Dec.{eqb, leb, eqb·suc-zero}
+use borrow.Author.Tests.{eqb-true, eq-eqb, ne-eqb, leb-true, le-leb}
 use Rattle.rules.specs.Size.{deepest, lastDomain, longestName, longestValue, mostEntries}
-use Rattle.rules.specs.Octets.{Octets, same}
+use Rattle.rules.specs.Octets.{Octets}
 use Rattle.rules.specs.Entries.{lowest, freeCount}
 use Rattle.rules.specs.Path.{Domain, Name, Names, isControl, isName, allNames, shortNames, fits}
 use Rattle.rules.specs.Node.{Entry, Node, Table, Reached, nodeAt, child, reachFrom, reach, heir, newNode, lastValue, made, withValue, withEntries, within, clearedFrom, removed, withoutAll}
@@ -21,7 +21,7 @@ use Rattle.rules.specs.Payload.{Ask, directory, read, getPerms, write, m
 use Rattle.rules.specs.Answer.{Reply, Change, Answer, unchanged, changed, looked, room, created, written, directoryMade, taken, maySet, permitted, answered, answer}
 use Rattle.rules.specs.Sound.{goodEntries, reachesRoot, goodChange}
 use Rattle.rules.proofs.Cases.{cond-case, cond-known}
-use Rattle.rules.proofs.Places.{nothing, some-is, is-false, At, at-below, at-set, set-cases, lowest-free}
+use Rattle.rules.proofs.Places.{nothing, some-is, At, at-below, set-cases, lowest-free}
 use Rattle.rules.proofs.Tables.{Each}
 use Rattle.rules.proofs.Slots.{SlotFits}
 use Rattle.rules.proofs.Fitting.{Fitting, slotAt-fits, lowest-below, free-fewer}
@@ -29,7 +29,7 @@ use Rattle.rules.proofs.GoodTables.{Good, nodeAt-is, IsChild, child-som
 
 -- ── reaching the root ──
 
-reaches-node : (k : ℕ) (t : Table) (i : ℕ) → reachesRoot (suc k) t i ≡ true → (i ≡ 0 → ⊥) → (n : Node) × At t i n × (reachesRoot k t (n .parent) ≡ true)
+pub reaches-node : (k : ℕ) (t : Table) (i : ℕ) → reachesRoot (suc k) t i ≡ true → (i ≡ 0 → ⊥) → (n : Node) × At t i n × (reachesRoot k t (n .parent) ≡ true)
 unfolding reachesRoot
 reaches-node k t i h z = go (getD t i none) refl (rw (ne-eqb i 0 z) at h)
   where
@@ -37,7 +37,7 @@ reaches-node k t i h z = go (getD t i none) refl (rw (ne-eqb i 0 z) at h)
     go none e h = absurd (false≢true h)
     go (some n) e h = (n, e, h)
 
-node-reaches : (k : ℕ) (t : Table) (i : ℕ) (n : Node) → At t i n → reachesRoot k t (n .parent) ≡ true → reachesRoot (suc k) t i ≡ true
+pub node-reaches : (k : ℕ) (t : Table) (i : ℕ) (n : Node) → At t i n → reachesRoot k t (n .parent) ≡ true → reachesRoot (suc k) t i ≡ true
 unfolding reachesRoot
 node-reaches k t i n e h = go (eqb i 0)
   where
@@ -51,7 +51,7 @@ root-reaches zero t i e = eq-eqb i 0 e
 root-reaches (suc k) t i e = rw (eq-eqb i 0 e)
 
 -- by cases: slot i is the root, or a used slot whose parent reaches it
-reaches-cases : (P : Type 0) (k : ℕ) (t : Table) (i : ℕ) → reachesRoot (suc k) t i ≡ true → (i ≡ 0 → P)
+pub reaches-cases : (P : Type 0) (k : ℕ) (t : Table) (i : ℕ) → reachesRoot (suc k) t i ≡ true → (i ≡ 0 → P)
     → ((i ≡ 0 → ⊥) → (n : Node) → At t i n → reachesRoot k t (n .parent) ≡ true → P) → P
 reaches-cases P k t i h root other = go (ℕ-discrete i 0)
   where
@@ -59,7 +59,7 @@ reaches-cases P k t i h root other = go (ℕ-discrete i 0)
     go (yes e) = root e
     go (no z) = let r = reaches-node k t i h z in other z (r .0) (r .1) (r .2)
 
-reaches-zero : (t : Table) (i : ℕ) → reachesRoot 0 t i ≡ true → i ≡ 0
+pub reaches-zero : (t : Table) (i : ℕ) → reachesRoot 0 t i ≡ true → i ≡ 0
 unfolding reachesRoot
 reaches-zero t i h = eqb-true i 0 h
 
@@ -81,7 +81,7 @@ reaches-kept (suc k) t u i f h =
     (λ z n e r. let m = f i n e in node-reaches k u i (m .0) (m .1) (rw (m .2) (reaches-kept k t u (n .parent) f r)))
 
 -- a used slot's parent is used
-parent-used : (t : Table) → Good t → (i : ℕ) (n : Node) → At t i n → (m : Node) × At t (n .parent) m
+pub parent-used : (t : Table) → Good t → (i : ℕ) (n : Node) → At t i n → (m : Node) × At t (n .parent) m
 parent-used t g i n e =
     reaches-cases ((m : Node) × At t (n .parent) m) 7 t i (g .reaches i n e)
     (λ z. (g .root, ap (λ (j : ℕ). getD t j none) (ap Node.parent (some-is (sym e ∙ (ap (λ (j : ℕ). getD t j none) z ∙ g .used))) ∙ g .own-parent) ∙ g .used))
@@ -235,17 +235,13 @@ at-cleared t i k (s ∷ ss) zero n e h = rw (rw add-zero at h) e
 at-cleared t i k (s ∷ ss) (suc j) n e h = at-cleared t i (suc k) ss j n e (rw (add-suc, ← suc-add k j) at h)
 
 -- a slot's own removal, or its parent's
-within-cases : (k : ℕ) (t : Table) (i j : ℕ) (n : Node) → At t j n → (j ≡ 0 → ⊥) → within (suc k) t i j ≡ false → (eqb i j ≡ false) × (within k t i (n .parent) ≡ false)
+pub within-cases : (k : ℕ) (t : Table) (i j : ℕ) (n : Node) → At t j n → (j ≡ 0 → ⊥) → within (suc k) t i j ≡ false → (eqb i j ≡ false) × (within k t i (n .parent) ≡ false)
 unfolding within
 within-cases k t i j n e z h = go (eqb i j) (rw (ne-eqb j 0 z, nodeAt-is t j n e) at h)
   where
     go : (b : Bool) → (b || within k t i (n .parent)) ≡ false → (b ≡ false) × (within k t i (n .parent) ≡ false)
     go true q = absurd (true≢false q)
     go false q = (refl, q)
-
-or-false : (b : Bool) → (b || false) ≡ b
-or-false true = refl
-or-false false = refl
 
 root-out : (t : Table) (i : ℕ) → (i ≡ 0 → ⊥) → within 0 t i 0 ≡ false
 unfolding within
@@ -272,7 +268,7 @@ module _ (t : Table) (g : Good t) (i : ℕ) where
       sub-split : (k : ℕ) → k ≤ 8 → 8 ≡ 8 - k + k
       sub-split k h = omega arith
 
-  stayed : (j : ℕ) (n : Node) → At (removed t i) j n → At t j n × (within deepest t i j ≡ false)
+  pub stayed : (j : ℕ) (n : Node) → At (removed t i) j n → At t j n × (within deepest t i j ≡ false)
   unfolding removed
   stayed j n e = rw zero-add at (cleared-at t i 0 t j n e)
 

@@ -1,9 +1,8 @@
 -- Good requests: what parsing makes sure of, whatever the message.
-use mathlib.Core.Path.{_≡_, refl}
-use mathlib.Core.Bool.{Bool, true, not, _||_}
-use mathlib.Core.List.{List, _∷_}
+use mathlib.Core.Path.{_≡_}
+use mathlib.Core.Bool.{true, not, _||_}
 use mathlib.Core.Option.{Option, none, some}
-use Prim.Native.Nat.{ℕ, _≤_, _<_}
+use Prim.Native.Nat.{ℕ, _≤_}
 use Rattle.rules.specs.Size.{lastDomain, deepestWatch}
 use Rattle.rules.specs.Octets.{Octets}
 use Rattle.rules.specs.Path.{Connection, domainOf, Names, allNames, special, given, base, beyond}

@@ -1,19 +1,19 @@
 -- Good node tables, place by place; and in them each used slot's path leads back to it.
 use mathlib.Core.Path.{_≡_, refl, sym, _∙_, ap, subst}
 use mathlib.Core.Bool.{Bool, true, false, cond, not, _&&_, _||_, false≢true, true≢false, and-eq-true-iff}
-use mathlib.Core.List.{List, [], _∷_, _++_}
+use mathlib.Core.List.{[], _∷_}
 use mathlib.Core.Option.{Option, none, some}
-use Prim.Native.Nat.{ℕ, zero, suc, _+_, _<_, _≤_}
+use Prim.Native.Nat.{ℕ, zero, suc, _+_, _<_}
 use native.Mathlib.Omega.{arith}
 use native.Mathlib.Nat.{add-zero, zero-add}
 use lib.ListN.{length, getD}
 use lib.Dec.{eqb, eqb·suc-zero}
-use borrow.Author.Tests.{eqb-true, eqb-false, eq-eqb, ne-eqb}
+use borrow.Author.Tests.{eqb-true, eq-eqb}
 use Rattle.rules.specs.Size.{deepest}
 use Rattle.rules.specs.Octets.{same}
 use Rattle.rules.specs.Entries.{has}
 use Rattle.rules.specs.Path.{Name, Names, isControl, isName}
-use Rattle.rules.specs.Node.{Node, Table, nodeAt, isChild, childFrom, child, Reached, reachFrom, reach, pathUp, pathOf}
+use Rattle.rules.specs.Node.{Node, Table, nodeAt, isChild, childFrom, child, reachFrom, reach, pathUp, pathOf}
 use Rattle.rules.specs.Sound.{goodEntries, reachesRoot, goodName, goodNode, goodNodes, goodRoot, clash, distinct, goodTable}
 use Rattle.rules.proofs.Compare.{same-eq, eq-same}
 use Rattle.rules.proofs.Places.{nothing, some-is, At, at-below, apart, related-one, one-related}

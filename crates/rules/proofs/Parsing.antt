@@ -1,9 +1,9 @@
 -- What a parsed request is sure to hold.
-use mathlib.Core.Path.{_≡_, refl, sym, _∙_, ap}
-use mathlib.Core.Bool.{Bool, true, false, cond, not, _&&_, and-eq-true-iff}
+use mathlib.Core.Path.{_≡_, refl, _∙_, ap}
+use mathlib.Core.Bool.{true, false, cond, not, and-eq-true-iff}
 use mathlib.Core.List.{List, [], _∷_, _++_, cons≢nil}
 use mathlib.Core.Option.{Option, none, some}
-use Prim.Native.Nat.{ℕ, zero, suc, _≤_, _<_, _^_, _-_}
+use Prim.Native.Nat.{ℕ, _≤_, _<_, _^_, _-_}
 use native.Mathlib.Omega.{arith}
 use lib.Dec.{eqb, leb}
 use borrow.Author.Tests.{le-leb}
@@ -11,7 +11,7 @@ use Rattle.rules.specs.Size.{lastDomain, deepestWatch}
 use Rattle.rules.specs.Octets.{Octets, text, nul, same, numberIn, signed}
 use Rattle.rules.specs.Path.{Domain, Connection, domainOf, Names, Given, malformed, absolute, relative, special, given, allNames, base, slashed, beyond}
 use Rattle.rules.specs.Node.{Entry}
-use Rattle.rules.specs.Payload.{Ask, directory, read, getPerms, write, mkdir, rm, setPerms, Place, Request, ask, watch, unwatch, start, end, introduce, release, domainPath, isIntroduced, reset, Parsed, unknown, invalid, request, Taken, before, ended, strings, firstString, accessLetter, entryOf, entriesOf, namesOf, placeOf, proper, asking, plain, writing, setting, settingAll, depthFor, watchingTo, watching, unwatching, introducingOf, introducing, ofDomain, bare, starting, ending, parse}
+use Rattle.rules.specs.Payload.{Ask, directory, read, getPerms, write, mkdir, rm, setPerms, Place, Request, ask, release, domainPath, isIntroduced, Parsed, invalid, request, Taken, before, ended, strings, firstString, accessLetter, entryOf, entriesOf, namesOf, placeOf, proper, asking, plain, writing, setting, settingAll, depthFor, watchingTo, watching, unwatching, introducingOf, introducing, ofDomain, bare, starting, ending, parse}
 use Rattle.rules.proofs.Cases.{cond-case, cond-known}
 use Rattle.rules.specs.Sound.{goodEntries, noNul, strictlyBelow}
 use Rattle.rules.proofs.Decimals.{range-bounds}

@@ -1,6 +1,6 @@
 -- Entries in places: what a written, freed or found place holds.
 use mathlib.Core.Path.{_≡_, refl, sym, _∙_, ap}
-use mathlib.Core.Bool.{Bool, true, false, cond, not, _&&_, _||_, false≢true, true≢false, and-eq-true-iff}
+use mathlib.Core.Bool.{Bool, true, false, cond, not, _&&_, _||_, false≢true, true≢false, and-eq-true-iff, or-true}
 use mathlib.Core.List.{List, [], _∷_}
 use mathlib.Core.Option.{Option, none, some}
 use Prim.Native.Nat.{ℕ, zero, suc, _<_}
@@ -113,10 +113,6 @@ module _ {A : Type 0} where
   at-has test (none ∷ xs) (suc i) x e p = at-has test xs i x e p
   at-has test (some y ∷ xs) zero x e p = rw (some-is e, p)
   at-has test (some y ∷ xs) (suc i) x e p = rw (at-has test xs i x e p) (or-true (test y))
-    where
-      or-true : (b : Bool) → (b || true) ≡ true
-      or-true true = refl
-      or-true false = refl
 
   pub not-has : (test : A → Bool) (xs : List (Option A)) → has test xs ≡ false → (i : ℕ) (x : A) → At xs i x → test x ≡ false
   not-has test xs e i x q = is-false (test x) λ p. true≢false (sym (at-has test xs i x q p) ∙ e)
