@@ -6,6 +6,7 @@ help:
 test:
 	rt fmt --check
 	sh tests/review-sheet.sh
+	sh tests/rule-edits.sh
 	rt ci
 
 worked:
