@@ -5,3 +5,5 @@ pub mod Decimals
 pub mod Tables
 pub mod Fields
 pub mod Slots
+pub mod PathLaws
+pub mod BelowLaws
