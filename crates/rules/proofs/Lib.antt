@@ -7,3 +7,4 @@ pub mod Fields
 pub mod Slots
 pub mod PathLaws
 pub mod BelowLaws
+pub mod Joined
