@@ -3,6 +3,7 @@ use mathlib.Core.Path.{_≡_, refl, ap, sym, subst⁻¹, _∙_}
 use mathlib.Core.Bool.{Bool, true, false, cond}
 use mathlib.Core.List.{List, [], _∷_}
 use mathlib.Core.Option.{Option, none, some}
+use mathlib.Core.Logic.{_⊎_, inl, inr}
 use Prim.Native.Nat.{ℕ, suc, _+_, _-_, _<_, _≤_}
 use native.Mathlib.Nat.{add-zero}
 use native.Mathlib.Numerals.{add-one}
@@ -14,7 +15,7 @@ use borrow.Author.Tests.{lt-ltb, le-ltb, ltb-true, ltb-false, eq-eqb, ne-eqb}
 use Rattle.rules.specs.Octets.{Octets}
 use Rattle.rules.specs.Payload as rules
 use Rattle.rules.specs.Payload.{firstString, strings}
-use Rattle.payload.proofs.Strings.{StringAt, TakenAt, taken-at, left-over, none-left}
+use Rattle.payload.proofs.Strings.{StringAt, TakenAt, part-first, taken-at, left-over, none-left}
 use Rattle.payload.specs.Strings.{part}
 use Rattle.payload.specs.Cursor.{found, takenAt}
 use Rattle.payload.specs.declared.cursor.Cursor.{Cursor}
@@ -116,3 +117,19 @@ module _ (s : Octets) (at : ℕ) where
           let h = over (ltb at (length s)) refl (ap (found s at at) (sym f) ∙ e) in
           record { none-first = f; all = none-left (drop at s) (omega (arith, length-drop at s)) }
       by (some t) f = absurd (let g = ap (found s at at) (sym f) ∙ e in let z : _≡_ {A = ℕ} 0 1 = cc in omega arith)
+
+-- the first string of all
+pub first-told : (s : Octets) (start end : ℕ) (next : Cursor) → takenAt s 0 ≡ String start end next →
+    firstString s ≡ some (record { first = take end s; rest = drop (end + 1) s })
+first-told s start end next e =
+    string-told s 0 start end next e .first ∙ ap (λ (l : Octets). some (record { first = l; rest = drop (end + 1) s })) (part-first end s)
+
+-- nothing is found, so no string begins
+pub nothing-told : (s : Octets) (at : ℕ) → ((start end : ℕ) (next : Cursor) → takenAt s at ≡ String start end next → ⊥) →
+    Untold s at none ⊎ Untold s at (some [])
+nothing-told s at h = by (takenAt s at) refl
+  where
+    by : (t : Taken) → takenAt s at ≡ t → Untold s at none ⊎ Untold s at (some [])
+    by (String start end next) e = absurd (h start end next e)
+    by Left e = inl (left-told s at e)
+    by End e = inr (end-told s at e)

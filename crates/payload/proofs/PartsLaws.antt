@@ -1,10 +1,11 @@
 -- Which strings a payload has, from what its cursors find.
 use mathlib.Core.Path.{_≡_, refl, ap, sym, _∙_}
-use mathlib.Core.List.{List, [], _∷_}
+use mathlib.Core.List.{List, [], _∷_, _++_, append-assoc}
 use mathlib.Core.Option.{Option, none, some}
 use Prim.Native.Nat.{ℕ, _+_, _-_, _<_, _≤_}
 use native.Mathlib.Omega.{arith}
-use lib.ListN.{length, drop}
+use lib.ListN.{length, take, drop, length-append}
+use lib.Seq.{take-at}
 use Rattle.rules.specs.Octets.{Octets}
 use Rattle.rules.specs.Payload.{strings}
 use Rattle.payload.specs.Strings.{part, prepended}
@@ -15,7 +16,7 @@ use Rattle.payload.specs.declared.cursor.Taken.{Taken}
 use Rattle.payload.specs.declared.cursor.Taken.the-variants.{String, Left, End}
 use Rattle.payload.specs.declared.parts.Parts.{Parts}
 use Rattle.payload.specs.declared.parts.Parts.the-variants.{One, Two, Three, Other}
-use Rattle.payload.proofs.Strings.{length-part}
+use Rattle.payload.proofs.Strings.{length-part, flat, strings-flat, part-at}
 use Rattle.payload.proofs.CursorLaws.{Told, Untold, string-told, left-told, end-told}
 
 -- what is found at a place is left over, or more than what was found before
@@ -111,3 +112,102 @@ module _ (s : Octets) where
   pub none-end : takenAt s 0 ≡ End → Other ≡ partsOf (strings s)
   unfolding partsOf
   none-end e = rw (end-told s 0 e .all)
+
+-- ── what the ends of the strings tell ──
+
+pub record OneString (s : Octets) (a : ℕ) : Type 0 where
+  pub high : a < length s
+  pub all : strings s ≡ some (take a s ∷ [])
+
+pub record TwoStrings (s : Octets) (a b : ℕ) : Type 0 where
+  pub low : a < b
+  pub high : b < length s
+  pub all : strings s ≡ some (take a s ∷ part (a + 1) b s ∷ [])
+
+pub record ThreeStrings (s : Octets) (a b c : ℕ) : Type 0 where
+  pub low : a < b
+  pub mid : b < c
+  pub high : c < length s
+  pub all : strings s ≡ some (take a s ∷ part (a + 1) b s ∷ part (b + 1) c s ∷ [])
+
+one-string : (s x : Octets) (a : ℕ) → strings s ≡ some (x ∷ []) → length x ≡ a → OneString s a
+unfolding flat
+one-string s x a e l =
+    let f = strings-flat s (x ∷ []) e in
+    record {
+      high = omega (arith, ap length f, length-append x (0 ∷ []));
+      all = e ∙ ap (λ (y : Octets). some (y ∷ [])) (sym (rw f (take-at x (0 ∷ []) a l)));
+    }
+
+two-strings : (s x y : Octets) (a b : ℕ) → strings s ≡ some (x ∷ y ∷ []) → length x ≡ a → length x + 1 + length y ≡ b → TwoStrings s a b
+unfolding flat
+two-strings s x y a b e l m =
+    let f = strings-flat s (x ∷ y ∷ []) e in
+    let first : take a s ≡ x = rw f (take-at x (0 ∷ (y ++ (0 ∷ []))) a l) in
+    let second : part (a + 1) b s ≡ y =
+    part-at (x ++ (0 ∷ [])) y (0 ∷ []) s (a + 1) b (f ∙ sym (append-assoc x (0 ∷ []) (y ++ (0 ∷ [])))) (length-append x (0 ∷ []) ∙ omega arith) (omega arith) in
+    record {
+      low = omega arith;
+      high = omega (arith, ap length f, length-append x (0 ∷ (y ++ (0 ∷ []))), length-append y (0 ∷ []));
+      all = rw (first, second) e;
+    }
+
+three-strings : (s x y z : Octets) (a b c : ℕ) → strings s ≡ some (x ∷ y ∷ z ∷ []) → length x ≡ a → length x + 1 + length y ≡ b →
+    length x + 1 + length y + 1 + length z ≡ c → ThreeStrings s a b c
+unfolding flat
+three-strings s x y z a b c e l m n =
+    let f = strings-flat s (x ∷ y ∷ z ∷ []) e in
+    let r : Octets = z ++ (0 ∷ []) in
+    let q : Octets = y ++ (0 ∷ r) in
+    let xs : Octets = x ++ (0 ∷ []) in
+    let ys : Octets = y ++ (0 ∷ []) in
+    let k : length xs ≡ a + 1 = length-append x (0 ∷ []) ∙ omega arith in
+    let j : length (xs ++ ys) ≡ b + 1 = length-append xs ys ∙ omega (arith, length-append y (0 ∷ [])) in
+    let g : s ≡ xs ++ q = f ∙ sym (append-assoc x (0 ∷ []) q) in
+    let h : s ≡ (xs ++ ys) ++ r = g ∙ (ap (λ (v : Octets). xs ++ v) (sym (append-assoc y (0 ∷ []) r)) ∙ sym (append-assoc xs ys r)) in
+    let first : take a s ≡ x = rw f (take-at x (0 ∷ q) a l) in
+    let second : part (a + 1) b s ≡ y = part-at xs y (0 ∷ r) s (a + 1) b g k (omega arith) in
+    let third : part (b + 1) c s ≡ z = part-at (xs ++ ys) z (0 ∷ []) s (b + 1) c h j (omega arith) in
+    record {
+      low = omega arith;
+      mid = omega arith;
+      high = omega (arith, ap length h, length-append (xs ++ ys) r, length-append z (0 ∷ []));
+      all = rw (first, second, third) e;
+    }
+
+module _ (s : Octets) where
+  pub one-told : (a : ℕ) → partsOf (strings s) ≡ One a → OneString s a
+  unfolding partsOf
+  one-told a e = by (strings s) refl e
+    where
+      by : (o : Strings) → strings s ≡ o → partsOf o ≡ One a → OneString s a
+      by none f e = absurd (let z : _≡_ {A = ℕ} 0 1 = cc in omega arith)
+      by (some []) f e = absurd (let z : _≡_ {A = ℕ} 0 1 = cc in omega arith)
+      by (some (x ∷ [])) f e = one-string s x a f (cc)
+      by (some (x ∷ y ∷ [])) f e = absurd (let z : _≡_ {A = ℕ} 0 1 = cc in omega arith)
+      by (some (x ∷ y ∷ z ∷ [])) f e = absurd (let z : _≡_ {A = ℕ} 0 1 = cc in omega arith)
+      by (some (x ∷ y ∷ z ∷ w ∷ ws)) f e = absurd (let z : _≡_ {A = ℕ} 0 1 = cc in omega arith)
+
+  pub two-told : (a b : ℕ) → partsOf (strings s) ≡ Two a b → TwoStrings s a b
+  unfolding partsOf
+  two-told a b e = by (strings s) refl e
+    where
+      by : (o : Strings) → strings s ≡ o → partsOf o ≡ Two a b → TwoStrings s a b
+      by none f e = absurd (let z : _≡_ {A = ℕ} 0 1 = cc in omega arith)
+      by (some []) f e = absurd (let z : _≡_ {A = ℕ} 0 1 = cc in omega arith)
+      by (some (x ∷ [])) f e = absurd (let z : _≡_ {A = ℕ} 0 1 = cc in omega arith)
+      by (some (x ∷ y ∷ [])) f e = two-strings s x y a b f (cc) (cc)
+      by (some (x ∷ y ∷ z ∷ [])) f e = absurd (let z : _≡_ {A = ℕ} 0 1 = cc in omega arith)
+      by (some (x ∷ y ∷ z ∷ w ∷ ws)) f e = absurd (let z : _≡_ {A = ℕ} 0 1 = cc in omega arith)
+
+  pub three-told : (a b c : ℕ) → partsOf (strings s) ≡ Three a b c → ThreeStrings s a b c
+  unfolding partsOf
+  three-told a b c e = by (strings s) refl e
+    where
+      by : (o : Strings) → strings s ≡ o → partsOf o ≡ Three a b c → ThreeStrings s a b c
+      by none f e = absurd (let z : _≡_ {A = ℕ} 0 1 = cc in omega arith)
+      by (some []) f e = absurd (let z : _≡_ {A = ℕ} 0 1 = cc in omega arith)
+      by (some (x ∷ [])) f e = absurd (let z : _≡_ {A = ℕ} 0 1 = cc in omega arith)
+      by (some (x ∷ y ∷ [])) f e = absurd (let z : _≡_ {A = ℕ} 0 1 = cc in omega arith)
+      by (some (x ∷ y ∷ z ∷ [])) f e = three-strings s x y z a b c f (cc) (cc) (cc)
+      by (some (x ∷ y ∷ z ∷ w ∷ ws)) f e = absurd (let z : _≡_ {A = ℕ} 0 1 = cc in omega arith)

@@ -4,11 +4,11 @@ use mathlib.Core.Bool.{Bool, true, false, cond}
 use mathlib.Core.List.{List, [], _∷_, _++_}
 use mathlib.Core.Option.{Option, none, some}
 use Prim.Native.Nat.{ℕ, suc, _+_, _-_, _<_, _≤_}
-use native.Mathlib.Nat.{add-sub-cancel-left, add-assoc}
+use native.Mathlib.Nat.{add-sub-cancel-left, add-assoc, sub-zero}
 use native.Mathlib.Omega.{arith}
 use lib.Dec.{eqb}
 use lib.ListN.{length, take, drop, length-append, length-drop}
-use lib.Seq.{length-take-le, take-append-seam, drop-append-add, drop-drop}
+use lib.Seq.{length-take-le, take-append-seam, drop-at, drop-append-add, drop-drop}
 use borrow.Author.Tests.{eqb-true}
 use Rattle.rules.specs.Octets.{Octets}
 use Rattle.rules.specs.Payload.{Taken, strings, before, ended, firstString}
@@ -106,6 +106,9 @@ none-left (c ∷ cs) h = absurd (omega arith)
 pub length-part : (a e : ℕ) (s : Octets) → e ≤ length s → length (part a e s) ≡ e - a
 length-part a e s h = length-take-le (e - a) (drop a s) (omega (arith, length-drop a s))
 
+pub part-first : (e : ℕ) (s : Octets) → part 0 e s ≡ take e s
+part-first e s = ap (λ (n : ℕ). take n s) (sub-zero e)
+
 -- A string of s that starts at `at` and ends, with a nul, at e.
 pub record StringAt (s : Octets) (at e : ℕ) : Type 0 where
   pub low : at ≤ e
@@ -135,3 +138,43 @@ taken-at s at t e = record { string = record { low = omega arith; high = high; a
 
     all : strings (drop at s) ≡ prepended (part at (at + length (t .first)) s) (strings (drop (at + length (t .first) + 1) s))
     all = b .all ∙ (ap (λ (l : Octets). prepended l (strings (t .rest))) first ∙ ap (λ (l : Octets). prepended (part at (at + length (t .first)) s) (strings l)) rest)
+
+-- ── strings that are all there, nul after nul ──
+
+unfoldable pub flat : List Octets → Octets
+flat [] = []
+flat (t ∷ ts) = t ++ (0 ∷ flat ts)
+
+ended-flat : (o : Option (List Octets)) (cs : Octets) (ts : List Octets) → ((us : List Octets) → o ≡ some us → cs ≡ flat us) →
+    ended o ≡ some ts → 0 ∷ cs ≡ flat ts
+unfolding ended flat
+ended-flat none cs ts h e = absurd (let z : _≡_ {A = ℕ} 0 1 = cc in omega arith)
+ended-flat (some us) cs ts h e =
+    let f : [] ∷ us ≡ ts = cc in
+    ap (λ (l : Octets). 0 ∷ l) (h us refl) ∙ ap flat f
+
+before-flat : (c : ℕ) (o : Option (List Octets)) (cs : Octets) (ts : List Octets) → ((us : List Octets) → o ≡ some us → cs ≡ flat us) →
+    before c o ≡ some ts → c ∷ cs ≡ flat ts
+unfolding before flat
+before-flat c none cs ts h e = absurd (let z : _≡_ {A = ℕ} 0 1 = cc in omega arith)
+before-flat c (some []) cs ts h e = absurd (let z : _≡_ {A = ℕ} 0 1 = cc in omega arith)
+before-flat c (some (u ∷ us)) cs ts h e =
+    let f : (c ∷ u) ∷ us ≡ ts = cc in
+    ap (λ (l : Octets). c ∷ l) (h (u ∷ us) refl) ∙ ap flat f
+
+flat-by : (c : ℕ) (cs : Octets) (ts : List Octets) (b : Bool) → eqb c 0 ≡ b → ((us : List Octets) → strings cs ≡ some us → cs ≡ flat us) →
+    strings (c ∷ cs) ≡ some ts → c ∷ cs ≡ flat ts
+flat-by c cs ts true b h e =
+    ap (λ (k : ℕ). k ∷ cs) (eqb-true c 0 b) ∙ ended-flat (strings cs) cs ts h (sym (strings-nul c cs b) ∙ e)
+flat-by c cs ts false b h e = before-flat c (strings cs) cs ts h (sym (strings-other c cs b) ∙ e)
+
+pub strings-flat : (s : Octets) (ts : List Octets) → strings s ≡ some ts → s ≡ flat ts
+unfolding strings flat
+strings-flat [] ts e = let f : [] ≡ ts = cc in ap flat f
+strings-flat (c ∷ cs) ts e = flat-by c cs ts (eqb c 0) refl (strings-flat cs) e
+
+-- a string between others is the bytes at its place
+pub part-at : (p t q s : Octets) (a e : ℕ) → s ≡ p ++ (t ++ q) → length p ≡ a → a + length t ≡ e → part a e s ≡ t
+part-at p t q s a e h l m =
+    let n : e - a ≡ length t = omega arith in
+    rw (n, h, drop-at p (t ++ q) a l, take-append-seam t q)

@@ -10,7 +10,7 @@ pub struct Path {
 // A watch's depth, if one is given.
 pub enum Depth {
     Given(u32),
-    Unlimited,
+    None,
 }
 
 // A permission entry: the access (none 0, read 1, write 2, both 3) of a domain.
@@ -70,4 +70,28 @@ pub enum Request {
     DomainPath(u32),
     IsIntroduced(u32),
     Reset,
+}
+
+// A number, or none.
+pub enum Small {
+    Is(u32),
+    Not,
+}
+
+// A path, or none.
+pub enum Named {
+    At(Path),
+    Not,
+}
+
+// A permission entry, or none.
+pub enum Permission {
+    Is(Entry),
+    Not,
+}
+
+// Permission entries, or a string that is none.
+pub enum Permissions {
+    Are(Entries),
+    Not,
 }

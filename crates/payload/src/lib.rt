@@ -1,4 +1,10 @@
 // A request's type and payload taken apart.
 pub mod answer;
+pub mod asks;
+pub mod bare;
 pub mod cursor;
+pub mod domains;
+pub mod given;
+pub mod numbers;
 pub mod parts;
+pub mod watches;
