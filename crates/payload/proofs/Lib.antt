@@ -5,3 +5,5 @@ pub mod EntryLaws
 pub mod AskLaws
 pub mod DomainLaws
 pub mod WatchLaws
+pub mod SettingLaws
+pub mod ParseLaws
