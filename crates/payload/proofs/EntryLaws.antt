@@ -30,7 +30,7 @@ use Rattle.payload.proofs.CursorLaws.{Told, Untold, string-told, left-t
 -- the entry at a count below four takes its place
 pub with-at : (es : Entries) (e : Entry) (k : ℕ) → es .count ≡ k → withEntry es e
     ≡ record {
-      count = k + 1;
+      count = es .count + 1;
       first = cond (eqb k 0) e (es .first);
       second = cond (eqb k 1) e (es .second);
       third = cond (eqb k 2) e (es .third);

@@ -7,3 +7,4 @@ pub mod DomainLaws
 pub mod WatchLaws
 pub mod SettingLaws
 pub mod ParseLaws
+pub mod Told

@@ -60,48 +60,17 @@ fn with(entries: Entries, e: Entry) -> Entries
     requires { ⌜ entries .count < 2 ^ 63 ⌝ }
     ensures { λ r. ⌜ r ≡ withEntry entries e ⌝ }
 {
+    let mut next = entries;
     let count = entries.count;
-    let first = entries.first;
-    let second = entries.second;
-    let third = entries.third;
-    let fourth = entries.fourth;
+    next.count = count + 1;
     match count {
-        0 => Entries {
-            count: 1,
-            first: e,
-            second,
-            third,
-            fourth,
-        },
-        1 => Entries {
-            count: 2,
-            first,
-            second: e,
-            third,
-            fourth,
-        },
-        2 => Entries {
-            count: 3,
-            first,
-            second,
-            third: e,
-            fourth,
-        },
-        3 => Entries {
-            count: 4,
-            first,
-            second,
-            third,
-            fourth: e,
-        },
-        _ => Entries {
-            count: count + 1,
-            first,
-            second,
-            third,
-            fourth,
-        },
+        0 => next.first = e,
+        1 => next.second = e,
+        2 => next.third = e,
+        3 => next.fourth = e,
+        _ => {}
     }
+    next
 }
 
 // The entries of all strings from a cursor on.

@@ -7,9 +7,6 @@ use Rattle.payload.specs.declared.answer.Request.the-variants.{Invalid, 
 use borrow.Author.Needs.{needs}
 use Rattle.payload.proofs.asks.asked.Statement.{statement}
 use Rattle.payload.proofs.asks.asked.Tie as tie
-use Rattle.payload.proofs.asks.asked.Reads as reads
-use Rattle.payload.proofs.asks.asked.Lts as lts
-use Rattle.payload.proofs.given.is_root.Reads as is-root-reads
 
 is-root-requires : tie.Need-is-root-requires
 is-root-requires c κs = search needs

@@ -8,11 +8,6 @@ use Rattle.payload.proofs.AskLaws.{plain-other, plain-not, plain-means}
 use borrow.Author.Needs.{needs}
 use Rattle.payload.proofs.asks.plain.Statement.{statement}
 use Rattle.payload.proofs.asks.plain.Tie as tie
-use Rattle.payload.proofs.asks.plain.Reads as reads
-use Rattle.payload.proofs.asks.plain.Lts as lts
-use Rattle.payload.proofs.asks.asked.Reads as asked-reads
-use Rattle.payload.proofs.given.named.Reads as named-reads
-use Rattle.payload.proofs.parts.apart.Reads as apart-reads
 
 apart-requires : tie.Need-apart-requires
 apart-requires c κs = search needs

@@ -10,11 +10,6 @@ use Rattle.payload.proofs.AskLaws.{write-other, write-not, write-means}
 use borrow.Author.Needs.{needs}
 use Rattle.payload.proofs.asks.write.Statement.{statement}
 use Rattle.payload.proofs.asks.write.Tie as tie
-use Rattle.payload.proofs.asks.write.Reads as reads
-use Rattle.payload.proofs.asks.write.Lts as lts
-use Rattle.payload.proofs.cursor.Cursor.new.Reads as new-reads
-use Rattle.payload.proofs.cursor.Cursor.next.Reads as next-reads
-use Rattle.payload.proofs.given.named.Reads as named-reads
 
 new-requires : tie.Need-new-requires
 new-requires c κs = search needs

@@ -4,9 +4,6 @@ use Rattle.payload.proofs.DomainLaws.{end-commit, end-drop, end-not}
 use borrow.Author.Needs.{needs}
 use Rattle.payload.proofs.bare.end.Statement.{statement}
 use Rattle.payload.proofs.bare.end.Tie as tie
-use Rattle.payload.proofs.bare.end.Reads as reads
-use Rattle.payload.proofs.bare.end.Lts as lts
-use Rattle.octets.proofs.compare.same.Reads as same-reads
 
 slice-aggregate-same : tie.Need-slice-aggregate-same
 slice-aggregate-same c = search needs

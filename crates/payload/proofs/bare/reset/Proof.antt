@@ -4,9 +4,6 @@ use Rattle.payload.proofs.DomainLaws.{reset-means, reset-not}
 use borrow.Author.Needs.{needs}
 use Rattle.payload.proofs.bare.reset.Statement.{statement}
 use Rattle.payload.proofs.bare.reset.Tie as tie
-use Rattle.payload.proofs.bare.reset.Reads as reads
-use Rattle.payload.proofs.bare.reset.Lts as lts
-use Rattle.octets.proofs.compare.same.Reads as same-reads
 
 slice-aggregate-same : tie.Need-slice-aggregate-same
 slice-aggregate-same c = search needs

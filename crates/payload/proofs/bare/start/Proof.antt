@@ -4,9 +4,6 @@ use Rattle.payload.proofs.DomainLaws.{start-inside, start-means, start-
 use borrow.Author.Needs.{needs}
 use Rattle.payload.proofs.bare.start.Statement.{statement}
 use Rattle.payload.proofs.bare.start.Tie as tie
-use Rattle.payload.proofs.bare.start.Reads as reads
-use Rattle.payload.proofs.bare.start.Lts as lts
-use Rattle.octets.proofs.compare.same.Reads as same-reads
 
 returns : tie.Need-returns
 returns c = start-inside _ _ (c .if1 .taken)

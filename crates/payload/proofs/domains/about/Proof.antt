@@ -4,8 +4,6 @@ use borrow.Author.Tests.{eq-eqb, ne-eqb}
 use Rattle.payload.specs.Answers.{toldOf}
 use Rattle.payload.proofs.domains.about.Statement.{statement}
 use Rattle.payload.proofs.domains.about.Tie as tie
-use Rattle.payload.proofs.domains.about.Reads as reads
-use Rattle.payload.proofs.domains.about.Lts as lts
 
 returns : tie.Need-returns
 unfolding toldOf

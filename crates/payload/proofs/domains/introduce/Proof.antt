@@ -18,11 +18,6 @@ use Rattle.payload.proofs.DomainLaws.{introduce-other, introduce-no-dom
 use borrow.Author.Needs.{needs}
 use Rattle.payload.proofs.domains.introduce.Statement.{statement}
 use Rattle.payload.proofs.domains.introduce.Tie as tie
-use Rattle.payload.proofs.domains.introduce.Reads as reads
-use Rattle.payload.proofs.domains.introduce.Lts as lts
-use Rattle.octets.proofs.decimals.signed.Reads as signed-reads
-use Rattle.payload.proofs.numbers.small.Reads as small-reads
-use Rattle.payload.proofs.parts.apart.Reads as apart-reads
 
 apart-requires : tie.Need-apart-requires
 apart-requires c κs = search needs

@@ -3,8 +3,6 @@ use borrow.Author.Tests.{eq-eqb, ne-eqb}
 use Rattle.payload.specs.Answers.{lowOf}
 use Rattle.payload.proofs.domains.low.Statement.{statement}
 use Rattle.payload.proofs.domains.low.Tie as tie
-use Rattle.payload.proofs.domains.low.Reads as reads
-use Rattle.payload.proofs.domains.low.Lts as lts
 
 returns : tie.Need-returns
 unfolding lowOf

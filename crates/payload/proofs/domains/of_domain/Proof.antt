@@ -15,12 +15,6 @@ use Rattle.payload.proofs.DomainLaws.{domain-other, domain-not, domain-
 use borrow.Author.Needs.{needs}
 use Rattle.payload.proofs.domains.of_domain.Statement.{statement}
 use Rattle.payload.proofs.domains.of_domain.Tie as tie
-use Rattle.payload.proofs.domains.of_domain.Reads as reads
-use Rattle.payload.proofs.domains.of_domain.Lts as lts
-use Rattle.payload.proofs.domains.about.Reads as about-reads
-use Rattle.payload.proofs.domains.low.Reads as low-reads
-use Rattle.payload.proofs.numbers.small.Reads as small-reads
-use Rattle.payload.proofs.parts.apart.Reads as apart-reads
 
 apart-requires : tie.Need-apart-requires
 apart-requires c κs = search needs

@@ -7,10 +7,6 @@ use Rattle.payload.proofs.EntryLaws.{entry-empty, entry-told}
 use borrow.Author.Needs.{needs}
 use Rattle.payload.proofs.entries.permission.Statement.{statement}
 use Rattle.payload.proofs.entries.permission.Tie as tie
-use Rattle.payload.proofs.entries.permission.Reads as reads
-use Rattle.payload.proofs.entries.permission.Lts as lts
-use Rattle.payload.proofs.numbers.letter.Reads as letter-reads
-use Rattle.payload.proofs.numbers.small.Reads as small-reads
 
 returns : tie.Need-returns
 returns c = entry-empty _ (c .if1 .taken)

@@ -11,12 +11,6 @@ use Rattle.payload.proofs.CursorLaws.{Told, string-told}
 use Rattle.payload.proofs.EntryLaws.{with-count, entries-end, entries-left, entries-not, entries-more}
 use Rattle.payload.proofs.entries.permissions.Statement.{statement}
 use Rattle.payload.proofs.entries.permissions.Tie as tie
-use Rattle.payload.proofs.entries.permissions.Reads as reads
-use Rattle.payload.proofs.entries.permissions.Lts as lts
-use Rattle.payload.proofs.cursor.Cursor.next.Reads as next-reads
-use Rattle.payload.proofs.entries.none.Reads as none-reads
-use Rattle.payload.proofs.entries.permission.Reads as permission-reads
-use Rattle.payload.proofs.entries.with.Reads as with-reads
 
 abbrev Inv-loop : tie.InvT-loop
 Inv-loop s entries₀ cursor₀ entries cursor =

@@ -10,13 +10,6 @@ use Rattle.payload.proofs.SettingLaws.{setting-other, setting-not, sett
 use borrow.Author.Needs.{needs}
 use Rattle.payload.proofs.entries.set_perms.Statement.{statement}
 use Rattle.payload.proofs.entries.set_perms.Tie as tie
-use Rattle.payload.proofs.entries.set_perms.Reads as reads
-use Rattle.payload.proofs.entries.set_perms.Lts as lts
-use Rattle.payload.proofs.cursor.Cursor.new.Reads as new-reads
-use Rattle.payload.proofs.cursor.Cursor.next.Reads as next-reads
-use Rattle.payload.proofs.entries.permissions.Reads as permissions-reads
-use Rattle.payload.proofs.entries.setting.Reads as setting-reads
-use Rattle.payload.proofs.given.named.Reads as named-reads
 
 new-requires : tie.Need-new-requires
 new-requires c κs = search needs

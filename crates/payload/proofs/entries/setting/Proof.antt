@@ -5,9 +5,6 @@ use Rattle.payload.specs.Answers.{settingOf}
 use borrow.Author.Needs.{needs}
 use Rattle.payload.proofs.entries.setting.Statement.{statement}
 use Rattle.payload.proofs.entries.setting.Tie as tie
-use Rattle.payload.proofs.entries.setting.Reads as reads
-use Rattle.payload.proofs.entries.setting.Lts as lts
-use Rattle.payload.proofs.given.is_root.Reads as is-root-reads
 
 returns : tie.Need-returns
 unfolding settingOf

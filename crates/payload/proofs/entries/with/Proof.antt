@@ -1,14 +1,12 @@
 -- By the count.
-use mathlib.Core.Path.{_≡_, refl, ap, sym, _∙_}
+use mathlib.Core.Path.{sym}
 use Rattle.payload.proofs.EntryLaws.{with-at, with-more}
 use borrow.Author.Needs.{needs}
 use Rattle.payload.proofs.entries.with.Statement.{statement}
 use Rattle.payload.proofs.entries.with.Tie as tie
-use Rattle.payload.proofs.entries.with.Reads as reads
-use Rattle.payload.proofs.entries.with.Lts as lts
 
-add-t9 : tie.Need-add-t9
-add-t9 c = search needs
+add-next : tie.Need-add-next
+add-next c = search needs
 
 returns : tie.Need-returns
 returns c = sym (with-at _ _ _ (c .match .keys1))
@@ -28,4 +26,4 @@ returns-5 c =
     sym (with-more _ _ (r .0 .0 .0 .1) (r .0 .0 .1) (r .0 .1) (r .1))
 
 pub with-spec : {M : Type 1} → statement M
-with-spec = tie.close (tie.spec add-t9 returns returns-2 returns-3 returns-4 returns-5)
+with-spec = tie.close (tie.spec add-next returns returns-2 returns-3 returns-4 returns-5)

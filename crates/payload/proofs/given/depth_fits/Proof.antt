@@ -4,8 +4,6 @@ use Rattle.payload.specs.Answers.{depthFits}
 use borrow.Author.Needs.{needs}
 use Rattle.payload.proofs.given.depth_fits.Statement.{statement}
 use Rattle.payload.proofs.given.depth_fits.Tie as tie
-use Rattle.payload.proofs.given.depth_fits.Reads as reads
-use Rattle.payload.proofs.given.depth_fits.Lts as lts
 
 enum-told : tie.Need-enum-told
 enum-told c = search needs

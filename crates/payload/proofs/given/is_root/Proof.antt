@@ -4,8 +4,6 @@ use Rattle.payload.specs.Answers.{isRoot}
 use borrow.Author.Needs.{needs}
 use Rattle.payload.proofs.given.is_root.Statement.{statement}
 use Rattle.payload.proofs.given.is_root.Tie as tie
-use Rattle.payload.proofs.given.is_root.Reads as reads
-use Rattle.payload.proofs.given.is_root.Lts as lts
 
 enum-told : tie.Need-enum-told
 enum-told c = search needs

@@ -5,9 +5,6 @@ use Rattle.payload.specs.Answers.{namedOf}
 use borrow.Author.Needs.{needs}
 use Rattle.payload.proofs.given.named.Statement.{statement}
 use Rattle.payload.proofs.given.named.Tie as tie
-use Rattle.payload.proofs.given.named.Reads as reads
-use Rattle.payload.proofs.given.named.Lts as lts
-use Rattle.paths.proofs.form.form.Reads as form-reads
 
 slice-aggregate-form : tie.Need-slice-aggregate-form
 slice-aggregate-form c = sym (length-take-le _ _ (c .before .before .pre))

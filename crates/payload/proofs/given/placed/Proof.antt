@@ -5,9 +5,6 @@ use Rattle.payload.specs.Answers.{placedOf}
 use borrow.Author.Needs.{needs}
 use Rattle.payload.proofs.given.placed.Statement.{statement}
 use Rattle.payload.proofs.given.placed.Tie as tie
-use Rattle.payload.proofs.given.placed.Reads as reads
-use Rattle.payload.proofs.given.placed.Lts as lts
-use Rattle.paths.proofs.form.form.Reads as form-reads
 
 slice-aggregate-form : tie.Need-slice-aggregate-form
 slice-aggregate-form c = sym (length-take-le _ _ (c .before .before .pre))

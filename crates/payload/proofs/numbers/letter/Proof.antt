@@ -4,8 +4,6 @@ use borrow.Author.Tests.{eq-eqb, ne-eqb}
 use Rattle.rules.specs.Payload.{accessLetter}
 use Rattle.payload.proofs.numbers.letter.Statement.{statement}
 use Rattle.payload.proofs.numbers.letter.Tie as tie
-use Rattle.payload.proofs.numbers.letter.Reads as reads
-use Rattle.payload.proofs.numbers.letter.Lts as lts
 
 returns : tie.Need-returns
 unfolding accessLetter

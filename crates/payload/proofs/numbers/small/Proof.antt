@@ -8,9 +8,6 @@ use mathlib.Core.Path.{_≡_, refl, ap, sym, _∙_}
 use borrow.Author.Needs.{needs}
 use Rattle.payload.proofs.numbers.small.Statement.{statement}
 use Rattle.payload.proofs.numbers.small.Tie as tie
-use Rattle.payload.proofs.numbers.small.Reads as reads
-use Rattle.payload.proofs.numbers.small.Lts as lts
-use Rattle.octets.proofs.decimals.number_in.Reads as number-in-reads
 
 number-in-requires : tie.Need-number-in-requires
 number-in-requires c κs = search needs

@@ -6,18 +6,6 @@ use Rattle.payload.proofs.ParseLaws.{parsed, parsed-kept, plain-parsed,
 use borrow.Author.Needs.{needs}
 use Rattle.payload.proofs.parse.parse.Statement.{statement}
 use Rattle.payload.proofs.parse.parse.Tie as tie
-use Rattle.payload.proofs.parse.parse.Reads as reads
-use Rattle.payload.proofs.parse.parse.Lts as lts
-use Rattle.payload.proofs.asks.plain.Reads as plain-reads
-use Rattle.payload.proofs.asks.write.Reads as write-reads
-use Rattle.payload.proofs.bare.end.Reads as end-reads
-use Rattle.payload.proofs.bare.reset.Reads as reset-reads
-use Rattle.payload.proofs.bare.start.Reads as start-reads
-use Rattle.payload.proofs.domains.introduce.Reads as introduce-reads
-use Rattle.payload.proofs.domains.of_domain.Reads as of-domain-reads
-use Rattle.payload.proofs.entries.set_perms.Reads as set-perms-reads
-use Rattle.payload.proofs.watches.unwatch.Reads as unwatch-reads
-use Rattle.payload.proofs.watches.watch.Reads as watch-reads
 
 plain-requires : tie.Need-plain-requires
 plain-requires c κs = search needs

@@ -10,10 +10,6 @@ use Rattle.payload.proofs.PartsLaws.{one-left, one-end, one-more}
 use borrow.Author.Needs.{needs}
 use Rattle.payload.proofs.parts.after_one.Statement.{statement}
 use Rattle.payload.proofs.parts.after_one.Tie as tie
-use Rattle.payload.proofs.parts.after_one.Reads as reads
-use Rattle.payload.proofs.parts.after_one.Lts as lts
-use Rattle.payload.proofs.cursor.Cursor.next.Reads as next-reads
-use Rattle.payload.proofs.parts.after_two.Reads as after-two-reads
 
 next-requires : tie.Need-next-requires
 next-requires c κs = search needs

@@ -9,9 +9,6 @@ use Rattle.payload.proofs.PartsLaws.{two-left, two-end, three-left, thr
 use borrow.Author.Needs.{needs}
 use Rattle.payload.proofs.parts.after_two.Statement.{statement}
 use Rattle.payload.proofs.parts.after_two.Tie as tie
-use Rattle.payload.proofs.parts.after_two.Reads as reads
-use Rattle.payload.proofs.parts.after_two.Lts as lts
-use Rattle.payload.proofs.cursor.Cursor.next.Reads as next-reads
 
 next-requires : tie.Need-next-requires
 next-requires c κs = search needs

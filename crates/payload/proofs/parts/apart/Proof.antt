@@ -10,11 +10,6 @@ use Rattle.payload.proofs.PartsLaws.{none-left, none-end, none-more}
 use borrow.Author.Needs.{needs}
 use Rattle.payload.proofs.parts.apart.Statement.{statement}
 use Rattle.payload.proofs.parts.apart.Tie as tie
-use Rattle.payload.proofs.parts.apart.Reads as reads
-use Rattle.payload.proofs.parts.apart.Lts as lts
-use Rattle.payload.proofs.cursor.Cursor.new.Reads as new-reads
-use Rattle.payload.proofs.cursor.Cursor.next.Reads as next-reads
-use Rattle.payload.proofs.parts.after_one.Reads as after-one-reads
 
 new-requires : tie.Need-new-requires
 new-requires c κs = search needs

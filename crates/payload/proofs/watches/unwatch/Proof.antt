@@ -8,10 +8,6 @@ use Rattle.payload.proofs.WatchLaws.{unwatch-other, unwatch-not, unwatc
 use borrow.Author.Needs.{needs}
 use Rattle.payload.proofs.watches.unwatch.Statement.{statement}
 use Rattle.payload.proofs.watches.unwatch.Tie as tie
-use Rattle.payload.proofs.watches.unwatch.Reads as reads
-use Rattle.payload.proofs.watches.unwatch.Lts as lts
-use Rattle.payload.proofs.given.placed.Reads as placed-reads
-use Rattle.payload.proofs.parts.apart.Reads as apart-reads
 
 apart-requires : tie.Need-apart-requires
 apart-requires c κs = search needs

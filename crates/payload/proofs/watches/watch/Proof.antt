@@ -5,11 +5,6 @@ use Rattle.payload.proofs.WatchLaws.{watch-strings, watch-one, watch-ot
 use borrow.Author.Needs.{needs}
 use Rattle.payload.proofs.watches.watch.Statement.{statement}
 use Rattle.payload.proofs.watches.watch.Tie as tie
-use Rattle.payload.proofs.watches.watch.Reads as reads
-use Rattle.payload.proofs.watches.watch.Lts as lts
-use Rattle.payload.proofs.parts.apart.Reads as apart-reads
-use Rattle.payload.proofs.watches.watch_all.Reads as watch-all-reads
-use Rattle.payload.proofs.watches.watch_to.Reads as watch-to-reads
 
 apart-requires : tie.Need-apart-requires
 apart-requires c κs = search needs

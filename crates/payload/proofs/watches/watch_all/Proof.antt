@@ -4,9 +4,6 @@ use Rattle.payload.proofs.WatchLaws.{watch-all-not, watch-all-means}
 use borrow.Author.Needs.{needs}
 use Rattle.payload.proofs.watches.watch_all.Statement.{statement}
 use Rattle.payload.proofs.watches.watch_all.Tie as tie
-use Rattle.payload.proofs.watches.watch_all.Reads as reads
-use Rattle.payload.proofs.watches.watch_all.Lts as lts
-use Rattle.payload.proofs.given.placed.Reads as placed-reads
 
 placed-requires : tie.Need-placed-requires
 placed-requires c κs = search needs

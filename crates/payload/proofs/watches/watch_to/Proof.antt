@@ -11,11 +11,6 @@ use Rattle.payload.proofs.WatchLaws.{watch-to-not, watch-no-depth, watc
 use borrow.Author.Needs.{needs}
 use Rattle.payload.proofs.watches.watch_to.Statement.{statement}
 use Rattle.payload.proofs.watches.watch_to.Tie as tie
-use Rattle.payload.proofs.watches.watch_to.Reads as reads
-use Rattle.payload.proofs.watches.watch_to.Lts as lts
-use Rattle.payload.proofs.given.depth_fits.Reads as depth-fits-reads
-use Rattle.payload.proofs.given.placed.Reads as placed-reads
-use Rattle.payload.proofs.numbers.small.Reads as small-reads
 
 placed-requires : tie.Need-placed-requires
 placed-requires c κs = search needs

@@ -9,8 +9,6 @@ use Rattle.payload.specs.Cursor.{found, takenAt}
 use Rattle.payload.proofs.CursorLaws.{found-here, found-further, found-over}
 use Rattle.payload.proofs.cursor.Cursor.next.Statement.{statement}
 use Rattle.payload.proofs.cursor.Cursor.next.Tie as tie
-use Rattle.payload.proofs.cursor.Cursor.next.Reads as reads
-use Rattle.payload.proofs.cursor.Cursor.next.Lts as lts
 
 abbrev Inv-loop : tie.InvT-loop
 Inv-loop s start i₀ i = takenAt s start ≡ found s start i (firstString (drop i s))
