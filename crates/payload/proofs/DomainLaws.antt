@@ -1,0 +1,167 @@
+-- What requests about a domain, and those of a fixed payload, mean.
+use mathlib.Core.Path.{_≡_, refl, ap, sym, subst⁻¹, _∙_}
+use mathlib.Core.Bool.{Bool, true, false, cond}
+use mathlib.Core.List.{List, [], _∷_, _++_}
+use mathlib.Core.Option.{Option, none, some}
+use Prim.Native.Nat.{ℕ, _+_, _-_, _^_, _<_, _≤_}
+use native.Mathlib.Omega.{arith}
+use lib.Dec.{eqb}
+use lib.ListN.{length, take}
+use borrow.Author.Tests.{eq-eqb, ne-eqb}
+use Rattle.rules.specs.Size.{lastDomain}
+use Rattle.rules.specs.Octets.{Octets, text, nul, same, numberIn, signed}
+use Rattle.rules.specs.Path.{Domain}
+use Rattle.rules.specs.Payload as rules
+use Rattle.rules.specs.Payload.{invalid, request, strings, ofDomain, introducing, introducingOf, bare, starting, ending}
+use Rattle.rules.proofs.Decimals.{range-bounds}
+use Rattle.payload.specs.Strings.{part}
+use Rattle.payload.specs.Parts.{partsOf}
+use Rattle.payload.specs.Meaning.{meant, Means, Sound}
+use Rattle.payload.specs.Answers.{lowOf, aboutOf, toldOf}
+use Rattle.payload.specs.declared.answer.Request.{Request}
+use Rattle.payload.specs.declared.answer.Request.the-variants.{Invalid, Start, End, Introduce, Release, DomainPath, IsIntroduced, Reset}
+use Rattle.payload.specs.declared.parts.Parts.{Parts}
+use Rattle.payload.specs.declared.parts.Parts.the-variants.{One, Two, Three, Other}
+use Rattle.payload.proofs.PartsLaws.{OneString, ThreeStrings}
+use Rattle.payload.proofs.AskLaws.{invalid-means}
+
+-- ── a domain id alone ──
+
+abbrev answered : (Domain → rules.Request) → Option ℕ → rules.Parsed
+answered f o = elim o [ none ↦ invalid | some i ↦ request (f i) ]
+
+of-one : (low : ℕ) (f : Domain → rules.Request) (x : Octets) → ofDomain low f (some (x ∷ [])) ≡ answered f (numberIn low lastDomain x)
+unfolding ofDomain
+of-one low f x = refl
+
+pub domain-other : (s : Octets) (low : ℕ) (f : Domain → rules.Request) → ((e : ℕ) → partsOf (strings s) ≡ One e → ⊥) →
+    Means s Invalid (λ (d : Domain). ofDomain low f (strings s))
+unfolding partsOf ofDomain
+domain-other s low f h = invalid-means s _ (λ d. by (strings s) h)
+  where
+    by : (o : Option (List Octets)) → ((e : ℕ) → partsOf o ≡ One e → ⊥) → ofDomain low f o ≡ invalid
+    by none h = refl
+    by (some []) h = refl
+    by (some (x ∷ [])) h = absurd (h (length x) refl)
+    by (some (x ∷ y ∷ ys)) h = refl
+
+module _ (s : Octets) (e : ℕ) (one : OneString s e) where
+  of-domain-at : (low : ℕ) (f : Domain → rules.Request) (o : Option ℕ) → numberIn low lastDomain (take e s) ≡ o → ofDomain low f (strings s) ≡ answered f o
+  of-domain-at low f o h = ap (ofDomain low f) (one .all) ∙ (of-one low f (take e s) ∙ ap (answered f) h)
+
+  pub domain-not : (low : ℕ) (f : Domain → rules.Request) → numberIn low lastDomain (take e s) ≡ none → Means s Invalid (λ (d : Domain). ofDomain low f (strings s))
+  domain-not low f h = invalid-means s _ (λ d. of-domain-at low f none h)
+
+  told-by : (d : Domain) (a b : Bool) (i : ℕ) →
+      meant d s (cond a (Release i) (cond b (DomainPath i) (IsIntroduced i)))
+      ≡ request (cond a (rules.release i) (cond b (rules.domainPath i) (rules.isIntroduced i)))
+  unfolding meant
+  told-by d true b i = refl
+  told-by d false true i = refl
+  told-by d false false i = refl
+
+  told-sound : (a b : Bool) (i : ℕ) → cond a 1 0 ≤ i → i ≤ lastDomain → Sound s (cond a (Release i) (cond b (DomainPath i) (IsIntroduced i)))
+  told-sound true b i l h = (l, h)
+  told-sound false true i l h = h
+  told-sound false false i l h = h
+
+  pub domain-means : (type i : ℕ) (r : Request) → numberIn (lowOf type) lastDomain (take e s) ≡ some i → r ≡ toldOf type i →
+      Means s r (λ (d : Domain). ofDomain (lowOf type) (aboutOf type) (strings s))
+  unfolding toldOf aboutOf lowOf
+  domain-means type i r h t =
+      let b = range-bounds _ _ _ _ h in
+      record {
+        meaning = λ d. ap (meant d s) t ∙ (told-by d (eqb type 9) (eqb type 10) i ∙ sym (of-domain-at (lowOf type) (aboutOf type) (some i) h));
+        sound = subst⁻¹ (Sound s) t (told-sound (eqb type 9) (eqb type 10) i (b .0) (b .1));
+      }
+
+-- ── INTRODUCE ──
+
+pub introduce-other : (s : Octets) → ((a b c : ℕ) → partsOf (strings s) ≡ Three a b c → ⊥) → Means s Invalid (λ (d : Domain). introducing (strings s))
+unfolding partsOf introducing
+introduce-other s h = invalid-means s _ (λ d. by (strings s) h)
+  where
+    by : (o : Option (List Octets)) → ((a b c : ℕ) → partsOf o ≡ Three a b c → ⊥) → introducing o ≡ invalid
+    by none h = refl
+    by (some []) h = refl
+    by (some (x ∷ [])) h = refl
+    by (some (x ∷ y ∷ [])) h = refl
+    by (some (x ∷ y ∷ z ∷ [])) h = absurd (h _ _ _ refl)
+    by (some (x ∷ y ∷ z ∷ w ∷ ws)) h = refl
+
+module _ (s : Octets) (a b c : ℕ) (h : ThreeStrings s a b c) where
+  introducing-at : introducing (strings s)
+      ≡ introducingOf (numberIn 1 lastDomain (take a s)) (signed (part (a + 1) b s)) (numberIn 0 (2 ^ 32 - 1) (part (b + 1) c s))
+  unfolding introducing
+  introducing-at = ap introducing (h .all)
+
+  pub introduce-no-domain : numberIn 1 lastDomain (take a s) ≡ none → Means s Invalid (λ (d : Domain). introducing (strings s))
+  unfolding introducingOf
+  introduce-no-domain x = invalid-means s _ (λ d. introducing-at ∙ rw x)
+
+  module _ (i : ℕ) (x : numberIn 1 lastDomain (take a s) ≡ some i) where
+    pub introduce-no-page : signed (part (a + 1) b s) ≡ none → Means s Invalid (λ (d : Domain). introducing (strings s))
+    unfolding introducingOf
+    introduce-no-page y = invalid-means s _ (λ d. introducing-at ∙ rw (x, y))
+
+    module _ (page : ℕ) (y : signed (part (a + 1) b s) ≡ some page) where
+      pub introduce-no-channel : numberIn 0 (2 ^ 32 - 1) (part (b + 1) c s) ≡ none → Means s Invalid (λ (d : Domain). introducing (strings s))
+      unfolding introducingOf
+      introduce-no-channel z = invalid-means s _ (λ d. introducing-at ∙ rw (x, y, z))
+
+      pub introduce-means : (channel : ℕ) → numberIn 0 (2 ^ 32 - 1) (part (b + 1) c s) ≡ some channel →
+          Means s (Introduce i page channel) (λ (d : Domain). introducing (strings s))
+      unfolding meant introducingOf
+      introduce-means channel z =
+          let l = range-bounds _ _ _ _ x in
+          let m = range-bounds _ _ _ _ z in
+          record {
+            meaning = λ d. sym (introducing-at ∙ rw (x, y, z));
+            sound = record { low = l .0; high = l .1; channel = omega (arith, m .1) };
+          }
+
+-- ── payloads that are fixed ──
+
+module _ (s : Octets) where
+  bare-by : (r : rules.Request) (b : Bool) → same s nul ≡ b → bare r s ≡ cond b (request r) invalid
+  unfolding bare
+  bare-by r b h = rw h
+
+  starting-out : (tx : ℕ) → tx ≡ 0 → starting tx s ≡ bare rules.start s
+  unfolding starting
+  starting-out tx e = rw (eq-eqb _ _ e)
+
+  pub start-inside : (tx : ℕ) → (tx ≡ 0 → ⊥) → Means s Invalid (λ (d : Domain). starting tx s)
+  unfolding starting
+  start-inside tx e = invalid-means s _ (λ d. rw (ne-eqb _ _ e))
+
+  pub start-means : (tx : ℕ) → tx ≡ 0 → same s nul ≡ true → Means s Start (λ (d : Domain). starting tx s)
+  unfolding meant
+  start-means tx e h = record { meaning = λ d. sym (starting-out tx e ∙ bare-by rules.start true h); sound = tt }
+
+  pub start-not : (tx : ℕ) → tx ≡ 0 → same s nul ≡ false → Means s Invalid (λ (d : Domain). starting tx s)
+  start-not tx e h = invalid-means s _ (λ d. starting-out tx e ∙ bare-by rules.start false h)
+
+  pub reset-means : same s nul ≡ true → Means s Reset (λ (d : Domain). bare rules.reset s)
+  unfolding meant
+  reset-means h = record { meaning = λ d. sym (bare-by rules.reset true h); sound = tt }
+
+  pub reset-not : same s nul ≡ false → Means s Invalid (λ (d : Domain). bare rules.reset s)
+  reset-not h = invalid-means s _ (λ d. bare-by rules.reset false h)
+
+  ending-by : (b c : Bool) → same s (text "T" ++ nul) ≡ b → same s (text "F" ++ nul) ≡ c →
+      ending s ≡ cond b (request (rules.end true)) (cond c (request (rules.end false)) invalid)
+  unfolding ending
+  ending-by b c g h = rw (g, h)
+
+  pub end-commit : same s (84 ∷ 0 ∷ []) ≡ true → Means s (End true) (λ (d : Domain). ending s)
+  unfolding meant text
+  end-commit h = record { meaning = λ d. sym (ending-by true (same s (text "F" ++ nul)) h refl); sound = tt }
+
+  pub end-drop : same s (84 ∷ 0 ∷ []) ≡ false → same s (70 ∷ 0 ∷ []) ≡ true → Means s (End false) (λ (d : Domain). ending s)
+  unfolding meant text
+  end-drop g h = record { meaning = λ d. sym (ending-by false true g h); sound = tt }
+
+  pub end-not : same s (84 ∷ 0 ∷ []) ≡ false → same s (70 ∷ 0 ∷ []) ≡ false → Means s Invalid (λ (d : Domain). ending s)
+  unfolding text
+  end-not g h = invalid-means s _ (λ d. ending-by false false g h)

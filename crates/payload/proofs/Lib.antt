@@ -1,0 +1,10 @@
+pub mod Strings
+pub mod CursorLaws
+pub mod PartsLaws
+pub mod EntryLaws
+pub mod AskLaws
+pub mod DomainLaws
+pub mod WatchLaws
+pub mod SettingLaws
+pub mod ParseLaws
+pub mod Told

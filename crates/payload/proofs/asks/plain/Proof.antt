@@ -1,0 +1,59 @@
+use mathlib.Core.List.{[], _∷_}
+use types.Run.{miss}
+-- A path alone, if it is one.
+use mathlib.Core.Path.{_≡_, refl, ap, sym, _∙_}
+use native.Mathlib.Omega.{arith}
+use Rattle.payload.proofs.PartsLaws.{OneString, one-told}
+use Rattle.payload.proofs.AskLaws.{plain-other, plain-not, plain-means}
+use borrow.Author.Needs.{needs}
+use Rattle.payload.proofs.asks.plain.Statement.{statement}
+use Rattle.payload.proofs.asks.plain.Tie as tie
+
+apart-requires : tie.Need-apart-requires
+apart-requires c κs = search needs
+
+enum-known-end : tie.Need-enum-known-end
+enum-known-end c = search needs
+
+one : (c : tie.After-end) → OneString (c .before .before .before .before .args .s .now) (c .end .given .0 .0)
+one c = one-told _ _ (sym (c .before .before .apart .ensures) ∙ c .end .given .1)
+
+returns : tie.Need-returns
+returns c = plain-other _ _ (λ e h. miss (1 ∷ 2 ∷ 3 ∷ []) 0 tt (rw (c .before .apart .ensures ∙ h) at (c .match .keys2)))
+
+named-requires : tie.Need-named-requires
+named-requires c κs = omega (arith, one (c .before) .high)
+
+enum-known-path : tie.Need-enum-known-path
+enum-known-path c = search needs
+
+enum-told : tie.Need-enum-told
+enum-told c = search needs
+
+returns-2 : tie.Need-returns-2
+returns-2 c =
+    let p = c .before .before in
+    plain-not _ _ (sym (p .named .ensures) ∙ c .enum-told .given .1) _ (one (p .before .before) .all)
+
+asked-requires : tie.Need-asked-requires
+asked-requires c κs = search needs
+
+returns-3 : tie.Need-returns-3
+returns-3 c =
+    let p = c .before .before .before .before in
+    let o = one (p .before .before) in
+    plain-means _ _ _ (o .high) (sym (p .named .ensures) ∙ c .before .before .path .given .1) _ _ (o .all) (c .asked .ensures)
+
+pub plain-spec : {M : Type 1} → statement M
+plain-spec =
+    tie.close
+    (tie.spec
+    apart-requires
+    enum-known-end
+    returns
+    named-requires
+    enum-known-path
+    enum-told
+    returns-2
+    asked-requires
+    returns-3)

@@ -1,0 +1,5 @@
+pub mod Strings
+pub mod Cursor
+pub mod Parts
+pub mod Meaning
+pub mod Answers
