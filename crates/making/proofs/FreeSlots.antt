@@ -1,5 +1,5 @@
 -- The free slots from a place on.
-use mathlib.Core.Path.{_≡_, refl, sym, ap, _∙_}
+use mathlib.Core.Path.{_≡_, refl, ap, _∙_}
 use mathlib.Core.Bool.{true, false, true≢false, false≢true}
 use mathlib.Core.List.{_∷_}
 use mathlib.Core.Option.{Option, none, some}

@@ -1,9 +1,9 @@
 -- The names of a path made one after the other.
-use mathlib.Core.Path.{_≡_, refl, sym, ap, ap₂, _∙_}
-use mathlib.Core.Bool.{true, cond, _&&_}
+use mathlib.Core.Path.{_≡_, sym, ap, ap₂, _∙_}
+use mathlib.Core.Bool.{true}
 use mathlib.Core.List.{[], _∷_}
-use mathlib.Core.Option.{Option, none, some}
-use Prim.Native.Nat.{ℕ, suc, _+_, _-_, _≤_, _<_}
+use mathlib.Core.Option.{none, some}
+use Prim.Native.Nat.{ℕ, _+_, _-_, _≤_, _<_}
 use native.Mathlib.Omega.{arith}
 use lib.ListN.{length, getD, take, drop, set, length-drop}
 use lib.Seq.{getD-set-same, take-all}
@@ -12,17 +12,16 @@ use borrow.Author.Tests.{le-leb, lt-leb, leb-true}
 use Rattle.rules.specs.Size.{slots, longestName}
 use Rattle.rules.specs.Octets.{Octets}
 use Rattle.rules.specs.Entries.{lowest, freeCount}
-use Rattle.rules.specs.Path.{Domain, Name, Names, split, shortNames}
-use Rattle.rules.specs.Node.{Node, Table, newNode, lastValue, made}
+use Rattle.rules.specs.Path.{Name, Names, split, shortNames}
+use Rattle.rules.specs.Node.{Table, newNode, lastValue, made}
 use Rattle.rules.specs.Layout.{tableOf, tableBytes}
 use Rattle.rules.proofs.Compare.{both-true}
-use Rattle.rules.proofs.Slots.{table-read}
 use Rattle.rules.proofs.Fitting.{Fitting, decoded-fits, lowest-below, free-fewer, made-fits}
 use Rattle.paths.specs.Names.{nameEnd}
 use Rattle.paths.proofs.PieceLaws.{split-first, last-name, next-name}
 use Rattle.slots.specs.Slot.{Canonical, slotAt, isUsed}
 use Rattle.slots.specs.Left.{leftAt}
-use Rattle.slots.proofs.Put.{fitting-bytes}
+use Rattle.slots.proofs.Put.{written}
 
 -- names from a place of the path on are still to be made below slot p, and then the table is the whole
 pub record ToMake (path value : Octets) (domain : ℕ) (whole : Table) (p from : ℕ) (t : Octets) : Type 0 where
@@ -136,13 +135,14 @@ module _ (path v : Octets) (d : ℕ) (whole : Table) (p from : ℕ) (t : Octets)
         let next = set T (lowest T) (some n) in
         let g = one-fits T p d name [] (decoded-fits t) (s .slot) next-short (omega arith) hd free-one in
         let bytes : y ≡ tableBytes next = q ∙ ap (λ (i : ℕ). tableBytes (set T i (some n))) hr in
-        let table : tableOf y ≡ next = ap tableOf bytes ∙ table-read next (g .long) (g .all) in
+        let out = written next g bytes in
+        let table : tableOf y ≡ next = out .1 in
         let low = lowest-in free-one in
         let fewer = free-fewer T n free-one in
         let room : length (name ∷ others) ≤ freeCount T = rw pieces at (s .room) in
         let some-there : getD next (lowest T) none ≡ some n = getD-set-same T (lowest T) (some n) none (rw (decoded-fits t .long) low) in
         record {
-          canonical = rw bytes (fitting-bytes next g);
+          canonical = out .0;
           slot = rw hr low;
           used = rw (table, hr) (ap isUsed some-there);
           inside = omega arith;

@@ -2,7 +2,7 @@
 use mathlib.Core.Path.{_≡_, refl, sym, ap, ap₂, _∙_}
 use mathlib.Core.Bool.{Bool, true, false, cond}
 use mathlib.Core.List.{List, [], _∷_}
-use mathlib.Core.Option.{Option, none, some}
+use mathlib.Core.Option.{none}
 use Prim.Native.Nat.{ℕ, zero, suc, _+_, _≤_, _<_}
 use native.Mathlib.Nat.{add-zero, zero-add, add-suc, suc-add}
 use native.Mathlib.Numerals.{add-one}
@@ -10,15 +10,15 @@ use native.Mathlib.Decide.{ℕ-discrete}
 use native.Mathlib.Omega.{arith}
 use lib.ListN.{length, getD, take, drop, set, drop-of-length-le}
 use lib.Seq.{drop-cons, take-all, getD-set-same, getD-set-other}
-use Rattle.rules.specs.Size.{slots, deepest}
+use Rattle.rules.specs.Size.{deepest}
 use Rattle.rules.specs.Octets.{Octets}
-use Rattle.rules.specs.Node.{Node, Table, within, clearedFrom, removed, withoutAll}
+use Rattle.rules.specs.Node.{Table, within, clearedFrom, removed, withoutAll}
 use Rattle.rules.specs.Layout.{tableOf, tableBytes}
 use Rattle.rules.proofs.Cases.{cond-case}
-use Rattle.rules.proofs.Slots.{SlotFits, TableFits, table-read}
+use Rattle.rules.proofs.Slots.{SlotFits, TableFits}
 use Rattle.rules.proofs.Fitting.{Fitting, decoded-fits, removed-fits}
 use Rattle.slots.specs.Slot.{Canonical}
-use Rattle.slots.proofs.Put.{fitting-bytes}
+use Rattle.slots.proofs.Put.{written}
 use Rattle.making.specs.Marks.{Marked, swept}
 
 -- ── one mark more ──
@@ -54,14 +54,11 @@ length-swept (m ∷ ms) (s ∷ t) = ap suc (length-swept ms t)
 swept-fits : (ms : List Bool) (t : Table) → Fitting t → Fitting (swept ms t)
 swept-fits ms t f = record { all = swept-each ms t (f .all); long = length-swept ms t ∙ f .long }
 
--- ── a table that is written out ──
-
-pub canonical-as : (t : Table) → Fitting t → {y : Octets} → y ≡ tableBytes t → Canonical y × (tableOf y ≡ t)
-canonical-as t f e = (rw e (fitting-bytes t f), ap tableOf e ∙ table-read t (f .long) (f .all))
+-- ── slot by slot ──
 
 module _ (ms : List Bool) (s : Octets) where
   pub swept-canonical : (j : ℕ) {y : Octets} → y ≡ tableBytes (swept (take j ms) (tableOf s)) → Canonical y × (tableOf y ≡ swept (take j ms) (tableOf s))
-  swept-canonical j e = canonical-as (swept (take j ms) (tableOf s)) (swept-fits (take j ms) (tableOf s) (decoded-fits s)) e
+  swept-canonical j e = written (swept (take j ms) (tableOf s)) (swept-fits (take j ms) (tableOf s) (decoded-fits s)) e
 
   pub swept-none : Canonical s → s ≡ tableBytes (swept (take 0 ms) (tableOf s))
   unfolding swept
@@ -127,7 +124,7 @@ pub removed-next : (is : List ℕ) (whole : Table) (k : ℕ) (t : Octets) → To
     y ≡ tableBytes (removed (tableOf t) (getD is k 0)) → ToRemove is whole (k + 1) y
 unfolding withoutAll
 removed-next is whole k t r h e =
-    let q = canonical-as (removed (tableOf t) (getD is k 0)) (removed-fits (tableOf t) (getD is k 0) (decoded-fits t)) e in
+    let q = written (removed (tableOf t) (getD is k 0)) (removed-fits (tableOf t) (getD is k 0) (decoded-fits t)) e in
     record {
       canonical = q .0;
       rest = r .rest

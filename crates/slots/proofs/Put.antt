@@ -6,13 +6,13 @@ use mathlib.Core.Option.{Option, none, some}
 use Prim.Native.Nat.{ℕ, suc, _+_, _*_, _-_, _/_, _%_, _≤_, _<_}
 use native.Mathlib.Nat.{mod-lt}
 use native.Mathlib.Omega.{arith}
-use lib.ListN.{length, getD, take, drop, set, replicate, length-append, length-replicate}
+use lib.ListN.{length, take, drop, set, replicate, length-append, length-replicate}
 use lib.Seq.{drop-drop, take-at, drop-at}
-use Rattle.rules.specs.Size.{slots, slotSize, tableSize}
+use Rattle.rules.specs.Size.{slots, slotSize}
 use Rattle.rules.specs.Octets.{Octets, padded, paste, bigEndian, pack, packFrom, bitsAt}
 use Rattle.rules.specs.Path.{Domain, isControl}
 use Rattle.rules.specs.Node.{Entry, Node, Table, nodeAt, heir, newNode, withValue, withEntries}
-use Rattle.rules.specs.Layout.{tableOf, tableBytes, slotBytes, nodeBits, entryBits}
+use Rattle.rules.specs.Layout.{tableOf, tableBytes, slotBytes, nodeBits}
 use Rattle.rules.proofs.Cases.{cond-case}
 use Rattle.rules.proofs.Joined.{paste-behind}
 use Rattle.rules.proofs.Tables.{Each}
@@ -297,3 +297,7 @@ fitting-bytes ts f =
       whole = length-table ts (f .all) ∙ ap (λ (n : ℕ). n * slotSize) (f .long);
       kept = ap tableBytes (table-read ts (f .long) (f .all));
     }
+
+-- a table that is written out is canonical, and is read back
+pub written : (ts : Table) → Fitting ts → {y : Octets} → y ≡ tableBytes ts → Canonical y × (tableOf y ≡ ts)
+written ts f e = (rw e (fitting-bytes ts f), ap tableOf e ∙ table-read ts (f .long) (f .all))

@@ -6,7 +6,7 @@ ghost use mathlib.Core.Option.{none, some};
 ghost use Prim.Native.Nat.{_+_, _*_, _/_, _≤_, _<_};
 ghost use lib.ListN.{length, set};
 ghost use lib.Dec.{eqb};
-ghost use Rattle.rules.specs.Size.{slots, slotSize, tableSize, longestName, longestValue, mostEntries};
+ghost use Rattle.rules.specs.Size.{slots, slotSize, longestValue, mostEntries};
 ghost use Rattle.rules.specs.Octets.{padded, paste, bigEndian};
 ghost use Rattle.rules.specs.Layout.{tableOf, tableBytes};
 ghost use Rattle.rules.specs.Node.{nodeAt, heir, newNode, withValue, withEntries};

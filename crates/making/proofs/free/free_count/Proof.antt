@@ -1,23 +1,17 @@
-use borrow.Author.Tests.{not-true, not-false}
 use mathlib.Core.Logic.{⊎-elim}
-use lib.ListN.{length}
-use Prim.Native.Nat.{_<_}
-use mathlib.Core.Path.{sym, _∙_}
-use borrow.Author.Needs.{needs}
-use Rattle.making.proofs.FreeSlots.{count-here, count-further, count-over}
-use Rattle.rules.proofs.Slots.{length-tableOf}
-use Rattle.rules.specs.Layout.{tableOf}
-use Rattle.rules.specs.Entries.{freeCount}
-use Rattle.rules.specs.Size.{slots}
-use lib.ListN.{drop}
+use mathlib.Core.Path.{sym, _∙_, _≡_}
+use Prim.Native.Nat.{_<_, _+_, _-_, _≤_}
 use native.Mathlib.Omega.{arith}
-use Prim.Native.Nat.{_+_, _-_, _≤_}
-use mathlib.Core.Path.{_≡_}
+use lib.ListN.{length, drop}
+use borrow.Author.Needs.{needs}
+use borrow.Author.Tests.{not-true, not-false}
+use Rattle.rules.proofs.Slots.{length-tableOf}
+use Rattle.rules.specs.Entries.{freeCount}
+use Rattle.rules.specs.Layout.{tableOf}
+use Rattle.rules.specs.Size.{slots}
+use Rattle.making.proofs.FreeSlots.{count-here, count-further, count-over}
 use Rattle.making.proofs.free.free_count.Statement.{statement}
 use Rattle.making.proofs.free.free_count.Tie as tie
-use Rattle.making.proofs.free.free_count.Reads as reads
-use Rattle.making.proofs.free.free_count.Lts as lts
-use Rattle.slots.proofs.fields.used.Reads as used-reads
 
 abbrev Inv-loop : tie.InvT-loop
 Inv-loop t n₀ i₀ n i = (i ≤ slots) × (n ≤ i) × (freeCount (tableOf t) ≡ n + freeCount (drop i (tableOf t)))
@@ -25,27 +19,21 @@ Inv-loop t n₀ i₀ n i = (i ≤ slots) × (n ≤ i) × (freeCount (tableOf t) 
 abbrev μ-loop : tie.MeasureT-loop
 μ-loop t n₀ i₀ n i = slots - i
 
--- src/free.rt:31:5
 loop-holds : tie.Need-loop-holds Inv-loop μ-loop
 loop-holds c = search needs
 
--- src/free.rt:32:13
 used-requires : tie.Need-used-requires Inv-loop μ-loop
 used-requires c κs = search needs
 
--- src/free.rt:33:13
 add-n : tie.Need-add-n Inv-loop μ-loop
 add-n c = search needs
 
--- src/free.rt:35:9
 add-i : tie.Need-add-i Inv-loop μ-loop
 add-i c = search needs
 
--- src/free.rt:31:5
 loop-less : tie.Need-loop-less Inv-loop μ-loop
 loop-less c = search needs
 
--- src/free.rt:31:5
 loop-again : tie.Need-loop-again Inv-loop μ-loop
 loop-again c =
     let p = c .before .before .before in
@@ -58,7 +46,6 @@ loop-again c =
     (λ w. omega (arith, count-further ts (p .loop .i) h (sym u ∙ not-false _ (w .0 .left))))
     (c .if1 .came)
 
--- src/free.rt:25:1
 returns : tie.Need-returns Inv-loop μ-loop
 returns c =
     let s = c .before .before .before .args .t .now in

@@ -1,22 +1,16 @@
-use borrow.Author.Tests.{not-true, not-false}
-use lib.ListN.{length}
-use Prim.Native.Nat.{_<_}
-use mathlib.Core.Path.{sym, _∙_}
-use borrow.Author.Needs.{needs}
-use Rattle.making.proofs.FreeSlots.{lowest-here, lowest-further, lowest-over}
-use Rattle.rules.proofs.Slots.{length-tableOf}
-use Rattle.rules.specs.Layout.{tableOf}
-use Rattle.rules.specs.Entries.{lowest}
-use Rattle.rules.specs.Size.{slots}
-use lib.ListN.{drop}
+use mathlib.Core.Path.{sym, _∙_, _≡_}
+use Prim.Native.Nat.{_<_, _+_, _-_, _≤_}
 use native.Mathlib.Omega.{arith}
-use Prim.Native.Nat.{_+_, _-_, _≤_}
-use mathlib.Core.Path.{_≡_}
+use lib.ListN.{length, drop}
+use borrow.Author.Needs.{needs}
+use borrow.Author.Tests.{not-true, not-false}
+use Rattle.rules.proofs.Slots.{length-tableOf}
+use Rattle.rules.specs.Entries.{lowest}
+use Rattle.rules.specs.Layout.{tableOf}
+use Rattle.rules.specs.Size.{slots}
+use Rattle.making.proofs.FreeSlots.{lowest-here, lowest-further, lowest-over}
 use Rattle.making.proofs.free.lowest_free.Statement.{statement}
 use Rattle.making.proofs.free.lowest_free.Tie as tie
-use Rattle.making.proofs.free.lowest_free.Reads as reads
-use Rattle.making.proofs.free.lowest_free.Lts as lts
-use Rattle.slots.proofs.fields.used.Reads as used-reads
 
 abbrev Inv-loop : tie.InvT-loop
 Inv-loop t i₀ i = (i ≤ slots) × (lowest (tableOf t) ≡ i + lowest (drop i (tableOf t)))
@@ -24,15 +18,12 @@ Inv-loop t i₀ i = (i ≤ slots) × (lowest (tableOf t) ≡ i + lowest (drop i 
 abbrev μ-loop : tie.MeasureT-loop
 μ-loop t i₀ i = slots - i
 
--- src/free.rt:16:5
 loop-holds : tie.Need-loop-holds Inv-loop μ-loop
 loop-holds c = search needs
 
--- src/free.rt:17:13
 used-requires : tie.Need-used-requires Inv-loop μ-loop
 used-requires c κs = search needs
 
--- src/free.rt:18:13
 returns : tie.Need-returns Inv-loop μ-loop
 returns c =
     let p = c .before .before .before in
@@ -40,15 +31,12 @@ returns c =
     let h : p .loop .i < length (tableOf s) = omega (arith, length-tableOf s) in
     omega (arith, lowest-here (tableOf s) (p .loop .i) h (sym (c .before .used .ensures) ∙ not-true _ (c .if1 .taken)))
 
--- src/free.rt:20:9
 add-i : tie.Need-add-i Inv-loop μ-loop
 add-i c = search needs
 
--- src/free.rt:16:5
 loop-less : tie.Need-loop-less Inv-loop μ-loop
 loop-less c = search needs
 
--- src/free.rt:16:5
 loop-again : tie.Need-loop-again Inv-loop μ-loop
 loop-again c =
     let p = c .before .before .before in
@@ -56,7 +44,6 @@ loop-again c =
     let h : p .loop .i < length (tableOf s) = omega (arith, length-tableOf s) in
     omega (arith, lowest-further (tableOf s) (p .loop .i) h (sym (c .before .used .ensures) ∙ not-false _ (c .if1 .left)))
 
--- src/free.rt:11:1
 returns-2 : tie.Need-returns-2 Inv-loop μ-loop
 returns-2 c =
     let s = c .before .before .before .args .t .now in

@@ -1,29 +1,21 @@
-use Rattle.rules.proofs.Slots.{length-tableOf}
-use Rattle.rules.proofs.Fitting.{lowest-below}
 use native.Mathlib.Omega.{arith}
 use borrow.Author.Needs.{needs}
+use Rattle.rules.proofs.Fitting.{lowest-below}
+use Rattle.rules.proofs.Slots.{length-tableOf}
 use Rattle.making.proofs.making.make_one.Statement.{statement}
 use Rattle.making.proofs.making.make_one.Tie as tie
-use Rattle.making.proofs.making.make_one.Reads as reads
-use Rattle.making.proofs.making.make_one.Lts as lts
-use Rattle.making.proofs.free.lowest_free.Reads as lowest-free-reads
-use Rattle.slots.proofs.writing.put_node.Reads as put-node-reads
 
--- src/making.rt:25:9
 lowest-free-requires : tie.Need-lowest-free-requires
 lowest-free-requires c κs = search needs
 
--- src/making.rt:26:5
 put-node-requires : tie.Need-put-node-requires
 put-node-requires c κs =
     let b = c .before .before .before .before .before .before in
     (rw (c .before .lowest-free .ensures) (omega (arith, lowest-below _ (b .pre .4), length-tableOf (b .args .t .now))), b .pre .0, b .pre .1, b .pre .2, b .pre .3)
 
--- src/making.rt:21:1
 same-length : tie.Need-same-length
 same-length c = search needs
 
--- src/making.rt:21:1
 returns : tie.Need-returns
 returns c = search needs
 

@@ -3,15 +3,11 @@ use Prim.Native.Nat.{ℕ, _-_, _≤_}
 use native.Mathlib.Omega.{arith}
 use lib.ListN.{length, take}
 use lib.Seq.{getD-take, length-take-le}
-use borrow.Author.Needs.{needs}
-use Rattle.rules.specs.Node.{removed, withoutAll}
 use Rattle.rules.specs.Layout.{tableOf, tableBytes}
+use Rattle.rules.specs.Node.{removed, withoutAll}
 use Rattle.making.proofs.SweptLaws.{ToRemove, to-remove, removed-next, removed-all}
 use Rattle.making.proofs.removing.remove_all.Statement.{statement}
 use Rattle.making.proofs.removing.remove_all.Tie as tie
-use Rattle.making.proofs.removing.remove_all.Reads as reads
-use Rattle.making.proofs.removing.remove_all.Lts as lts
-use Rattle.making.proofs.removing.remove.Reads as remove-reads
 
 abbrev Inv-loop : tie.InvT-loop
 Inv-loop t₀ list n k₀ t k = (k ≤ n) × (length t ≡ length t₀) × ToRemove (take n list) (withoutAll (tableOf t₀) (take n list)) k t
@@ -19,31 +15,24 @@ Inv-loop t₀ list n k₀ t k = (k ≤ n) × (length t ≡ length t₀) × ToRem
 abbrev μ-loop : tie.MeasureT-loop
 μ-loop t₀ list n k₀ t k = n - k
 
--- src/removing.rt:91:5
 loop-holds : tie.Need-loop-holds Inv-loop μ-loop
 loop-holds c = let b = c .before .before in (omega arith, refl, to-remove _ _ (b .pre .0))
 
--- src/removing.rt:92:19
 shared-slice-read-remove : tie.Need-shared-slice-read-remove Inv-loop μ-loop
 shared-slice-read-remove c = omega arith
 
--- src/removing.rt:92:19
 cast-remove : tie.Need-cast-remove Inv-loop μ-loop
 cast-remove c = omega (arith, c .shared-slice-known2 .given (c .before .before .before .loop .k))
 
--- src/removing.rt:92:9
 remove-requires : tie.Need-remove-requires Inv-loop μ-loop
 remove-requires c κs = c .before .before .before .loop .inv .2 .canonical
 
--- src/removing.rt:93:9
 add-k : tie.Need-add-k Inv-loop μ-loop
 add-k c = omega arith
 
--- src/removing.rt:91:5
 loop-less : tie.Need-loop-less Inv-loop μ-loop
 loop-less c = omega arith
 
--- src/removing.rt:91:5
 loop-again : tie.Need-loop-again Inv-loop μ-loop
 loop-again c =
     let p = c .before .before .before .before .before .before in
@@ -56,11 +45,9 @@ loop-again c =
       removed-next _ _ (p .loop .k) _ (p .loop .inv .2) (omega arith) (e ∙ ap (λ (j : ℕ). tableBytes (removed (tableOf (p .loop .t)) j)) (sym i)),
     )
 
--- src/removing.rt:86:1
 same-length : tie.Need-same-length Inv-loop μ-loop
 same-length c = c .before .loop .inv .1
 
--- src/removing.rt:86:1
 returns : tie.Need-returns Inv-loop μ-loop
 returns c =
     let b = c .before .before .before .before in

@@ -1,20 +1,15 @@
-use Prim.Native.Nat.{_<_}
-use mathlib.Core.Path.{ap, _∙_}
 use mathlib.Core.Logic.{⊎-elim}
-use Rattle.making.proofs.SweptLaws.{swept-canonical, swept-none, swept-here, swept-further, swept-all}
-use Rattle.making.specs.Marks.{swept}
+use mathlib.Core.Path.{ap, _∙_, _≡_, refl}
+use Prim.Native.Nat.{_<_, _-_, _≤_}
+use native.Mathlib.Omega.{arith}
+use lib.ListN.{length, take}
+use borrow.Author.Needs.{needs}
 use Rattle.rules.specs.Layout.{tableOf, tableBytes}
 use Rattle.rules.specs.Size.{slots}
-use borrow.Author.Needs.{needs}
-use lib.ListN.{length, take}
-use native.Mathlib.Omega.{arith}
-use Prim.Native.Nat.{_-_, _≤_}
-use mathlib.Core.Path.{_≡_, refl}
+use Rattle.making.specs.Marks.{swept}
+use Rattle.making.proofs.SweptLaws.{swept-canonical, swept-none, swept-here, swept-further, swept-all}
 use Rattle.making.proofs.removing.sweep.Statement.{statement}
 use Rattle.making.proofs.removing.sweep.Tie as tie
-use Rattle.making.proofs.removing.sweep.Reads as reads
-use Rattle.making.proofs.removing.sweep.Lts as lts
-use Rattle.slots.proofs.writing.clear_slot.Reads as clear-slot-reads
 
 abbrev Inv-loop : tie.InvT-loop
 Inv-loop t₀ marks j₀ t j = (j ≤ slots) × (length t ≡ length t₀) × (t ≡ tableBytes (swept (take j marks) (tableOf t₀)))
@@ -22,27 +17,21 @@ Inv-loop t₀ marks j₀ t j = (j ≤ slots) × (length t ≡ length t₀) × (t
 abbrev μ-loop : tie.MeasureT-loop
 μ-loop t₀ marks j₀ t j = slots - j
 
--- src/removing.rt:68:5
 loop-holds : tie.Need-loop-holds Inv-loop μ-loop
 loop-holds c = let b = c .before in (omega arith, refl, swept-none (b .args .marks .now) (b .args .t .now) (b .pre .0))
 
--- src/removing.rt:69:12
 element-copy-out-if1 : tie.Need-element-copy-out-if1 Inv-loop μ-loop
 element-copy-out-if1 c = search needs
 
--- src/removing.rt:70:13
 clear-slot-requires : tie.Need-clear-slot-requires Inv-loop μ-loop
 clear-slot-requires c κs = let p = c .before .before .before .before in (omega arith, swept-canonical _ _ (p .loop .j) (p .loop .inv .2) .0)
 
--- src/removing.rt:72:9
 add-j : tie.Need-add-j Inv-loop μ-loop
 add-j c = search needs
 
--- src/removing.rt:68:5
 loop-less : tie.Need-loop-less Inv-loop μ-loop
 loop-less c = search needs
 
--- src/removing.rt:68:5
 loop-again : tie.Need-loop-again Inv-loop μ-loop
 loop-again c =
     let p = c .before .before .before in
@@ -54,11 +43,9 @@ loop-again c =
     (λ w. (omega arith, ap length (w .1) ∙ p .loop .inv .1, w .1 ∙ swept-further (b .args .marks .now) (b .args .t .now) (p .loop .j) h (w .0 .left) v))
     (c .if1 .came)
 
--- src/removing.rt:63:1
 same-length : tie.Need-same-length Inv-loop μ-loop
 same-length c = c .before .loop .inv .1
 
--- src/removing.rt:63:1
 returns : tie.Need-returns Inv-loop μ-loop
 returns c = swept-all _ _ (c .before .loop .j) (omega arith) (c .before .loop .inv .2)
 

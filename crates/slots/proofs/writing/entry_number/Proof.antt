@@ -1,30 +1,21 @@
-use Rattle.slots.proofs.Numbers.{entry-small, stored-at, stored-past}
 use native.Mathlib.Omega.{arith}
 use borrow.Author.Needs.{needs}
+use Rattle.slots.proofs.Numbers.{entry-small, stored-at, stored-past}
 use Rattle.slots.proofs.writing.entry_number.Statement.{statement}
 use Rattle.slots.proofs.writing.entry_number.Tie as tie
-use Rattle.slots.proofs.writing.entry_number.Reads as reads
-use Rattle.slots.proofs.writing.entry_number.Lts as lts
-use Rattle.slots.proofs.fields.entry_at.Reads as entry-at-reads
-use Rattle.slots.proofs.fields.entry_count.Reads as entry-count-reads
 
--- src/writing.rt:90:12
 entry-count-requires : tie.Need-entry-count-requires
 entry-count-requires c κs = search needs
 
--- src/writing.rt:91:13
 entry-at-requires : tie.Need-entry-at-requires
 entry-at-requires c κs = search needs
 
--- src/writing.rt:92:16
 mul-result : tie.Need-mul-result
 mul-result c = let b = c .before .before .before .before .before in omega (arith, entry-small (b .args .t .now) (b .args .i) (b .args .k))
 
--- src/writing.rt:92:16
 add-result : tie.Need-add-result
 add-result c = let b = c .before .before .before .before .before .before in omega (arith, entry-small (b .args .t .now) (b .args .i) (b .args .k))
 
--- src/writing.rt:92:9
 returns : tie.Need-returns
 returns c =
     let b = c .before .before .before .before .before .before in
@@ -33,7 +24,6 @@ returns c =
       omega (arith, entry-small (b .args .t .now) (b .args .i) (b .args .k)),
     )
 
--- src/writing.rt:86:1
 returns-2 : tie.Need-returns-2
 returns-2 c =
     let b = c .before .before .before in

@@ -1,40 +1,30 @@
-use Rattle.slots.proofs.Numbers.{given-at, given-past}
 use native.Mathlib.Omega.{arith}
 use borrow.Author.Needs.{needs}
+use Rattle.slots.proofs.Numbers.{given-at, given-past}
 use Rattle.slots.proofs.writing.given_number.Statement.{statement}
 use Rattle.slots.proofs.writing.given_number.Tie as tie
-use Rattle.slots.proofs.writing.given_number.Reads as reads
-use Rattle.slots.proofs.writing.given_number.Lts as lts
 
--- src/writing.rt:103:16
 mul-result : tie.Need-mul-result
 mul-result c = search needs
 
--- src/writing.rt:103:16
 shared-slice-read-result : tie.Need-shared-slice-read-result
 shared-slice-read-result c = search needs
 
--- src/writing.rt:103:16
 mul-result-2 : tie.Need-mul-result-2
 mul-result-2 c = let b = c .before .before in omega (arith, b .pre .0 .kinds (b .args .k) (c .before .if1 .taken))
 
--- src/writing.rt:103:36
 mul-result-3 : tie.Need-mul-result-3
 mul-result-3 c = search needs
 
--- src/writing.rt:103:36
 shared-slice-read-result-2 : tie.Need-shared-slice-read-result-2
 shared-slice-read-result-2 c = search needs
 
--- src/writing.rt:103:16
 add-result : tie.Need-add-result
 add-result c = omega (arith, given-at _ _ _ (c .before .before .before .pre .0) (c .before .before .before .args .k) (c .before .before .if1 .taken))
 
--- src/writing.rt:103:9
 returns : tie.Need-returns
 returns c = given-at _ _ _ (c .before .before .before .pre .0) (c .before .before .before .args .k) (c .before .before .if1 .taken)
 
--- src/writing.rt:98:1
 returns-2 : tie.Need-returns-2
 returns-2 c = (given-past _ _ _ (c .before .pre .0) (c .before .args .k) (c .if1 .left), omega arith)
 

@@ -1,53 +1,37 @@
-use Rattle.slots.proofs.Numbers.{owner-fits, others-fit, others-many}
-use Rattle.slots.proofs.Put.{name-small, value-small, entries-put}
 use native.Mathlib.Omega.{arith}
 use borrow.Author.Needs.{needs}
+use Rattle.slots.proofs.Numbers.{owner-fits, others-fit, others-many}
+use Rattle.slots.proofs.Put.{name-small, value-small, entries-put}
 use Rattle.slots.proofs.writing.put_entries.Statement.{statement}
 use Rattle.slots.proofs.writing.put_entries.Tie as tie
-use Rattle.slots.proofs.writing.put_entries.Reads as reads
-use Rattle.slots.proofs.writing.put_entries.Lts as lts
-use Rattle.slots.proofs.fields.name_length.Reads as name-length-reads
-use Rattle.slots.proofs.fields.parent.Reads as parent-reads
-use Rattle.slots.proofs.fields.value_length.Reads as value-length-reads
-use Rattle.slots.proofs.writing.put_fields.Reads as put-fields-reads
-use Rattle.slots.proofs.writing.put_given.Reads as put-given-reads
 
--- src/writing.rt:148:9
 parent-requires : tie.Need-parent-requires
 parent-requires c κs = search needs
 
--- src/writing.rt:149:9
 name-length-requires : tie.Need-name-length-requires
 name-length-requires c κs = search needs
 
--- src/writing.rt:150:9
 value-length-requires : tie.Need-value-length-requires
 value-length-requires c κs = search needs
 
--- src/writing.rt:151:14
 mul-at : tie.Need-mul-at
 mul-at c = search needs
 
--- src/writing.rt:152:18
 add-put-given : tie.Need-add-put-given
 add-put-given c = search needs
 
--- src/writing.rt:152:5
 put-given-requires : tie.Need-put-given-requires
 put-given-requires c κs = search needs
 
--- src/writing.rt:153:5
 put-fields-requires : tie.Need-put-fields-requires
 put-fields-requires c κs =
     let b = c .before .before .before .before .before .before .before .before .before .before .before .before .before .before in
     let few = b .pre .3 .few in
     (omega arith, omega arith, omega (arith, name-small (b .args .t .now) (b .args .i)), omega (arith, value-small (b .args .t .now) (b .args .i)), omega arith)
 
--- src/writing.rt:144:1
 same-length : tie.Need-same-length
 same-length c = search needs
 
--- src/writing.rt:144:1
 returns : tie.Need-returns
 returns c =
     let b = c .before .before .before .before .before .before .before .before .before .before .before .before .before .before .before .before .before in

@@ -1,69 +1,52 @@
-use Rattle.slots.proofs.Put.{fields-put}
 use native.Mathlib.Omega.{arith}
 use lib.ListN.{length-set}
 use borrow.Author.Needs.{needs}
+use Rattle.slots.proofs.Put.{fields-put}
 use Rattle.slots.proofs.writing.put_fields.Statement.{statement}
 use Rattle.slots.proofs.writing.put_fields.Tie as tie
-use Rattle.slots.proofs.writing.put_fields.Reads as reads
-use Rattle.slots.proofs.writing.put_fields.Lts as lts
 
--- src/writing.rt:41:14
 add-t : tie.Need-add-t
 add-t c = search needs
 
--- src/writing.rt:41:13
 cast-t : tie.Need-cast-t
 cast-t c = search needs
 
--- src/writing.rt:41:5
 slice-write-t : tie.Need-slice-write-t
 slice-write-t c = search needs
 
--- src/writing.rt:42:18
 mul-t : tie.Need-mul-t
 mul-t c = search needs
 
--- src/writing.rt:42:18
 add-t-2 : tie.Need-add-t-2
 add-t-2 c = search needs
 
--- src/writing.rt:42:17
 cast-t-2 : tie.Need-cast-t-2
 cast-t-2 c = search needs
 
--- src/writing.rt:42:7
 add-t-3 : tie.Need-add-t-3
 add-t-3 c = search needs
 
--- src/writing.rt:42:5
 slice-write-t-2 : tie.Need-slice-write-t-2
 slice-write-t-2 c = simp length-set (omega arith)
 
--- src/writing.rt:43:18
 mul-t-2 : tie.Need-mul-t-2
 mul-t-2 c = search needs
 
--- src/writing.rt:43:18
 add-t-4 : tie.Need-add-t-4
 add-t-4 c = search needs
 
--- src/writing.rt:43:17
 cast-t-3 : tie.Need-cast-t-3
 cast-t-3 c = search needs
 
--- src/writing.rt:43:7
 add-t-5 : tie.Need-add-t-5
 add-t-5 c = search needs
 
--- src/writing.rt:43:5
 slice-write-t-3 : tie.Need-slice-write-t-3
 slice-write-t-3 c = simp length-set (omega arith)
 
--- src/writing.rt:37:1
 same-length : tie.Need-same-length
 same-length c = search needs
 
--- src/writing.rt:37:1
 returns : tie.Need-returns
 returns c = fields-put _ _ _ _ _ _ (c .pre .0) (c .pre .1) (c .pre .2) (c .pre .3) (c .pre .4)
 

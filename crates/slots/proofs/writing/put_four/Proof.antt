@@ -1,145 +1,109 @@
-use Rattle.slots.proofs.Put.{four-put}
 use native.Mathlib.Omega.{arith}
 use lib.ListN.{length-set}
 use borrow.Author.Needs.{needs}
+use Rattle.slots.proofs.Put.{four-put}
 use Rattle.slots.proofs.writing.put_four.Statement.{statement}
 use Rattle.slots.proofs.writing.put_four.Tie as tie
-use Rattle.slots.proofs.writing.put_four.Reads as reads
-use Rattle.slots.proofs.writing.put_four.Lts as lts
 
--- src/writing.rt:51:13
 cast-t : tie.Need-cast-t
 cast-t c = search needs
 
--- src/writing.rt:51:5
 slice-write-t : tie.Need-slice-write-t
 slice-write-t c = search needs
 
--- src/writing.rt:52:17
 cast-t-2 : tie.Need-cast-t-2
 cast-t-2 c = search needs
 
--- src/writing.rt:52:7
 add-t : tie.Need-add-t
 add-t c = search needs
 
--- src/writing.rt:52:5
 slice-write-t-2 : tie.Need-slice-write-t-2
 slice-write-t-2 c = simp length-set (omega arith)
 
--- src/writing.rt:53:18
 mul-t : tie.Need-mul-t
 mul-t c = search needs
 
--- src/writing.rt:53:18
 add-t-2 : tie.Need-add-t-2
 add-t-2 c = search needs
 
--- src/writing.rt:53:17
 cast-t-3 : tie.Need-cast-t-3
 cast-t-3 c = search needs
 
--- src/writing.rt:53:7
 add-t-3 : tie.Need-add-t-3
 add-t-3 c = search needs
 
--- src/writing.rt:53:5
 slice-write-t-3 : tie.Need-slice-write-t-3
 slice-write-t-3 c = simp length-set (omega arith)
 
--- src/writing.rt:54:17
 cast-t-4 : tie.Need-cast-t-4
 cast-t-4 c = search needs
 
--- src/writing.rt:54:7
 add-t-4 : tie.Need-add-t-4
 add-t-4 c = search needs
 
--- src/writing.rt:54:5
 slice-write-t-4 : tie.Need-slice-write-t-4
 slice-write-t-4 c = simp length-set (omega arith)
 
--- src/writing.rt:55:18
 mul-t-2 : tie.Need-mul-t-2
 mul-t-2 c = search needs
 
--- src/writing.rt:55:18
 add-t-5 : tie.Need-add-t-5
 add-t-5 c = search needs
 
--- src/writing.rt:55:17
 cast-t-5 : tie.Need-cast-t-5
 cast-t-5 c = search needs
 
--- src/writing.rt:55:7
 add-t-6 : tie.Need-add-t-6
 add-t-6 c = search needs
 
--- src/writing.rt:55:5
 slice-write-t-5 : tie.Need-slice-write-t-5
 slice-write-t-5 c = simp length-set (omega arith)
 
--- src/writing.rt:56:17
 cast-t-6 : tie.Need-cast-t-6
 cast-t-6 c = search needs
 
--- src/writing.rt:56:7
 add-t-7 : tie.Need-add-t-7
 add-t-7 c = search needs
 
--- src/writing.rt:56:5
 slice-write-t-6 : tie.Need-slice-write-t-6
 slice-write-t-6 c = simp length-set (omega arith)
 
--- src/writing.rt:57:18
 mul-t-3 : tie.Need-mul-t-3
 mul-t-3 c = search needs
 
--- src/writing.rt:57:18
 add-t-8 : tie.Need-add-t-8
 add-t-8 c = search needs
 
--- src/writing.rt:57:17
 cast-t-7 : tie.Need-cast-t-7
 cast-t-7 c = search needs
 
--- src/writing.rt:57:7
 add-t-9 : tie.Need-add-t-9
 add-t-9 c = search needs
 
--- src/writing.rt:57:5
 slice-write-t-7 : tie.Need-slice-write-t-7
 slice-write-t-7 c = simp length-set (omega arith)
 
--- src/writing.rt:58:17
 cast-t-8 : tie.Need-cast-t-8
 cast-t-8 c = search needs
 
--- src/writing.rt:58:7
 add-t-10 : tie.Need-add-t-10
 add-t-10 c = search needs
 
--- src/writing.rt:58:5
 slice-write-t-8 : tie.Need-slice-write-t-8
 slice-write-t-8 c = simp length-set (omega arith)
 
--- src/writing.rt:59:17
 cast-t-9 : tie.Need-cast-t-9
 cast-t-9 c = search needs
 
--- src/writing.rt:59:7
 add-t-11 : tie.Need-add-t-11
 add-t-11 c = search needs
 
--- src/writing.rt:59:5
 slice-write-t-9 : tie.Need-slice-write-t-9
 slice-write-t-9 c = simp length-set (omega arith)
 
--- src/writing.rt:47:1
 same-length : tie.Need-same-length
 same-length c = simp length-set
 
--- src/writing.rt:47:1
 returns : tie.Need-returns
 returns c = four-put _ _ _ _ _ _ (c .pre .0) (c .pre .1) (c .pre .2) (c .pre .3) (c .pre .4)
 

@@ -1,38 +1,27 @@
-use Rattle.slots.proofs.Numbers.{entries-at, others-many}
 use native.Mathlib.Omega.{arith}
 use borrow.Author.Needs.{needs}
+use Rattle.slots.proofs.Numbers.{entries-at, others-many}
 use Rattle.slots.proofs.writing.put_given.Statement.{statement}
 use Rattle.slots.proofs.writing.put_given.Tie as tie
-use Rattle.slots.proofs.writing.put_given.Reads as reads
-use Rattle.slots.proofs.writing.put_given.Lts as lts
-use Rattle.slots.proofs.writing.given_number.Reads as given-number-reads
-use Rattle.slots.proofs.writing.put_four.Reads as put-four-reads
 
--- src/writing.rt:136:9
 given-number-requires : tie.Need-given-number-requires
 given-number-requires c κs = search needs
 
--- src/writing.rt:137:9
 given-number-requires-2 : tie.Need-given-number-requires-2
 given-number-requires-2 c κs = search needs
 
--- src/writing.rt:138:9
 given-number-requires-3 : tie.Need-given-number-requires-3
 given-number-requires-3 c κs = search needs
 
--- src/writing.rt:139:9
 given-number-requires-4 : tie.Need-given-number-requires-4
 given-number-requires-4 c κs = search needs
 
--- src/writing.rt:140:5
 put-four-requires : tie.Need-put-four-requires
 put-four-requires c κs = search needs
 
--- src/writing.rt:132:1
 same-length : tie.Need-same-length
 same-length c = search needs
 
--- src/writing.rt:132:1
 returns : tie.Need-returns
 returns c =
     let b = c .before .before .before .before .before .before .before .before .before .before .before in

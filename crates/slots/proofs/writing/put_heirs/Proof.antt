@@ -1,54 +1,39 @@
-use Rattle.slots.proofs.Numbers.{entries-at, heir-number, heir-other}
+use Prim.Native.Nat.{_+_, _*_}
+use borrow.Author.Needs.{needs}
 use Rattle.rules.proofs.Fitting.{decoded-fits, nodeAt-fits}
 use Rattle.rules.specs.Layout.{tableOf}
 use Rattle.rules.specs.Node.{nodeAt, heir}
-use Prim.Native.Nat.{_+_, _*_}
-use borrow.Author.Needs.{needs}
+use Rattle.slots.proofs.Numbers.{entries-at, heir-number, heir-other}
 use Rattle.slots.proofs.writing.put_heirs.Statement.{statement}
 use Rattle.slots.proofs.writing.put_heirs.Tie as tie
-use Rattle.slots.proofs.writing.put_heirs.Reads as reads
-use Rattle.slots.proofs.writing.put_heirs.Lts as lts
-use Rattle.slots.proofs.writing.entry_number.Reads as entry-number-reads
-use Rattle.slots.proofs.writing.inherited.Reads as inherited-reads
-use Rattle.slots.proofs.writing.put_four.Reads as put-four-reads
 
--- src/writing.rt:124:23
 entry-number-requires : tie.Need-entry-number-requires
 entry-number-requires c κs = search needs
 
--- src/writing.rt:124:9
 inherited-requires : tie.Need-inherited-requires
 inherited-requires c κs = search needs
 
--- src/writing.rt:125:9
 entry-number-requires-2 : tie.Need-entry-number-requires-2
 entry-number-requires-2 c κs = search needs
 
--- src/writing.rt:126:9
 entry-number-requires-3 : tie.Need-entry-number-requires-3
 entry-number-requires-3 c κs = search needs
 
--- src/writing.rt:127:9
 entry-number-requires-4 : tie.Need-entry-number-requires-4
 entry-number-requires-4 c κs = search needs
 
--- src/writing.rt:128:17
 mul-put-four : tie.Need-mul-put-four
 mul-put-four c = search needs
 
--- src/writing.rt:128:17
 add-put-four : tie.Need-add-put-four
 add-put-four c = search needs
 
--- src/writing.rt:128:5
 put-four-requires : tie.Need-put-four-requires
 put-four-requires c κs = search needs
 
--- src/writing.rt:120:1
 same-length : tie.Need-same-length
 same-length c = search needs
 
--- src/writing.rt:120:1
 returns : tie.Need-returns
 returns c =
     let b = c .before .before .before .before .before .before .before .before .before .before .before .before .before .before in

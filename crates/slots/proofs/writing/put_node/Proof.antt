@@ -1,55 +1,39 @@
-use Rattle.slots.proofs.Put.{count-small, new-put}
 use native.Mathlib.Omega.{arith}
 use borrow.Author.Needs.{needs}
+use Rattle.slots.proofs.Put.{count-small, new-put}
 use Rattle.slots.proofs.writing.put_node.Statement.{statement}
 use Rattle.slots.proofs.writing.put_node.Tie as tie
-use Rattle.slots.proofs.writing.put_node.Reads as reads
-use Rattle.slots.proofs.writing.put_node.Lts as lts
-use Rattle.slots.proofs.fields.entry_count.Reads as entry-count-reads
-use Rattle.slots.proofs.writing.put_fields.Reads as put-fields-reads
-use Rattle.slots.proofs.writing.put_heirs.Reads as put-heirs-reads
-use Rattle.slots.proofs.writing.put_text.Reads as put-text-reads
 
--- src/writing.rt:161:9
 entry-count-requires : tie.Need-entry-count-requires
 entry-count-requires c κs = search needs
 
--- src/writing.rt:162:14
 mul-at : tie.Need-mul-at
 mul-at c = search needs
 
--- src/writing.rt:163:5
 put-heirs-requires : tie.Need-put-heirs-requires
 put-heirs-requires c κs = search needs
 
--- src/writing.rt:164:17
 add-put-text : tie.Need-add-put-text
 add-put-text c = search needs
 
--- src/writing.rt:164:5
 put-text-requires : tie.Need-put-text-requires
 put-text-requires c κs = search needs
 
--- src/writing.rt:165:17
 add-put-text-2 : tie.Need-add-put-text-2
 add-put-text-2 c = search needs
 
--- src/writing.rt:165:5
 put-text-requires-2 : tie.Need-put-text-requires-2
 put-text-requires-2 c κs = search needs
 
--- src/writing.rt:166:5
 put-fields-requires : tie.Need-put-fields-requires
 put-fields-requires c κs =
     let b = c .before .before .before .before .before .before .before .before .before .before .before .before .before .before .before .before .before .before in
     let room = b .pre .4 in
     (omega arith, omega arith, omega arith, omega arith, omega (arith, count-small (b .args .t .now) (b .args .parent)))
 
--- src/writing.rt:157:1
 same-length : tie.Need-same-length
 same-length c = search needs
 
--- src/writing.rt:157:1
 returns : tie.Need-returns
 returns c =
     let b = c .before .before .before .before .before .before .before .before .before .before .before .before .before .before .before .before .before .before .before .before .before in
