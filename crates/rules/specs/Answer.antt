@@ -1,14 +1,15 @@
 -- What a node request answers on a table, and the table after it: steps 5 to 7 of the order of checks.
-use mathlib.Core.Bool.{Bool, true, false, cond, not, _&&_, _||_}
+use mathlib.Core.Bool.{Bool, true, false, cond, _&&_, _||_}
 use mathlib.Core.List.{List, [], _∷_, _++_, flatMap}
 use mathlib.Core.Option.{Option, none, some}
-use Prim.Native.Nat.{ℕ, zero, suc, _+_}
+use Prim.Native.Nat.{ℕ, suc}
 use lib.ListN.{length, getD}
-use lib.Dec.{eqb, ltb, leb}
+use lib.Dec.{eqb, leb}
 use Rattle.rules.specs.Size.{longestValue, longestPayload, mostEntries}
 use Rattle.rules.specs.Octets.{Octets, text, nul, decimal}
 use Rattle.rules.specs.Entries.{freeCount}
-use Rattle.rules.specs.Path.{Domain, isControl, Name, Names, fits}
+use Rattle.rules.specs.Domain.{Domain, isControl}
+use Rattle.rules.specs.Path.{Names, fits}
 use Rattle.rules.specs.Node.{Entry, Node, Table, Reached, nodeAt, reach, made, withValue, withEntries, removed, children}
 use Rattle.rules.specs.Rights.{mayRead, mayWrite, mayOwn}
 use Rattle.rules.specs.Payload.{Ask, directory, read, getPerms, write, mkdir, rm, setPerms}

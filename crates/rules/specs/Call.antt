@@ -1,16 +1,14 @@
 -- The calls on bytes: what each answers, and every byte of every lent buffer after it.
-use mathlib.Core.Bool.{Bool, true, false, cond, not, _&&_, _||_}
-use mathlib.Core.List.{List, [], _∷_, _++_, flatMap}
-use mathlib.Core.Option.{Option, none, some}
-use Prim.Native.Nat.{ℕ, zero, suc, _+_, _-_, _*_}
-use lib.ListN.{length, getD, take, drop, replicate}
-use lib.Dec.{eqb, ltb, leb}
+use mathlib.Core.Bool.{Bool, true, false, cond, _&&_}
+use mathlib.Core.List.{_++_, flatMap}
+use Prim.Native.Nat.{ℕ, _+_}
+use lib.ListN.{length, take, drop}
+use lib.Dec.{eqb, ltb}
 use Rattle.rules.specs.Size.{mostTransactions, headerSize, longestPayload, tableSize, copiesSize, watchesSize, transactionsSize, domainsSize, replySize, eventsSize}
 use Rattle.rules.specs.Octets.{Octets, nul, fourBytes, littleEndian, chunks, paste}
-use Rattle.rules.specs.Path.{Connection, domainOf}
+use Rattle.rules.specs.Domain.{Connection, domainOf}
 use Rattle.rules.specs.Payload.{Parsed, unknown, invalid, request, parse}
 use Rattle.rules.specs.Answer.{EINVAL, ENOSYS, errnoText, Reply, done, refused}
-use Rattle.rules.specs.Event.{Record}
 use Rattle.rules.specs.Layout.{tableBytes, tableOf, domainsBytes, domainsOf, watchesBytes, watchesOf, transactionsBytes, transactionsOf, recordBytes}
 use Rattle.rules.specs.Sound.{soundTable, soundDomains, soundWatches, soundTransactions, known}
 use Rattle.rules.specs.World.{World, Outcome, left, handle, freshWorld}

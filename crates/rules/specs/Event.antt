@@ -1,12 +1,13 @@
 -- Who hears what: watches, and the records of a call's events.
-use mathlib.Core.Bool.{Bool, true, false, cond, not, _&&_, _||_}
-use mathlib.Core.List.{List, [], _∷_, _++_, flatMap}
+use mathlib.Core.Bool.{Bool, true, false, cond, _&&_, _||_}
+use mathlib.Core.List.{List, [], _∷_, flatMap}
 use mathlib.Core.Option.{Option, none, some}
-use Prim.Native.Nat.{ℕ, zero, suc, _+_}
+use Prim.Native.Nat.{ℕ, suc}
 use lib.ListN.{length}
-use lib.Dec.{eqb, ltb, leb}
+use lib.Dec.{eqb, leb}
 use Rattle.rules.specs.Octets.{Octets, same, decimal}
-use Rattle.rules.specs.Path.{Domain, Connection, domainOf, Names, pathText, beyond}
+use Rattle.rules.specs.Domain.{Domain, Connection, domainOf}
+use Rattle.rules.specs.Path.{Names, pathText, beyond}
 use Rattle.rules.specs.Node.{Table}
 use Rattle.rules.specs.Rights.{readable}
 use Rattle.rules.specs.Payload.{Place, path, event}

@@ -1,13 +1,14 @@
 -- The tables as bytes: what each entry's bytes are, and what bytes mean.
-use mathlib.Core.Bool.{Bool, true, false, cond, not, _&&_, _||_}
+use mathlib.Core.Bool.{Bool, false, cond}
 use mathlib.Core.List.{List, [], _∷_, _++_, map, flatMap}
 use mathlib.Core.Option.{Option, none, some}
 use Prim.Native.Nat.{ℕ, zero, suc, _+_, _*_, _-_}
 use lib.ListN.{length, take, drop, replicate}
-use lib.Dec.{eqb, ltb, leb}
-use Rattle.rules.specs.Size.{slots, slotSize, fieldsSize, entriesSize, longestName, longestValue, mostEntries, mostDomains, domainSize, mostWatches, watchSize, longestPath, longestToken, mostTransactions, transactionSize, mostChanges, changeSize, recordSize}
+use lib.Dec.{eqb}
+use Rattle.rules.specs.Size.{slots, slotSize, fieldsSize, entriesSize, longestName, longestValue, mostEntries, mostDomains, domainSize, mostWatches, watchSize, longestPath, longestToken, mostTransactions, transactionSize, mostChanges, changeSize}
 use Rattle.rules.specs.Octets.{Octets, padded, chunks, bigEndian, field, Bits, _bits_, pack, bitsAt, bit}
-use Rattle.rules.specs.Path.{Domain, Connection, Names, Given, malformed, absolute, relative, special, given, namesIn, pathText}
+use Rattle.rules.specs.Domain.{Domain, Connection}
+use Rattle.rules.specs.Path.{malformed, absolute, relative, special, given, namesIn, pathText}
 use Rattle.rules.specs.Node.{Entry, Node, Table}
 use Rattle.rules.specs.Payload.{Place, path, event}
 use Rattle.rules.specs.Answer.{Change}

@@ -1,6 +1,7 @@
 -- The rule book: document 01 as definitions that compute. Read in this order.
 pub mod Size
 pub mod Octets
+pub mod Domain
 pub mod Path
 pub mod Entries
 pub mod Node

@@ -1,15 +1,16 @@
 -- The event message of one record for one watch.
-use mathlib.Core.Bool.{Bool, true, false, cond, not, _&&_, _||_}
-use mathlib.Core.List.{List, [], _∷_, _++_}
+use mathlib.Core.Bool.{Bool, true, false, cond, _&&_, _||_}
+use mathlib.Core.List.{[], _∷_, _++_}
 use mathlib.Core.Option.{Option, none, some}
-use Prim.Native.Nat.{ℕ, zero, suc, _+_, _-_, _*_}
+use Prim.Native.Nat.{ℕ, suc, _-_, _*_}
 use lib.ListN.{length, getD, take, drop}
 use lib.Dec.{eqb, ltb, leb}
 use Rattle.rules.specs.Size.{mostWatches, mostRecords, recordSize, longestPath, watchesSize, domainsSize, eventsSize, messageSize, lastDomain}
 use Rattle.rules.specs.Octets.{Octets, nul, same, fourBytes, field, bitsAt, numberIn, paste}
-use Rattle.rules.specs.Path.{Domain, domainOf, base, pathText, isBelow}
+use Rattle.rules.specs.Domain.{Domain, domainOf}
+use Rattle.rules.specs.Path.{base, pathText, isBelow}
 use Rattle.rules.specs.Payload.{Place, path, event}
-use Rattle.rules.specs.Event.{Watch, Watches, placeText}
+use Rattle.rules.specs.Event.{Watch, Watches}
 use Rattle.rules.specs.Layout.{textAt, watchesOf, domainsOf}
 use Rattle.rules.specs.Sound.{soundDomains, soundWatches}
 use Rattle.rules.specs.Call.{Verdict, handled, wrongSize, unsound, noEvent, callNumber}

@@ -1,14 +1,15 @@
 -- Nodes in slots: looking up, making, removing, and the children in name order.
-use mathlib.Core.Bool.{Bool, true, false, cond, not, _&&_, _||_}
-use mathlib.Core.List.{List, [], _∷_, _++_, flatMap}
+use mathlib.Core.Bool.{Bool, false, cond, not, _&&_, _||_}
+use mathlib.Core.List.{List, [], _∷_, flatMap}
 use mathlib.Core.Option.{Option, none, some}
-use Prim.Native.Nat.{ℕ, zero, suc, _+_, _-_}
-use lib.ListN.{length, getD, set, replicate}
-use lib.Dec.{eqb, ltb, leb}
+use Prim.Native.Nat.{ℕ, zero, suc, _-_}
+use lib.ListN.{getD, set, replicate}
+use lib.Dec.{eqb}
 use Rattle.rules.specs.Size.{slots, deepest}
 use Rattle.rules.specs.Octets.{Octets, same, less}
 use Rattle.rules.specs.Entries.{lowest}
-use Rattle.rules.specs.Path.{Domain, isControl, Name, Names}
+use Rattle.rules.specs.Domain.{Domain, isControl}
+use Rattle.rules.specs.Path.{Name, Names}
 
 -- access: n 0, r 1, w 2, b 3
 pub record Entry : Type 0 where

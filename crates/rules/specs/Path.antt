@@ -1,26 +1,13 @@
 -- Paths: texts, the lists of names that they mean, and the two event names.
-use mathlib.Core.Bool.{Bool, true, false, cond, not, _&&_, _||_}
+use mathlib.Core.Bool.{Bool, true, false, cond, _&&_, _||_}
 use mathlib.Core.List.{List, [], _∷_, _++_}
 use mathlib.Core.Option.{Option, none, some}
-use Prim.Native.Nat.{ℕ, zero, suc, _+_}
+use Prim.Native.Nat.{ℕ}
 use lib.ListN.{length}
 use lib.Dec.{eqb, ltb, leb}
 use Rattle.rules.specs.Size.{longestAbsolute, longestRelative, longestName, deepest}
+pub use Rattle.rules.specs.Domain.{Domain, Connection, domainOf, isControl}
 use Rattle.rules.specs.Octets.{Octets, text, same, begins, decimal}
-
--- the rights of a request are a domain's; watches and transactions are a connection's
-abbrev pub Domain : Type 0
-Domain = ℕ
-
-abbrev pub Connection : Type 0
-Connection = ℕ
-
--- the domain that a connection speaks for: each domain has one connection, of its own number
-abbrev pub domainOf : Connection → Domain
-domainOf c = c
-
-abbrev pub isControl : Domain → Bool
-isControl d = eqb d 0
 
 abbrev pub Name : Type 0
 Name = Octets

@@ -1,12 +1,13 @@
 -- A request's type and payload, taken apart: steps 1 and 2 of the order of checks.
-use mathlib.Core.Bool.{Bool, true, false, cond, not, _&&_, _||_}
+use mathlib.Core.Bool.{Bool, true, false, cond}
 use mathlib.Core.List.{List, [], _∷_, _++_}
 use mathlib.Core.Option.{Option, none, some}
-use Prim.Native.Nat.{ℕ, zero, suc, _-_, _^_}
-use lib.Dec.{eqb, ltb, leb}
+use Prim.Native.Nat.{ℕ, _-_, _^_}
+use lib.Dec.{eqb}
 use Rattle.rules.specs.Size.{lastDomain, deepestWatch}
 use Rattle.rules.specs.Octets.{Octets, text, nul, same, numberIn, signed}
-use Rattle.rules.specs.Path.{Domain, Connection, domainOf, isControl, Names, Given, malformed, absolute, relative, special, given, base}
+use Rattle.rules.specs.Domain.{Domain, Connection, domainOf, isControl}
+use Rattle.rules.specs.Path.{Names, Given, malformed, absolute, relative, special, given, base}
 use Rattle.rules.specs.Node.{Entry}
 
 -- what is asked of a node

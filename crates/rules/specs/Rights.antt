@@ -1,10 +1,11 @@
 -- Who may do what with a node, and on what ground.
-use mathlib.Core.Bool.{Bool, true, false, cond, not, _&&_, _||_}
+use mathlib.Core.Bool.{Bool, cond, _&&_, _||_}
 use mathlib.Core.List.{List, [], _∷_}
-use Prim.Native.Nat.{ℕ, zero, suc, _%_}
-use lib.Dec.{eqb, ltb, leb}
+use Prim.Native.Nat.{ℕ, suc, _%_}
+use lib.Dec.{eqb, leb}
 use Rattle.rules.specs.Entries.{isEmpty}
-use Rattle.rules.specs.Path.{Domain, isControl, Names}
+use Rattle.rules.specs.Domain.{Domain, isControl}
+use Rattle.rules.specs.Path.{Names}
 use Rattle.rules.specs.Node.{Entry, Node, Table, nodeAt, reach}
 
 -- why the access is what it is: domain 0, the owner, the later entry of that place, or none of these

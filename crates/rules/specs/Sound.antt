@@ -1,19 +1,20 @@
 -- Which tables are sound: bytes that re-encode to themselves, so that lengths and zero padding are as stated, and whose content is well formed.
-use mathlib.Core.Bool.{Bool, true, false, cond, not, _&&_, _||_}
-use mathlib.Core.List.{List, [], _∷_, _++_}
+use mathlib.Core.Bool.{Bool, true, false, not, _&&_, _||_}
+use mathlib.Core.List.{List, [], _∷_}
 use mathlib.Core.Option.{Option, none, some}
-use Prim.Native.Nat.{ℕ, zero, suc, _+_}
+use Prim.Native.Nat.{ℕ, zero, suc}
 use lib.ListN.{length, getD}
-use lib.Dec.{eqb, ltb, leb}
+use lib.Dec.{eqb, leb}
 use Rattle.rules.specs.Size.{tableSize, deepest, lastDomain, domainsSize, watchesSize, transactionsSize}
 use Rattle.rules.specs.Octets.{Octets, same}
 use Rattle.rules.specs.Entries.{has}
-use Rattle.rules.specs.Path.{Domain, Connection, domainOf, isControl, Name, Names, isName, fits, base, beyond}
+use Rattle.rules.specs.Domain.{Domain, Connection, domainOf, isControl}
+use Rattle.rules.specs.Path.{Name, Names, isName, fits, base, beyond}
 use Rattle.rules.specs.Node.{Entry, Node, Table, nodeAt}
 use Rattle.rules.specs.Payload.{Place, path, event}
 use Rattle.rules.specs.Answer.{Change}
 use Rattle.rules.specs.Event.{Watch, Watches, placeText}
-use Rattle.rules.specs.Layout.{tableBytes, tableOf, Domains, domainsBytes, domainsOf, watchesBytes, watchesOf, Transaction, Transactions, transactionsBytes, transactionsOf}
+use Rattle.rules.specs.Layout.{tableBytes, tableOf, Domains, domainsBytes, domainsOf, watchesBytes, watchesOf, Transactions, transactionsBytes, transactionsOf}
 
 -- ── the node table ──
 

@@ -7,7 +7,7 @@ use mathlib.Core.Option.{none}
 use lib.ListN.{length, getD}
 use lib.Dec.{eqb}
 use Rattle.rules.specs.Octets.{Octets, text, nul, same, begins, fourBytes}
-use Rattle.rules.specs.Path.{Connection, domainOf}
+use Rattle.rules.specs.Domain.{Connection, domainOf}
 use Rattle.rules.specs.Answer.{EINVAL, EACCES, ENOENT, ENOSPC, EAGAIN, Reply, done, refused, OK}
 use Rattle.rules.specs.Layout.{slotBytes}
 use Rattle.rules.specs.Sound.{known}

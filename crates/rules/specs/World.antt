@@ -1,5 +1,5 @@
 -- All five tables, and what one request does to them: steps 3 to 7 of the order of checks.
-use mathlib.Core.Bool.{Bool, true, false, cond, not, _&&_, _||_}
+use mathlib.Core.Bool.{Bool, true, false, cond, not, _&&_}
 use mathlib.Core.List.{List, [], _∷_, _++_, map}
 use mathlib.Core.Option.{Option, none, some}
 use Prim.Native.Nat.{ℕ, zero, suc, _-_}
@@ -8,7 +8,8 @@ use lib.Dec.{eqb, ltb, leb}
 use Rattle.rules.specs.Size.{mostTransactions, mostWatches, mostDomains, mostChanges, longestToken, tableSize}
 use Rattle.rules.specs.Octets.{Octets, text, nul, decimal}
 use Rattle.rules.specs.Entries.{isEmpty, lowest, without}
-use Rattle.rules.specs.Path.{Domain, Connection, domainOf, isControl, Names, base, fits, pathText, introduceName, releaseName}
+use Rattle.rules.specs.Domain.{Domain, Connection, domainOf, isControl}
+use Rattle.rules.specs.Path.{Names, base, fits, pathText, introduceName, releaseName}
 use Rattle.rules.specs.Node.{Table, freshTable, ownedBy, withoutAll, pathOf}
 use Rattle.rules.specs.Payload.{Ask, Place, path, event, Request, ask, watch, unwatch, start, end, introduce, release, domainPath, isIntroduced, reset}
 use Rattle.rules.specs.Answer.{EACCES, EEXIST, ENOENT, ENOSPC, EAGAIN, Reply, done, refused, OK, Change, Answer, answer}
