@@ -7,7 +7,7 @@ use Prim.Native.Nat.{ℕ, zero, suc, _+_, _*_, _-_, _^_, _≤_, _<_}
 use native.Mathlib.Omega.{arith}
 use native.Mathlib.Nat.{mod-lt}
 use lib.ListN.{length, getD, set, take, drop, replicate, length-append, length-replicate, length-take, length-drop, length-map, take-append-drop}
-use lib.Seq.{take-append-seam, take-at, drop-at}
+use lib.Seq.{take-at, drop-at}
 use lib.Dec.{eqb, lit<, lit≤}
 use Rattle.rules.specs.Size.{longestToken, longestPath, mostChanges, domainSize, mostDomains, watchSize, watchesSize, mostWatches, changeSize, transactionSize, mostTransactions}
 use Rattle.rules.specs.Octets.{Octets, same, paste, padded, bit, _bits_, chunks, bigEndian, bigFrom, field, pack, packFrom, bitsAt}
@@ -17,6 +17,7 @@ use Rattle.rules.specs.Answer.{Change}
 use Rattle.rules.specs.Event.{Watch, Watches, placeText}
 use Rattle.rules.specs.Layout.{textAt, isRelative, depthBits, watchBits, watchBytes, placeIn, watchAt, watchIn, watchesBytes, watchesOf, changeBytes, transactionBytes, changeIn, transactionAt, transactionIn, transactionsBytes, transactionsOf, Transactions, Domains, domainBytes, domainIn, domainsBytes, domainsOf, Transaction}
 use Rattle.rules.specs.Sound.{known, noNul, goodPlace, watched, goodWatch, goodWatches, soundWatches}
+use Rattle.rules.proofs.Slots.{length-padded, text-padded}
 use Rattle.rules.proofs.Tables.{Each, each-map, length-chunks, length-encoded, written, decoded, decoded-at}
 use Rattle.rules.proofs.PathLaws.{Means, means, text-given, text-names}
 use Rattle.rules.proofs.Places.{nothing, some-is}
@@ -91,17 +92,7 @@ pub length-domains : (ds : Domains) → Each DomainFits ds → length (domainsBy
 unfolding domainsBytes
 length-domains ds f = length-encoded domainBytes domainSize ds (each-map DomainFits _ domain-width ds f)
 
--- ── texts ──
-
-length-padded : (k : ℕ) (xs : Octets) → length xs ≤ k → length (padded k xs) ≡ k
-unfolding padded
-length-padded k xs h = length-append xs (replicate (k - length xs) 0) ∙ rw length-replicate (omega arith)
-
--- a text between a first part of i bytes and the rest, padded to k bytes
-text-back : (p xs r : Octets) (i k m : ℕ) → length p ≡ i → length xs ≤ k → m ≡ length xs → textAt (p ++ (padded k xs ++ r)) i k m ≡ xs
-unfolding textAt padded
-text-back p xs r i k m hp hx hm =
-    rw (drop-at p (padded k xs ++ r) i hp, take-at (padded k xs) r k (length-padded k xs hx), hm) (take-append-seam xs (replicate (k - length xs) 0))
+-- ── watches ──
 
 bit-small : (b : Bool) → bit b < 2
 bit-small true = lit< tt
@@ -215,11 +206,11 @@ module _ (v : Watch) (f : WatchFits v) where
 
   path-read : textAt (watchBytes (some v)) 6 longestPath (bitsAt head 7 9) ≡ placeText (v .place)
   unfolding place
-  path-read = rw before-path (text-back fields (placeText (v .place)) token 6 longestPath _ length-fields (place-short (v .place) (f .place)) (read .path))
+  path-read = rw before-path (text-padded fields (placeText (v .place)) token 6 longestPath _ length-fields (place-short (v .place) (f .place)) (read .path))
 
   token-read : textAt (watchBytes (some v)) (6 + longestPath) longestToken (bitsAt head 0 6) ≡ v .token
   unfolding token
-  token-read = rw before-token (text-back (fields ++ place) (v .token) [] (6 + longestPath) longestToken _ length-front (f .token) (read .token))
+  token-read = rw before-token (text-padded (fields ++ place) (v .token) [] (6 + longestPath) longestToken _ length-front (f .token) (read .token))
 
   head-read : field (watchBytes (some v)) 0 6 ≡ head
   unfolding fields
@@ -308,7 +299,7 @@ module _ (c : Change) (f : ChangeFits c) where
 
   change-names : namesIn (textAt (changeBytes c) 2 longestPath (bitsAt change-fields 0 9)) ≡ c .names
   change-names =
-      ap namesIn (rw change-seam (text-back (bigEndian 2 change-fields) (pathText (c .names)) [] 2 longestPath _ (length-big 2 change-fields) (f .short) (fields-read .2)))
+      ap namesIn (rw change-seam (text-padded (bigEndian 2 change-fields) (pathText (c .names)) [] 2 longestPath _ (length-big 2 change-fields) (f .short) (fields-read .2)))
       ∙ text-names (c .names) (f .names) (omega (arith, f .short))
 
   change-read : changeIn (changeBytes c) ≡ c

@@ -1,8 +1,8 @@
 -- Numbers in bytes, most significant first: writing and reading undo each other, and a field of a part is a field of the whole.
 use mathlib.Core.Path.{_≡_, refl, sym, ap, ap₂, _∙_}
-use mathlib.Core.List.{List, [], _∷_, _++_, append-nil}
+use mathlib.Core.List.{List, [], _∷_, _++_}
 use Prim.Native.Nat.{ℕ, zero, suc, _+_, _*_, _/_, _%_, _^_, _≤_, _<_, zero-le, suc-le-suc}
-use native.Mathlib.Nat.{add-zero, zero-add, add-suc, suc-add, le-of-suc-le-suc, not-suc-le-zero, div-add-mod', div-lt-iff-lt-mul, pow-suc, pow-zero, pow-succ', add-mul, add-assoc, mul-assoc, mul-one}
+use native.Mathlib.Nat.{add-zero, zero-add, add-suc, not-suc-le-zero, div-add-mod', div-lt-iff-lt-mul, pow-suc, pow-zero, pow-succ', add-mul, add-assoc, mul-assoc, mul-one}
 use native.Mathlib.Numerals.{add-one, add-two}
 use native.Mathlib.Omega.{arith}
 use lib.ListN.{length, getD, take, drop, length-append, length-drop}

@@ -1,9 +1,8 @@
 -- Node slots as bytes: a node that fits its fields is written in one slot's width and read back.
 use mathlib.Core.Path.{_≡_, refl, sym, ap, ap₂, _∙_}
-use mathlib.Core.Bool.{true}
 use mathlib.Core.List.{List, [], _∷_, _++_, map, flatMap, append-nil, append-assoc}
 use mathlib.Core.Option.{Option, none, some}
-use Prim.Native.Nat.{ℕ, zero, suc, _+_, _*_, _-_, _/_, _%_, _^_, _≤_, _<_}
+use Prim.Native.Nat.{ℕ, _+_, _*_, _-_, _^_, _≤_, _<_}
 use native.Mathlib.Omega.{arith}
 use lib.ListN.{length, getD, take, drop, set, replicate, length-append, length-replicate, length-map}
 use lib.Seq.{take-append-seam, take-at, drop-at}
@@ -31,7 +30,7 @@ abbrev pub SlotFits : Option Node → Type 0
 SlotFits none = Unit {0}
 SlotFits (some n) = NodeFits n
 
-length-padded : (k : ℕ) (xs : Octets) → length xs ≤ k → length (padded k xs) ≡ k
+pub length-padded : (k : ℕ) (xs : Octets) → length xs ≤ k → length (padded k xs) ≡ k
 unfolding padded
 length-padded k xs h = length-append xs (replicate (k - length xs) 0) ∙ rw length-replicate (omega arith)
 
@@ -94,7 +93,7 @@ entries-read o (a ∷ b ∷ c ∷ []) f g h =
 entries-read o (a ∷ b ∷ c ∷ d ∷ es) f g h = absurd (omega arith)
 
 -- a text between a first part of i bytes and the rest, padded to k bytes
-text-padded : (p xs r : Octets) (i k m : ℕ) → length p ≡ i → length xs ≤ k → m ≡ length xs → textAt (p ++ (padded k xs ++ r)) i k m ≡ xs
+pub text-padded : (p xs r : Octets) (i k m : ℕ) → length p ≡ i → length xs ≤ k → m ≡ length xs → textAt (p ++ (padded k xs ++ r)) i k m ≡ xs
 unfolding textAt
 text-padded p xs r i k m hp hx hm =
     ap (λ (l : Octets). take m (take k l)) (drop-at p (padded k xs ++ r) i hp)
