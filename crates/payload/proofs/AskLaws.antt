@@ -1,19 +1,19 @@
 -- What a node request's path means.
 use mathlib.Core.Path.{_≡_, refl, ap, sym, subst⁻¹, _∙_}
-use mathlib.Core.Bool.{Bool, true, false, cond, false≢true}
-use mathlib.Core.List.{List, [], _∷_, _++_}
+use mathlib.Core.Bool.{Bool, true, false, cond}
+use mathlib.Core.List.{List, [], _∷_}
 use mathlib.Core.Option.{Option, none, some}
 use mathlib.Core.Logic.{_⊎_, ⊎-elim}
 use Prim.Native.Nat.{ℕ, _+_, _<_, _≤_}
 use native.Mathlib.Omega.{arith}
 use lib.Dec.{eqb}
-use lib.ListN.{length, take, drop, length-append}
+use lib.ListN.{length, take, drop}
 use lib.Seq.{length-take-le}
-use borrow.Author.Tests.{eq-eqb, ne-eqb}
+use borrow.Author.Tests.{ne-eqb}
 use Rattle.rules.specs.Octets.{Octets}
 use Rattle.rules.specs.Path.{Domain, Names, Given, malformed, absolute, relative, special, given, base, pathText, slashed, allNames}
-use Rattle.rules.specs.Payload.{Ask, directory, read, getPerms, write, mkdir, rm, setPerms, Parsed, invalid, request, ask, namesOf, proper, onRoot, asking, plain, writing, strings, firstString}
-use Rattle.rules.proofs.PathLaws.{Full, given-full, no-empty-name}
+use Rattle.rules.specs.Payload.{Ask, directory, read, getPerms, write, mkdir, rm, Parsed, invalid, request, ask, namesOf, proper, onRoot, asking, plain, writing, strings, firstString}
+use Rattle.rules.proofs.PathLaws.{given-full, no-empty-name}
 use Rattle.paths.specs.Form.{formOf}
 use Rattle.paths.specs.declared.answer.Form.{Form}
 use Rattle.paths.specs.declared.answer.Form.the-variants.{Absolute, Relative, Special, Malformed}
@@ -21,12 +21,10 @@ use Rattle.payload.specs.Parts.{partsOf}
 use Rattle.payload.specs.Meaning.{namesFrom, namesAt, meant, PathSound, Means, Sound}
 use Rattle.payload.specs.Answers.{namedOf, isRoot, askOf, askedOf}
 use Rattle.payload.specs.declared.answer.Path.{Path}
-use Rattle.payload.specs.declared.answer.Named.{Named}
 use Rattle.payload.specs.declared.answer.Named.the-variants.{At, Not}
 use Rattle.payload.specs.declared.answer.Request.{Request}
 use Rattle.payload.specs.declared.answer.Request.the-variants.{Invalid, Directory, Read, GetPerms, Write, Mkdir, Rm}
-use Rattle.payload.specs.declared.parts.Parts.{Parts}
-use Rattle.payload.specs.declared.parts.Parts.the-variants.{One, Two, Three, Other}
+use Rattle.payload.specs.declared.parts.Parts.the-variants.{One}
 use Rattle.payload.proofs.CursorLaws.{Untold}
 
 -- what is asked of some names

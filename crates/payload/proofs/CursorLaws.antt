@@ -8,14 +8,14 @@ use Prim.Native.Nat.{ℕ, suc, _+_, _-_, _<_, _≤_}
 use native.Mathlib.Nat.{add-zero}
 use native.Mathlib.Numerals.{add-one}
 use native.Mathlib.Omega.{arith}
-use lib.Dec.{eqb, ltb}
+use lib.Dec.{ltb}
 use lib.ListN.{length, getD, take, drop, length-drop, drop-of-length-le}
 use lib.Seq.{drop-cons}
-use borrow.Author.Tests.{lt-ltb, le-ltb, ltb-true, ltb-false, eq-eqb, ne-eqb}
+use borrow.Author.Tests.{ltb-true, ltb-false, eq-eqb, ne-eqb}
 use Rattle.rules.specs.Octets.{Octets}
 use Rattle.rules.specs.Payload as rules
 use Rattle.rules.specs.Payload.{firstString, strings}
-use Rattle.payload.proofs.Strings.{StringAt, TakenAt, part-first, taken-at, left-over, none-left}
+use Rattle.payload.proofs.Strings.{StringAt, part-first, taken-at, left-over, none-left}
 use Rattle.payload.specs.Strings.{part}
 use Rattle.payload.specs.Cursor.{found, takenAt}
 use Rattle.payload.specs.declared.cursor.Cursor.{Cursor}

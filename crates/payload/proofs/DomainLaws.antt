@@ -3,7 +3,7 @@ use mathlib.Core.Path.{_≡_, refl, ap, sym, subst⁻¹, _∙_}
 use mathlib.Core.Bool.{Bool, true, false, cond}
 use mathlib.Core.List.{List, [], _∷_, _++_}
 use mathlib.Core.Option.{Option, none, some}
-use Prim.Native.Nat.{ℕ, _+_, _-_, _^_, _<_, _≤_}
+use Prim.Native.Nat.{ℕ, _+_, _-_, _^_, _≤_}
 use native.Mathlib.Omega.{arith}
 use lib.Dec.{eqb}
 use lib.ListN.{length, take}
@@ -20,8 +20,7 @@ use Rattle.payload.specs.Meaning.{meant, Means, Sound}
 use Rattle.payload.specs.Answers.{lowOf, aboutOf, toldOf}
 use Rattle.payload.specs.declared.answer.Request.{Request}
 use Rattle.payload.specs.declared.answer.Request.the-variants.{Invalid, Start, End, Introduce, Release, DomainPath, IsIntroduced, Reset}
-use Rattle.payload.specs.declared.parts.Parts.{Parts}
-use Rattle.payload.specs.declared.parts.Parts.the-variants.{One, Two, Three, Other}
+use Rattle.payload.specs.declared.parts.Parts.the-variants.{One, Three}
 use Rattle.payload.proofs.PartsLaws.{OneString, ThreeStrings}
 use Rattle.payload.proofs.AskLaws.{invalid-means}
 

@@ -1,15 +1,15 @@
 -- Permission entries: kept one by one.
 use mathlib.Core.Path.{_≡_, refl, ap, sym, _∙_}
-use mathlib.Core.Bool.{Bool, true, false, cond}
-use mathlib.Core.List.{List, [], _∷_, _++_}
+use mathlib.Core.Bool.{cond}
+use mathlib.Core.List.{List, [], _∷_}
 use mathlib.Core.Option.{Option, none, some}
 use mathlib.Core.Logic.{_⊎_, inl, inr}
-use Prim.Native.Nat.{ℕ, suc, _+_, _-_, _<_, _≤_}
+use Prim.Native.Nat.{ℕ, suc, _+_, _-_}
 use native.Mathlib.Omega.{arith}
 use lib.Dec.{eqb}
-use lib.ListN.{length, getD, take, drop, replicate}
+use lib.ListN.{length, getD, take, drop}
 use lib.Seq.{take-all}
-use borrow.Author.Tests.{eq-eqb, ne-eqb}
+use borrow.Author.Tests.{ne-eqb}
 use Rattle.rules.specs.Size.{lastDomain}
 use Rattle.rules.specs.Octets.{Octets, numberIn}
 use Rattle.rules.specs.Node as nodes
@@ -17,15 +17,13 @@ use Rattle.rules.specs.Payload.{accessLetter, entryOf, entriesOf, strings}
 use Rattle.payload.specs.Strings.{part, prepended}
 use Rattle.payload.specs.Cursor.{takenAt}
 use Rattle.payload.specs.Meaning.{entryMeant}
-use Rattle.payload.specs.Answers.{withEntry, added, addedTo, entriesIn, noEntries, entryHeld}
+use Rattle.payload.specs.Answers.{withEntry, added, addedTo, entriesIn}
 use Rattle.payload.specs.declared.answer.Entry.{Entry}
 use Rattle.payload.specs.declared.answer.Entries.{Entries}
-use Rattle.payload.specs.declared.answer.Permissions.{Permissions}
 use Rattle.payload.specs.declared.answer.Permissions.the-variants.{Are, Not}
 use Rattle.payload.specs.declared.cursor.Cursor.{Cursor}
-use Rattle.payload.specs.declared.cursor.Taken.{Taken}
 use Rattle.payload.specs.declared.cursor.Taken.the-variants.{String, Left, End}
-use Rattle.payload.proofs.CursorLaws.{Told, Untold, string-told, left-told, end-told}
+use Rattle.payload.proofs.CursorLaws.{Told, string-told, left-told, end-told}
 
 -- the entry at a count below four takes its place
 pub with-at : (es : Entries) (e : Entry) (k : ℕ) → es .count ≡ k → withEntry es e

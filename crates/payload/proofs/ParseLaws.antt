@@ -1,20 +1,17 @@
 -- What a type and a payload mean, and what of it is kept.
-use mathlib.Core.Path.{_≡_, refl, ap, sym, subst⁻¹, _∙_}
-use mathlib.Core.Bool.{Bool, true, false, cond}
+use mathlib.Core.Path.{_≡_, refl, ap, sym, _∙_}
 use mathlib.Core.List.{List, [], _∷_, _++_}
-use mathlib.Core.Option.{Option, none, some}
-use Prim.Native.Nat.{ℕ, zero, suc, _+_, _-_, _<_, _≤_}
+use Prim.Native.Nat.{ℕ, zero, suc, _+_, _-_}
 use native.Mathlib.Omega.{arith}
-use lib.Dec.{eqb}
 use lib.ListN.{length, take, replicate, length-replicate}
 use lib.Seq.{take-all}
 use borrow.Author.Tests.{ne-eqb}
 use Rattle.rules.specs.Size.{mostEntries}
 use Rattle.rules.specs.Octets.{Octets}
-use Rattle.rules.specs.Path.{Domain, Names}
+use Rattle.rules.specs.Path.{Domain}
 use Rattle.rules.specs.Node as nodes
 use Rattle.rules.specs.Payload.{Parsed, request, ask, setPerms, strings, plain, ofDomain, parse}
-use Rattle.payload.specs.Meaning.{namesAt, entryMeant, blank, othersMeant, firstOthers, meant, kept, requestKept, askKept, Means, Sound}
+use Rattle.payload.specs.Meaning.{namesAt, entryMeant, blank, othersMeant, firstOthers, meant, kept, requestKept, askKept, Means}
 use Rattle.payload.specs.Answers.{askOf, lowOf, aboutOf}
 use Rattle.payload.specs.declared.answer.Entries.{Entries}
 use Rattle.payload.specs.declared.answer.Path.{Path}

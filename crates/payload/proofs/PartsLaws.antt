@@ -2,7 +2,7 @@
 use mathlib.Core.Path.{_≡_, refl, ap, sym, _∙_}
 use mathlib.Core.List.{List, [], _∷_, _++_, append-assoc}
 use mathlib.Core.Option.{Option, none, some}
-use Prim.Native.Nat.{ℕ, _+_, _-_, _<_, _≤_}
+use Prim.Native.Nat.{ℕ, _+_, _-_, _<_}
 use native.Mathlib.Omega.{arith}
 use lib.ListN.{length, take, drop, length-append}
 use lib.Seq.{take-at}
@@ -12,12 +12,11 @@ use Rattle.payload.specs.Strings.{part, prepended}
 use Rattle.payload.specs.Cursor.{takenAt}
 use Rattle.payload.specs.Parts.{partsOf}
 use Rattle.payload.specs.declared.cursor.Cursor.{Cursor}
-use Rattle.payload.specs.declared.cursor.Taken.{Taken}
 use Rattle.payload.specs.declared.cursor.Taken.the-variants.{String, Left, End}
 use Rattle.payload.specs.declared.parts.Parts.{Parts}
 use Rattle.payload.specs.declared.parts.Parts.the-variants.{One, Two, Three, Other}
 use Rattle.payload.proofs.Strings.{length-part, flat, strings-flat, part-at}
-use Rattle.payload.proofs.CursorLaws.{Told, Untold, string-told, left-told, end-told}
+use Rattle.payload.proofs.CursorLaws.{Told, string-told, left-told, end-told}
 
 -- what is found at a place is left over, or more than what was found before
 abbrev Strings : Type 0

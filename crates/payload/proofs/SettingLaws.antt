@@ -2,7 +2,7 @@
 use mathlib.Core.Path.{_≡_, refl, ap, sym, subst⁻¹, _∙_}
 use mathlib.Core.Bool.{Bool, true, false, cond}
 use mathlib.Core.List.{List, [], _∷_, _++_}
-use mathlib.Core.Logic.{_⊎_, inl, inr, ⊎-elim}
+use mathlib.Core.Logic.{_⊎_, ⊎-elim}
 use mathlib.Core.Option.{Option, none, some}
 use Prim.Native.Nat.{ℕ, suc, _+_, _-_, _<_, _≤_}
 use native.Mathlib.Nat.{add-zero}
@@ -10,7 +10,7 @@ use native.Mathlib.Omega.{arith}
 use lib.Dec.{eqb, lit≤}
 use lib.ListN.{length, take, drop, replicate}
 use lib.Seq.{take-all}
-use borrow.Author.Tests.{eq-eqb, ne-eqb}
+use borrow.Author.Tests.{ne-eqb}
 use Rattle.rules.specs.Size.{lastDomain, mostEntries}
 use Rattle.rules.specs.Octets.{Octets, numberIn}
 use Rattle.rules.specs.Path.{Domain, given}
@@ -35,7 +35,7 @@ use Rattle.rules.specs.Payload.{
 use Rattle.rules.proofs.Decimals.{range-bounds}
 use Rattle.rules.proofs.Tables.{Each}
 use Rattle.paths.specs.Form.{formOf}
-use Rattle.payload.specs.Strings.{part, prepended}
+use Rattle.payload.specs.Strings.{prepended}
 use Rattle.payload.specs.Cursor.{takenAt}
 use Rattle.payload.specs.Meaning.{
   namesAt,
@@ -57,9 +57,7 @@ use Rattle.payload.specs.Answers.{namedOf, isRoot, entryHeld, noEntries,
 use Rattle.payload.specs.declared.answer.Path.{Path}
 use Rattle.payload.specs.declared.answer.Entry.{Entry}
 use Rattle.payload.specs.declared.answer.Entries.{Entries}
-use Rattle.payload.specs.declared.answer.Named.{Named}
 use Rattle.payload.specs.declared.answer.Named.the-variants as named
-use Rattle.payload.specs.declared.answer.Permissions.{Permissions}
 use Rattle.payload.specs.declared.answer.Permissions.the-variants as permissions
 use Rattle.payload.specs.declared.answer.Request.{Request}
 use Rattle.payload.specs.declared.answer.Request.the-variants.{Invalid, SetPerms}

@@ -1,9 +1,9 @@
 -- What WATCH and UNWATCH mean.
 use mathlib.Core.Path.{_≡_, refl, ap, sym, _∙_}
-use mathlib.Core.Bool.{Bool, true, false, cond}
+use mathlib.Core.Bool.{true, false}
 use mathlib.Core.List.{List, [], _∷_}
 use mathlib.Core.Option.{Option, none, some}
-use Prim.Native.Nat.{ℕ, _+_, _<_, _≤_}
+use Prim.Native.Nat.{ℕ, _+_, _<_}
 use native.Mathlib.Omega.{arith}
 use lib.Dec.{eqb}
 use lib.ListN.{length, take}
@@ -11,25 +11,22 @@ use Rattle.rules.specs.Size.{deepestWatch}
 use Rattle.rules.specs.Octets.{Octets, numberIn}
 use Rattle.rules.specs.Path.{Domain, Given, malformed, absolute, relative, special, given}
 use Rattle.rules.specs.Payload as rules
-use Rattle.rules.specs.Payload.{invalid, request, strings, placeOf, depthFor, watchingTo, watching, unwatching}
+use Rattle.rules.specs.Payload.{invalid, strings, placeOf, depthFor, watchingTo, watching, unwatching}
 use Rattle.rules.proofs.Decimals.{range-bounds}
 use Rattle.paths.specs.Form.{formOf}
 use Rattle.paths.specs.declared.answer.Form.{Form}
 use Rattle.paths.specs.declared.answer.Form.the-variants.{Absolute, Relative, Special, Malformed}
 use Rattle.payload.specs.Strings.{part}
 use Rattle.payload.specs.Parts.{partsOf}
-use Rattle.payload.specs.Meaning.{placeFrom, placeAt, meant, Means, Sound, PathSound, WatchSound, DepthSound}
+use Rattle.payload.specs.Meaning.{placeFrom, placeAt, meant, Means, WatchSound, DepthSound}
 use Rattle.payload.specs.Answers.{placedOf, depthFits}
 use Rattle.payload.specs.declared.answer.Path.{Path}
 use Rattle.payload.specs.declared.answer.Depth.{Depth}
 use Rattle.payload.specs.declared.answer.Depth.the-variants as depth
-use Rattle.payload.specs.declared.answer.Named.{Named}
 use Rattle.payload.specs.declared.answer.Named.the-variants.{At, Not}
 use Rattle.payload.specs.declared.answer.Request.{Request}
 use Rattle.payload.specs.declared.answer.Request.the-variants.{Invalid, Watch, Unwatch}
-use Rattle.payload.specs.declared.parts.Parts.{Parts}
-use Rattle.payload.specs.declared.parts.Parts.the-variants.{One, Two, Three, Other}
-use Rattle.payload.proofs.PartsLaws.{TwoStrings}
+use Rattle.payload.specs.declared.parts.Parts.the-variants.{One, Two, Other}
 use Rattle.payload.proofs.AskLaws.{at-path, sound-at, invalid-means}
 
 -- a path or an event's name: its place, and the depths that it takes

@@ -6,7 +6,6 @@ use lib.Dec.{ltb}
 use lib.ListN.{length, drop}
 use Rattle.rules.specs.Octets.{Octets}
 use Rattle.rules.specs.Payload as rules
-use Rattle.payload.specs.declared.cursor.Cursor.{Cursor}
 use Rattle.payload.specs.declared.cursor.Taken.{Taken}
 use Rattle.payload.specs.declared.cursor.Taken.the-variants.{String, Left, End}
 

@@ -1,6 +1,5 @@
-use mathlib.Core.Path.{_≡_, refl, ap, sym, _∙_}
-use Prim.Native.Nat.{ℕ}
-use borrow.Author.Tests.{eq-eqb, ne-eqb}
+use mathlib.Core.Path.{_≡_, sym, _∙_}
+use borrow.Author.Tests.{ne-eqb}
 use mathlib.Core.Bool.{cond}
 use Rattle.payload.specs.Answers.{askedOf, isRoot}
 use Rattle.payload.specs.declared.answer.Request.the-variants.{Invalid, Rm}

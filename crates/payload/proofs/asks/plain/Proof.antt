@@ -1,7 +1,7 @@
 use mathlib.Core.List.{[], _∷_}
 use types.Run.{miss}
 -- A path alone, if it is one.
-use mathlib.Core.Path.{_≡_, refl, ap, sym, _∙_}
+use mathlib.Core.Path.{sym, _∙_}
 use native.Mathlib.Omega.{arith}
 use Rattle.payload.proofs.PartsLaws.{OneString, one-told}
 use Rattle.payload.proofs.AskLaws.{plain-other, plain-not, plain-means}

@@ -1,5 +1,5 @@
 -- The first string is the path, if it is one, and the rest the value.
-use mathlib.Core.Path.{_≡_, refl, ap, sym, _∙_}
+use mathlib.Core.Path.{_≡_, ap, sym, _∙_}
 use mathlib.Core.List.{[], _∷_}
 use types.Run.{miss}
 use native.Mathlib.Omega.{arith}

@@ -1,5 +1,5 @@
 -- By the payload.
-use mathlib.Core.Path.{_≡_, refl, ap, sym, _∙_}
+use mathlib.Core.Path.{sym, _∙_}
 use Rattle.payload.proofs.DomainLaws.{end-commit, end-drop, end-not}
 use borrow.Author.Needs.{needs}
 use Rattle.payload.proofs.bare.end.Statement.{statement}

@@ -1,5 +1,5 @@
 -- By the transaction and the payload.
-use mathlib.Core.Path.{_≡_, refl, ap, sym, _∙_}
+use mathlib.Core.Path.{sym, _∙_}
 use Rattle.payload.proofs.DomainLaws.{start-inside, start-means, start-not}
 use borrow.Author.Needs.{needs}
 use Rattle.payload.proofs.bare.start.Statement.{statement}

@@ -1,6 +1,5 @@
-use mathlib.Core.Path.{_≡_, refl, ap, sym, _∙_}
-use Prim.Native.Nat.{ℕ}
-use borrow.Author.Tests.{eq-eqb, ne-eqb}
+use mathlib.Core.Path.{sym}
+use borrow.Author.Tests.{ne-eqb}
 use Rattle.payload.specs.Answers.{toldOf}
 use Rattle.payload.proofs.domains.about.Statement.{statement}
 use Rattle.payload.proofs.domains.about.Tie as tie

@@ -1,5 +1,5 @@
 -- Three strings, each read in its turn.
-use mathlib.Core.Path.{_≡_, refl, ap, sym, _∙_}
+use mathlib.Core.Path.{_≡_, ap, sym, _∙_}
 use mathlib.Core.List.{[], _∷_}
 use types.Run.{miss}
 use Prim.Native.Nat.{_+_, _-_, _^_}

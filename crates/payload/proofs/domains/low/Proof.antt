@@ -1,5 +1,5 @@
-use mathlib.Core.Path.{_≡_, refl, ap, sym, _∙_}
-use borrow.Author.Tests.{eq-eqb, ne-eqb}
+use mathlib.Core.Path.{ap, sym}
+use borrow.Author.Tests.{ne-eqb}
 use Rattle.payload.specs.Answers.{lowOf}
 use Rattle.payload.proofs.domains.low.Statement.{statement}
 use Rattle.payload.proofs.domains.low.Tie as tie

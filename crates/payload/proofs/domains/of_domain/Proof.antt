@@ -1,5 +1,5 @@
 -- A domain id alone, if it is one.
-use mathlib.Core.Path.{_≡_, refl, ap, sym, _∙_}
+use mathlib.Core.Path.{_≡_, ap, sym, _∙_}
 use mathlib.Core.List.{[], _∷_}
 use types.Run.{miss}
 use Prim.Native.Nat.{ℕ}

@@ -1,5 +1,5 @@
 -- By the letter and the number.
-use mathlib.Core.Path.{_≡_, refl, ap, sym, _∙_}
+use mathlib.Core.Path.{refl, ap, sym, _∙_}
 use mathlib.Core.Logic.{inl, inr}
 use mathlib.Core.Option.{none}
 use Rattle.payload.specs.Answers.{smallMeant}

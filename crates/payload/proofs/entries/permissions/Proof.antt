@@ -1,6 +1,6 @@
 use Rattle.payload.specs.Answers.{permissionMeant}
 -- What is kept so far, and the strings that are left, decide.
-use mathlib.Core.Path.{_≡_, refl, ap, sym, _∙_}
+use mathlib.Core.Path.{_≡_, ap, sym, _∙_}
 use Prim.Native.Nat.{_≤_, _-_}
 use native.Mathlib.Omega.{arith}
 use borrow.Author.Needs.{needs}

@@ -1,5 +1,5 @@
 -- The first string is the path, if it is one, and the others are entries, if they are.
-use mathlib.Core.Path.{_≡_, refl, ap, sym, _∙_}
+use mathlib.Core.Path.{_≡_, ap, sym, _∙_}
 use mathlib.Core.List.{[], _∷_}
 use types.Run.{miss}
 use native.Mathlib.Omega.{arith}

@@ -1,5 +1,5 @@
 -- By the count, the path and the owner.
-use mathlib.Core.Path.{_≡_, refl, ap, sym, _∙_}
+use mathlib.Core.Path.{sym, _∙_}
 use borrow.Author.Tests.{eq-eqb, ne-eqb}
 use Rattle.payload.specs.Answers.{settingOf}
 use borrow.Author.Needs.{needs}

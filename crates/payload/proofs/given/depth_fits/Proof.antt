@@ -1,5 +1,5 @@
 -- By the path's form.
-use mathlib.Core.Path.{_≡_, refl, ap, sym, _∙_}
+use mathlib.Core.Path.{sym}
 use Rattle.payload.specs.Answers.{depthFits}
 use borrow.Author.Needs.{needs}
 use Rattle.payload.proofs.given.depth_fits.Statement.{statement}

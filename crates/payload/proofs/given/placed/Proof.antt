@@ -1,5 +1,5 @@
 -- By the text's form.
-use mathlib.Core.Path.{_≡_, refl, ap, sym, _∙_}
+use mathlib.Core.Path.{ap, sym, _∙_}
 use lib.Seq.{length-take-le}
 use Rattle.payload.specs.Answers.{placedOf}
 use borrow.Author.Needs.{needs}

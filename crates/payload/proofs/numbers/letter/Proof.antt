@@ -1,6 +1,6 @@
 -- By the letter.
-use mathlib.Core.Path.{_≡_, refl, ap, sym, _∙_}
-use borrow.Author.Tests.{eq-eqb, ne-eqb}
+use mathlib.Core.Path.{ap, sym}
+use borrow.Author.Tests.{ne-eqb}
 use Rattle.rules.specs.Payload.{accessLetter}
 use Rattle.payload.proofs.numbers.letter.Statement.{statement}
 use Rattle.payload.proofs.numbers.letter.Tie as tie

@@ -4,7 +4,7 @@ use Rattle.rules.specs.Octets.{numberIn}
 use Rattle.rules.proofs.Decimals.{range-bounds}
 use Rattle.octets.specs.Numbers.{meant}
 use Rattle.octets.specs.declared.Number.{Number}
-use mathlib.Core.Path.{_≡_, refl, ap, sym, _∙_}
+use mathlib.Core.Path.{_≡_, ap, sym, _∙_}
 use borrow.Author.Needs.{needs}
 use Rattle.payload.proofs.numbers.small.Statement.{statement}
 use Rattle.payload.proofs.numbers.small.Tie as tie

@@ -1,5 +1,5 @@
 -- Each type by its own law.
-use mathlib.Core.Path.{_≡_, refl, ap, sym, _∙_}
+use mathlib.Core.Path.{refl}
 use Rattle.rules.specs.Payload.{parse}
 use Rattle.payload.specs.Answers.{askOf, lowOf, aboutOf}
 use Rattle.payload.proofs.ParseLaws.{parsed, parsed-kept, plain-parsed, domain-parsed, unknown-parsed}

@@ -1,7 +1,6 @@
 -- What the cursor finds after the first string tells.
 use mathlib.Core.Path.{_≡_, ap, sym, _∙_}
-use Prim.Native.Nat.{_+_, _<_}
-use lib.ListN.{length}
+use Prim.Native.Nat.{_+_}
 use native.Mathlib.Omega.{arith}
 use Rattle.payload.specs.Cursor.{takenAt}
 use Rattle.payload.specs.declared.cursor.Taken.{Taken}

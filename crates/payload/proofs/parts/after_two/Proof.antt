@@ -1,8 +1,6 @@
 -- What the cursor finds, and then finds again, tells how many strings there are.
 use mathlib.Core.Path.{_≡_, ap, sym, _∙_}
-use Prim.Native.Nat.{_+_, _<_}
-use lib.ListN.{length}
-use native.Mathlib.Omega.{arith}
+use Prim.Native.Nat.{_+_}
 use Rattle.payload.specs.Cursor.{takenAt}
 use Rattle.payload.specs.declared.cursor.Taken.{Taken}
 use Rattle.payload.proofs.PartsLaws.{two-left, two-end, three-left, three-more, three-end}

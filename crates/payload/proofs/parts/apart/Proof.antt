@@ -1,8 +1,5 @@
 -- What the first cursor finds tells.
 use mathlib.Core.Path.{_≡_, ap, sym, _∙_}
-use Prim.Native.Nat.{_+_, _<_}
-use lib.ListN.{length}
-use native.Mathlib.Omega.{arith}
 use Rattle.payload.specs.Cursor.{takenAt}
 use Rattle.payload.specs.declared.cursor.Taken.{Taken}
 use Rattle.payload.proofs.CursorLaws.{string-told}

@@ -1,5 +1,5 @@
 -- Two strings, of which the first is a path.
-use mathlib.Core.Path.{_≡_, refl, ap, sym, _∙_}
+use mathlib.Core.Path.{sym, _∙_}
 use mathlib.Core.List.{[], _∷_}
 use types.Run.{miss}
 use native.Mathlib.Omega.{arith}

@@ -1,5 +1,5 @@
 -- Two strings or three.
-use mathlib.Core.Path.{_≡_, refl, ap, sym, _∙_}
+use mathlib.Core.Path.{sym, _∙_}
 use Rattle.payload.proofs.PartsLaws.{two-told, three-told}
 use Rattle.payload.proofs.WatchLaws.{watch-strings, watch-one, watch-other}
 use borrow.Author.Needs.{needs}

@@ -1,5 +1,5 @@
 -- By the path's form.
-use mathlib.Core.Path.{_≡_, refl, ap, sym, _∙_}
+use mathlib.Core.Path.{sym, _∙_}
 use Rattle.payload.proofs.WatchLaws.{watch-all-not, watch-all-means}
 use borrow.Author.Needs.{needs}
 use Rattle.payload.proofs.watches.watch_all.Statement.{statement}
