@@ -92,8 +92,6 @@ pub length-domains : (ds : Domains) → Each DomainFits ds → length (domainsBy
 unfolding domainsBytes
 length-domains ds f = length-encoded domainBytes domainSize ds (each-map DomainFits _ domain-width ds f)
 
--- ── watches ──
-
 bit-small : (b : Bool) → bit b < 2
 bit-small true = lit< tt
 bit-small false = lit< tt
