@@ -50,7 +50,7 @@ slot-width (some n) f =
 
 -- ── the fields ──
 
-head-bound : (n : Node) → NodeFits n → pack (nodeBits n) < 256 ^ 3
+pub head-bound : (n : Node) → NodeFits n → pack (nodeBits n) < 256 ^ 3
 unfolding pack packFrom nodeBits
 head-bound n f = omega arith
 
