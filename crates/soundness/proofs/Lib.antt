@@ -1,0 +1,4 @@
+pub mod Tests
+pub mod Entries
+pub mod NameLaws
+pub mod SlotLaws

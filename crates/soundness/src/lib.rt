@@ -1,0 +1,2 @@
+// Whether the bytes of a node table are sound: the check that every call makes first.
+pub mod slot;
