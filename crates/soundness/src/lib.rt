@@ -1,2 +1,4 @@
 // Whether the bytes of a node table are sound: the check that every call makes first.
+pub mod answer;
+pub mod chain;
 pub mod slot;
