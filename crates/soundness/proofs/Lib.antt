@@ -4,3 +4,6 @@ pub mod NameLaws
 pub mod SlotLaws
 pub mod WalkLaws
 pub mod PathTexts
+pub mod KeyLaws
+pub mod PairLaws
+pub mod TableLaws

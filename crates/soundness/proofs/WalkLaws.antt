@@ -131,11 +131,11 @@ written-behind x y into mid after e l f = by (eqb (length into) 0) refl
         let g : after ≡ paste (length x) y mid = f ∙ rw (l, z) refl in
         rw z (g ∙ ap (paste (length x) y) m ∙ paste-behind 0 (length x) x y into (omega arith) (omega arith))
 
-lost-case : {up : Walk} (b : Bool) (x : ℕ) → up ≡ cond b (Root x) Lost → up ≡ Lost → b ≡ false
+pub lost-case : {up : Walk} (b : Bool) (x : ℕ) → up ≡ cond b (Root x) Lost → up ≡ Lost → b ≡ false
 lost-case true x p q = let z : _≡_ {A = ℕ} 0 1 = cc in absurd (omega arith)
 lost-case false x p q = refl
 
-root-case : {up : Walk} (b : Bool) (x at : ℕ) → up ≡ cond b (Root x) Lost → up ≡ Root at → (b ≡ true) × (at ≡ x)
+pub root-case : {up : Walk} (b : Bool) (x at : ℕ) → up ≡ cond b (Root x) Lost → up ≡ Root at → (b ≡ true) × (at ≡ x)
 root-case true x at p q = (refl, cc)
 root-case false x at p q = let z : _≡_ {A = ℕ} 0 1 = cc in absurd (omega arith)
 

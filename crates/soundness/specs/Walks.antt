@@ -41,3 +41,7 @@ pub record Named (name : Octets) (at : ℕ) (before after : Octets) (next : ℕ)
 pub record Walked (k : ℕ) (t : Octets) (i : ℕ) (before after : Octets) (r : Walk) : Type 0 where
   pub found : r ≡ cond (reachesRoot k (tableOf t) i) (Root (length (textTo k t i))) Lost
   pub left : after ≡ cond (reachesRoot k (tableOf t) i) (written (textTo k t i) before) before
+
+-- a used slot's chain of parents reaches the root in time
+unfoldable pub chained : Octets → ℕ → Bool
+chained t i = cond (isUsed (slotAt t i)) (reachesRoot deepest (tableOf t) i) true

@@ -10,9 +10,11 @@ ghost use Rattle.rules.specs.Layout.{tableOf};
 ghost use Rattle.rules.specs.Sound.{soundTable};
 ghost use Rattle.octets.specs.Numbers.{Put};
 ghost use Rattle.slots.specs.Slot.{slotAt, isUsed};
-ghost use Rattle.soundness.specs.Walks.{Short, Room, Named, Walked};
+ghost use Rattle.soundness.specs.Parts.{every};
+ghost use Rattle.soundness.specs.Walks.{Short, Room, Named, Walked, chained};
 use crate::answer::Walk;
 use octets::parts::copy;
+use slots::fields::SLOTS;
 use slots::fields::name;
 use slots::fields::parent;
 use slots::fields::used;
@@ -72,4 +74,35 @@ pub fn path_of(t: &[u8], i: usize, into: &mut [u8]) -> usize
         Walk::Lost => 0,
         Walk::Root(n) => n,
     }
+}
+
+// Whether a slot is unused, or its chain of parents reaches the root in time.
+fn in_time(t: &[u8], i: usize) -> bool
+    requires { ⌜ (i < slots) × Short (now t) ⌝ }
+    ensures { λ r. ⌜ r ≡ chained (now (t .entry)) i ⌝ }
+{
+    if !used(t, i) {
+        return true;
+    }
+    let mut nothing = [0u8; 1];
+    let up = walk(t, i, DEEPEST, &mut nothing[..0]);
+    match up {
+        Walk::Lost => false,
+        Walk::Root(_) => true,
+    }
+}
+
+// Whether every used slot's chain of parents reaches the root in time.
+pub fn all_chained(t: &[u8]) -> bool
+    requires { ⌜ Short (now t) ⌝ }
+    ensures { λ r. ⌜ r ≡ every (chained (now (t .entry))) slots 0 ⌝ }
+{
+    let mut i = 0;
+    while i < SLOTS {
+        if !in_time(t, i) {
+            return false;
+        }
+        i += 1;
+    }
+    true
 }
