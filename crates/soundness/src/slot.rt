@@ -6,13 +6,12 @@ ghost use lib.Dec.{eqb};
 ghost use lib.ListN.{length};
 ghost use Rattle.rules.specs.Size.{slots, tableSize};
 ghost use Rattle.rules.specs.Octets.{field};
-ghost use Rattle.rules.specs.Path.{isName};
+ghost use Rattle.rules.specs.Path.{nameByte, isName};
 ghost use Rattle.rules.specs.Node.{nodeAt};
 ghost use Rattle.rules.specs.Layout.{tableOf};
 ghost use Rattle.rules.specs.Sound.{goodName};
 ghost use Rattle.soundness.specs.Parts.{Used, sized, keptEntries, lowDomains, zeroBehind, goodSlot};
 use octets::compare::all_zero;
-use paths::classes::class_of;
 use slots::fields::SLOT_SIZE;
 use slots::fields::entry_count;
 use slots::fields::name;
@@ -130,17 +129,29 @@ fn zero_behind(t: &[u8], i: usize) -> bool
     all_zero(&t[value_at + v..value_at + LONGEST_VALUE])
 }
 
+// Whether a byte may stand in a name, by its value: most are small letters.
+fn name_byte(b: u8) -> bool
+    ensures { λ r. ⌜ r ≡ nameByte b ⌝ }
+{
+    if b'a' <= b {
+        return b <= b'z';
+    }
+    if b'A' <= b {
+        return (b <= b'Z') | (b == b'_');
+    }
+    if b'0' <= b {
+        return (b <= b'9') | (b == b'@');
+    }
+    b == b'-'
+}
+
 // Whether a text is a name: not empty, and of a name's bytes.
 fn is_name(s: &[u8]) -> bool
     ensures { λ r. ⌜ r ≡ isName (now (s .entry)) ⌝ }
 {
     let mut i = 0;
     while i < s.len() {
-        let class = class_of(s[i]);
-        if class == 2 {
-            return false;
-        }
-        if 3 < class {
+        if !name_byte(s[i]) {
             return false;
         }
         i += 1;

@@ -2,8 +2,9 @@ use mathlib.Core.Path.{_≡_, refl}
 use Prim.Native.Nat.{_≤_, _-_}
 use native.Mathlib.Omega.{arith}
 use lib.ListN.{length, drop}
+use borrow.Author.Tests.{not-true, not-false}
 use Rattle.rules.specs.Path.{allBytes}
-use Rattle.soundness.proofs.NameLaws.{name-further, name-slash, name-other, name-ended}
+use Rattle.soundness.proofs.NameLaws.{name-further, name-refused, name-ended}
 use Rattle.soundness.proofs.slot.is_name.Statement.{statement}
 use Rattle.soundness.proofs.slot.is_name.Tie as tie
 
@@ -16,21 +17,16 @@ abbrev μ-loop : tie.MeasureT-loop
 loop-holds : tie.Need-loop-holds Inv-loop μ-loop
 loop-holds c = (omega arith, refl)
 
-shared-slice-read-class-of : tie.Need-shared-slice-read-class-of Inv-loop μ-loop
-shared-slice-read-class-of c = omega arith
+shared-slice-read-name-byte : tie.Need-shared-slice-read-name-byte Inv-loop μ-loop
+shared-slice-read-name-byte c = omega arith
 
-class-of-requires : tie.Need-class-of-requires Inv-loop μ-loop
-class-of-requires c κs = tt
+name-byte-requires : tie.Need-name-byte-requires Inv-loop μ-loop
+name-byte-requires c κs = tt
 
 returns : tie.Need-returns Inv-loop μ-loop
 returns c =
     let l = c .before .before .before in
-    name-slash _ (l .before .loop .i) (l .before .loop .inv .1) (l .loop-test .taken) _ (c .before .class-of .ensures) (c .if1 .taken)
-
-returns-2 : tie.Need-returns-2 Inv-loop μ-loop
-returns-2 c =
-    let l = c .before .before .before .before in
-    name-other _ (l .before .loop .i) (l .before .loop .inv .1) (l .loop-test .taken) _ (c .before .before .class-of .ensures) (c .if2 .taken)
+    name-refused _ (l .before .loop .i) (l .before .loop .inv .1) (l .loop-test .taken) (c .before .name-byte .ensures) (not-true _ (c .if1 .taken))
 
 add-i : tie.Need-add-i Inv-loop μ-loop
 add-i c = omega arith
@@ -40,11 +36,11 @@ loop-less c = omega arith
 
 loop-again : tie.Need-loop-again Inv-loop μ-loop
 loop-again c =
-    let l = c .before .before .before .before in
-    (omega arith, name-further _ (l .before .loop .i) (l .before .loop .inv .1) (l .loop-test .taken) _ (c .before .before .class-of .ensures) (c .before .if1 .left) (c .if2 .left))
+    let l = c .before .before .before in
+    (omega arith, name-further _ (l .before .loop .i) (l .before .loop .inv .1) (l .loop-test .taken) (c .before .name-byte .ensures) (not-false _ (c .if1 .left)))
 
-returns-3 : tie.Need-returns-3 Inv-loop μ-loop
-returns-3 c = name-ended _ (c .before .loop .i) (c .before .loop .inv .1) (c .loop-test .left)
+returns-2 : tie.Need-returns-2 Inv-loop μ-loop
+returns-2 c = name-ended _ (c .before .loop .i) (c .before .loop .inv .1) (c .loop-test .left)
 
 pub is-name-spec : {M : Type 1} → statement M
 is-name-spec =
@@ -53,11 +49,10 @@ is-name-spec =
     Inv-loop
     μ-loop
     loop-holds
-    shared-slice-read-class-of
-    class-of-requires
+    shared-slice-read-name-byte
+    name-byte-requires
     returns
-    returns-2
     add-i
     loop-less
     loop-again
-    returns-3)
+    returns-2)
