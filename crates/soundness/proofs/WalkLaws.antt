@@ -94,7 +94,7 @@ reaches-up : (k : ℕ) (ts : Table) (i : ℕ) (n : Node) → (i ≡ 0 → ⊥) �
 unfolding reachesRoot
 reaches-up k ts i n h e = rw (ne-eqb i 0 h, e, node-some ts i n e) refl
 
-root-reached : (k : ℕ) (ts : Table) → reachesRoot k ts 0 ≡ true
+pub root-reached : (k : ℕ) (ts : Table) → reachesRoot k ts 0 ≡ true
 unfolding reachesRoot
 root-reached zero ts = refl
 root-reached (suc k) ts = refl

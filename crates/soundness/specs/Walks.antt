@@ -2,7 +2,7 @@
 use mathlib.Core.Bool.{Bool, true, false, cond, not, _&&_}
 use mathlib.Core.List.{[], _∷_}
 use mathlib.Core.Path.{_≡_}
-use Prim.Native.Nat.{ℕ, _+_, _≤_, _<_}
+use Prim.Native.Nat.{ℕ, _+_, _-_, _≤_, _<_}
 use lib.ListN.{length}
 use lib.Dec.{eqb}
 use Rattle.rules.specs.Size.{slots, tableSize, longestName, longestPath, deepest}
@@ -45,3 +45,7 @@ pub record Walked (k : ℕ) (t : Octets) (i : ℕ) (before after : Octets) (r : 
 -- a used slot's chain of parents reaches the root in time
 unfoldable pub chained : Octets → ℕ → Bool
 chained t i = cond (isUsed (slotAt t i)) (reachesRoot deepest (tableOf t) i) true
+
+-- what is known of a slot's way to the root: nothing, or one more than a number of steps that is enough
+abbrev pub Level : Octets → ℕ → ℕ → Type 0
+Level t i r = (r ≡ 0 → ⊥) → (r ≤ 9) × (reachesRoot (r - 1) (tableOf t) i ≡ true)

@@ -1,6 +1,6 @@
 // The chain of parents from a slot to the root, and the path text that it spells.
 ghost use mathlib.Core.Path.{_≡_};
-ghost use mathlib.Core.Bool.{true};
+ghost use mathlib.Core.Bool.{true, false};
 ghost use Prim.Native.Nat.{_+_, _≤_, _<_};
 ghost use lib.ListN.{length};
 ghost use Rattle.rules.specs.Size.{slots, longestPath, longestName, deepest};
@@ -11,7 +11,7 @@ ghost use Rattle.rules.specs.Sound.{soundTable};
 ghost use Rattle.octets.specs.Numbers.{Put};
 ghost use Rattle.slots.specs.Slot.{slotAt, isUsed};
 ghost use Rattle.soundness.specs.Parts.{every};
-ghost use Rattle.soundness.specs.Walks.{Short, Room, Named, Walked, chained};
+ghost use Rattle.soundness.specs.Walks.{Short, Room, Named, Walked, Level, chained};
 use crate::answer::Walk;
 use octets::parts::copy;
 use slots::fields::SLOTS;
@@ -76,19 +76,22 @@ pub fn path_of(t: &[u8], i: usize, into: &mut [u8]) -> usize
     }
 }
 
-// Whether a slot is unused, or its chain of parents reaches the root in time.
-fn in_time(t: &[u8], i: usize) -> bool
-    requires { ⌜ (i < slots) × Short (now t) ⌝ }
-    ensures { λ r. ⌜ r ≡ chained (now (t .entry)) i ⌝ }
+// One more than the most steps from a used slot to the root, given the same of its parent if that is known, or 0 where the
+// chain does not reach it in time. A chain is walked unless its parent's is known to be short enough.
+fn level_of(t: &[u8], i: usize, above: u8) -> u8
+    requires { ⌜ (i < slots) × (isUsed (slotAt (now t) i) ≡ true) × Short (now t) × Level (now t) (nodeAt (tableOf (now t)) i .parent) above ⌝ }
+    ensures { λ r. ⌜ Level (now (t .entry)) i r × (r ≡ 0 → chained (now (t .entry)) i ≡ false) ⌝ }
 {
-    if !used(t, i) {
-        return true;
+    if above != 0 {
+        if above < 9 {
+            return above + 1;
+        }
     }
     let mut nothing = [0u8; 1];
     let up = walk(t, i, DEEPEST, &mut nothing[..0]);
     match up {
-        Walk::Lost => false,
-        Walk::Root(_) => true,
+        Walk::Lost => 0,
+        Walk::Root(_) => 9,
     }
 }
 
@@ -97,10 +100,17 @@ pub fn all_chained(t: &[u8]) -> bool
     requires { ⌜ Short (now t) ⌝ }
     ensures { λ r. ⌜ r ≡ every (chained (now (t .entry))) slots 0 ⌝ }
 {
+    let mut levels = [0u8; 128];
+    levels[0] = 1;
     let mut i = 0;
     while i < SLOTS {
-        if !in_time(t, i) {
-            return false;
+        if used(t, i) {
+            let p = parent(t, i);
+            let level = level_of(t, i, levels[p]);
+            if level == 0 {
+                return false;
+            }
+            levels[i] = level;
         }
         i += 1;
     }
