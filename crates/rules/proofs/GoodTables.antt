@@ -32,13 +32,13 @@ pub record Good (t : Table) : Type 0 where
 
 -- ── from the test to the places ──
 
-distinct-is : (t : Table) → distinct t ≡ apart clash t
+pub distinct-is : (t : Table) → distinct t ≡ apart clash t
 unfolding distinct apart
 distinct-is [] = refl
 distinct-is (none ∷ t) = distinct-is t
 distinct-is (some n ∷ t) = ap (λ (b : Bool). not (has (clash n) t) && b) (distinct-is t)
 
-node-at : (t : Table) (k : ℕ) (ss : Table) → goodNodes t k ss ≡ true → (i : ℕ) → i < length ss → goodNode t (k + i) (getD ss i none) ≡ true
+pub node-at : (t : Table) (k : ℕ) (ss : Table) → goodNodes t k ss ≡ true → (i : ℕ) → i < length ss → goodNode t (k + i) (getD ss i none) ≡ true
 unfolding goodNodes
 node-at t k [] h i l = absurd (omega arith)
 node-at t k (s ∷ ss) h zero l = rw add-zero (and-eq-true-iff (goodNode t k s) (goodNodes t (suc k) ss) .0 h .0)
@@ -47,7 +47,7 @@ node-at t k (s ∷ ss) h (suc i) l = rw (suc-shift k i) at (node-at t (suc k) ss
     suc-shift : (k i : ℕ) → suc k + i ≡ k + suc i
     suc-shift k i = omega arith
 
-at-node : (t : Table) (k : ℕ) (ss : Table) → ((i : ℕ) → i < length ss → goodNode t (k + i) (getD ss i none) ≡ true) → goodNodes t k ss ≡ true
+pub at-node : (t : Table) (k : ℕ) (ss : Table) → ((i : ℕ) → i < length ss → goodNode t (k + i) (getD ss i none) ≡ true) → goodNodes t k ss ≡ true
 unfolding goodNodes
 at-node t k [] h = refl
 at-node t k (s ∷ ss) h =

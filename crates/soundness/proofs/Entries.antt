@@ -1,0 +1,236 @@
+-- The entries of a slot against the rule book, as numbers.
+use mathlib.Core.Path.{_≡_, refl, sym, ap, ap₂, _∙_}
+use mathlib.Core.Bool.{Bool, true, false, _&&_, and-comm}
+use mathlib.Core.List.{List, [], _∷_}
+use Prim.Native.Nat.{ℕ, zero, suc, _+_, _*_, _-_, _/_, _%_, _^_, _≤_, _<_}
+use native.Mathlib.Nat.{add-assoc, lt-of-le-of-lt}
+use native.Mathlib.Omega.{arith}
+use lib.ListN.{length, getD, take}
+use lib.Dec.{eqb, leb}
+use borrow.Author.Tests.{eq-eqb, eqb-true, le-leb, leb-true}
+use Rattle.rules.specs.Octets.{Octets, field, bitsAt, pack, packFrom}
+use Rattle.rules.specs.Node.{Entry}
+use Rattle.rules.specs.Layout.{entryAt, entryBits}
+use Rattle.rules.specs.Sound.{goodEntries}
+use Rattle.rules.proofs.Compare.{both-true}
+use Rattle.rules.proofs.Fields.{field-split, field-two, field-one}
+use Rattle.rules.proofs.Reencoding.{both-ways}
+use Rattle.soundness.specs.Parts.{lowDomains}
+use Rattle.soundness.proofs.Tests.{both}
+
+-- the entries of nine bytes that a count says
+abbrev pub counted : ℕ → ℕ → List Entry
+counted m c = entryAt m 3 ∷ take (c - 1) (entryAt m 2 ∷ entryAt m 1 ∷ entryAt m 0 ∷ [])
+
+-- the four domains are no higher than the last
+abbrev pub low : ℕ → ℕ → ℕ → ℕ → Bool
+low a b c d = leb a 32751 && (leb b 32751 && (leb c 32751 && leb d 32751))
+
+record Low (a b c d : ℕ) : Type 0 where
+  first : a ≤ 32751
+  second : b ≤ 32751
+  third : c ≤ 32751
+  fourth : d ≤ 32751
+
+is-low : (a b c d : ℕ) → a ≤ 32751 → b ≤ 32751 → c ≤ 32751 → d ≤ 32751 → low a b c d ≡ true
+is-low a b c d p q r s = both (le-leb a 32751 p) (both (le-leb b 32751 q) (both (le-leb c 32751 r) (le-leb d 32751 s)))
+
+low-is : (a b c d : ℕ) → low a b c d ≡ true → Low a b c d
+low-is a b c d e =
+    let p = both-true (leb a 32751) (leb b 32751 && (leb c 32751 && leb d 32751)) e in
+    let q = both-true (leb b 32751) (leb c 32751 && leb d 32751) (p .1) in
+    let r = both-true (leb c 32751) (leb d 32751) (q .1) in
+    record { first = leb-true a 32751 (p .0); second = leb-true b 32751 (q .0); third = leb-true c 32751 (r .0); fourth = leb-true d 32751 (r .1) }
+
+-- the domain of the entry with k more after it
+abbrev dom : ℕ → ℕ → ℕ
+dom m k = m / 2 ^ (18 * k) % 65536
+
+abbrev packed : ℕ → ℕ → ℕ
+packed m c = pack (entryBits 4 (counted m c))
+
+abbrev lows : ℕ → Bool
+lows m = low (dom m 3) (dom m 2) (dom m 1) (m % 65536)
+
+-- an entry as a number of 18 bits
+word : Entry → ℕ
+word e = e .access * 65536 + e .domain
+
+module _ (a b c d : Entry) where
+  pack-one : pack (entryBits 4 (a ∷ [])) ≡ word a * 2 ^ 54
+  unfolding pack packFrom entryBits word
+  pack-one = omega arith
+
+  pack-two : pack (entryBits 4 (a ∷ b ∷ [])) ≡ word a * 2 ^ 54 + word b * 2 ^ 36
+  unfolding pack packFrom entryBits word
+  pack-two = omega arith
+
+  pack-three : pack (entryBits 4 (a ∷ b ∷ c ∷ [])) ≡ word a * 2 ^ 54 + word b * 2 ^ 36 + word c * 2 ^ 18
+  unfolding pack packFrom entryBits word
+  pack-three = omega arith
+
+  pack-four : pack (entryBits 4 (a ∷ b ∷ c ∷ d ∷ [])) ≡ word a * 2 ^ 54 + word b * 2 ^ 36 + word c * 2 ^ 18 + word d
+  unfolding pack packFrom entryBits word
+  pack-four = omega arith
+
+module _ (m : ℕ) where
+  word-three : word (entryAt m 3) ≡ m / 2 ^ 54 % 2 ^ 18
+  unfolding word entryAt bitsAt
+  word-three = omega arith
+
+  word-two : word (entryAt m 2) ≡ m / 2 ^ 36 % 2 ^ 18
+  unfolding word entryAt bitsAt
+  word-two = omega arith
+
+  word-one : word (entryAt m 1) ≡ m / 2 ^ 18 % 2 ^ 18
+  unfolding word entryAt bitsAt
+  word-one = omega arith
+
+  word-none : word (entryAt m 0) ≡ m % 2 ^ 18
+  unfolding word entryAt bitsAt
+  word-none = omega arith
+
+-- a number of 72 bits from its words
+module _ (m : ℕ) (b : m < 256 ^ 9) where
+  two-words : m / 2 ^ 54 % 2 ^ 18 * 2 ^ 54 + m / 2 ^ 36 % 2 ^ 18 * 2 ^ 36 + m % 2 ^ 36 ≡ m
+  two-words = omega arith
+
+  lower : m / 2 ^ 18 % 2 ^ 18 * 2 ^ 18 + m % 2 ^ 18 ≡ m % 2 ^ 36
+  lower = omega arith
+
+  three-words : m / 2 ^ 54 % 2 ^ 18 * 2 ^ 54 + m / 2 ^ 36 % 2 ^ 18 * 2 ^ 36 + m / 2 ^ 18 % 2 ^ 18 * 2 ^ 18 + m % 2 ^ 18 ≡ m
+  three-words =
+      let upper = m / 2 ^ 54 % 2 ^ 18 * 2 ^ 54 + m / 2 ^ 36 % 2 ^ 18 * 2 ^ 36 in
+      add-assoc upper (m / 2 ^ 18 % 2 ^ 18 * 2 ^ 18) (m % 2 ^ 18) ∙ ap (λ (n : ℕ). upper + n) lower ∙ two-words
+
+  none-left : (n : ℕ) → n + m % 1 ≡ n
+  none-left n = omega arith
+
+-- what the entries that count leave of the number
+packed-past : (m c : ℕ) → m < 256 ^ 9 → 1 ≤ c → c ≤ 4 → packed m c + m % 2 ^ (18 * (4 - c)) ≡ m
+packed-past m zero b h k = absurd (omega arith)
+packed-past m (suc zero) b h k = rw (pack-one (entryAt m 3) (entryAt m 2) (entryAt m 1) (entryAt m 0), word-three m) (omega arith)
+packed-past m (suc (suc zero)) b h k = rw (pack-two (entryAt m 3) (entryAt m 2) (entryAt m 1) (entryAt m 0), word-three m, word-two m) (two-words m b)
+packed-past m (suc (suc (suc zero))) b h k = rw (pack-three (entryAt m 3) (entryAt m 2) (entryAt m 1) (entryAt m 0), word-three m, word-two m, word-one m) (three-words m b)
+packed-past m (suc (suc (suc (suc zero)))) b h k = rw (pack-four (entryAt m 3) (entryAt m 2) (entryAt m 1) (entryAt m 0), word-three m, word-two m, word-one m, word-none m) (none-left m b _ ∙ three-words m b)
+packed-past m (suc (suc (suc (suc (suc c))))) b h k = absurd (omega arith)
+
+-- the entries that count are good and what is past them is zero: by the number's parts
+pub entries-parts : (m c : ℕ) → m < 256 ^ 9 → 1 ≤ c → c ≤ 4 →
+    eqb (pack (entryBits 4 (counted m c))) m && goodEntries (counted m c)
+    ≡ eqb (m % 2 ^ (18 * (4 - c))) 0 && low (m / 2 ^ 54 % 65536) (m / 2 ^ 36 % 65536) (m / 2 ^ 18 % 65536) (m % 65536)
+unfolding goodEntries entryAt bitsAt
+entries-parts m zero b h k = absurd (omega arith)
+entries-parts m (suc zero) b h k =
+    let whole = packed-past m 1 b h k in
+    both-ways
+    (λ p.
+    let q = both-true (eqb (packed m 1) m) (goodEntries (counted m 1)) p in
+    let e : m % 2 ^ (18 * (4 - 1)) ≡ 0 = omega (arith, eqb-true (packed m 1) m (q .0)) in
+    let g0 = both-true (leb (dom m 3) 32751) (true) (q .1) in
+    both (eq-eqb (m % 2 ^ (18 * (4 - 1))) 0 e) (is-low (dom m 3) (dom m 2) (dom m 1) (m % 65536) (leb-true (dom m 3) 32751 (g0 .0)) (omega (arith, e)) (omega (arith, e)) (omega (arith, e))))
+    (λ p.
+    let q = both-true (eqb (m % 2 ^ (18 * (4 - 1))) 0) (lows m) p in
+    let e : packed m 1 ≡ m = omega (arith, eqb-true (m % 2 ^ (18 * (4 - 1))) 0 (q .0)) in
+    let l = low-is (dom m 3) (dom m 2) (dom m 1) (m % 65536) (q .1) in
+    both (eq-eqb (packed m 1) m e) (both (le-leb (dom m 3) 32751 (l .first)) refl))
+entries-parts m (suc (suc zero)) b h k =
+    let whole = packed-past m 2 b h k in
+    both-ways
+    (λ p.
+    let q = both-true (eqb (packed m 2) m) (goodEntries (counted m 2)) p in
+    let e : m % 2 ^ (18 * (4 - 2)) ≡ 0 = omega (arith, eqb-true (packed m 2) m (q .0)) in
+    let g0 = both-true (leb (dom m 3) 32751) (leb (dom m 2) 32751 && true) (q .1) in
+    let g1 = both-true (leb (dom m 2) 32751) (true) (g0 .1) in
+    both (eq-eqb (m % 2 ^ (18 * (4 - 2))) 0 e) (is-low (dom m 3) (dom m 2) (dom m 1) (m % 65536) (leb-true (dom m 3) 32751 (g0 .0)) (leb-true (dom m 2) 32751 (g1 .0)) (omega (arith, e)) (omega (arith, e))))
+    (λ p.
+    let q = both-true (eqb (m % 2 ^ (18 * (4 - 2))) 0) (lows m) p in
+    let e : packed m 2 ≡ m = omega (arith, eqb-true (m % 2 ^ (18 * (4 - 2))) 0 (q .0)) in
+    let l = low-is (dom m 3) (dom m 2) (dom m 1) (m % 65536) (q .1) in
+    both (eq-eqb (packed m 2) m e) (both (le-leb (dom m 3) 32751 (l .first)) (both (le-leb (dom m 2) 32751 (l .second)) refl)))
+entries-parts m (suc (suc (suc zero))) b h k =
+    let whole = packed-past m 3 b h k in
+    both-ways
+    (λ p.
+    let q = both-true (eqb (packed m 3) m) (goodEntries (counted m 3)) p in
+    let e : m % 2 ^ (18 * (4 - 3)) ≡ 0 = omega (arith, eqb-true (packed m 3) m (q .0)) in
+    let g0 = both-true (leb (dom m 3) 32751) (leb (dom m 2) 32751 && (leb (dom m 1) 32751 && true)) (q .1) in
+    let g1 = both-true (leb (dom m 2) 32751) (leb (dom m 1) 32751 && true) (g0 .1) in
+    let g2 = both-true (leb (dom m 1) 32751) (true) (g1 .1) in
+    both (eq-eqb (m % 2 ^ (18 * (4 - 3))) 0 e) (is-low (dom m 3) (dom m 2) (dom m 1) (m % 65536) (leb-true (dom m 3) 32751 (g0 .0)) (leb-true (dom m 2) 32751 (g1 .0)) (leb-true (dom m 1) 32751 (g2 .0)) (omega (arith, e))))
+    (λ p.
+    let q = both-true (eqb (m % 2 ^ (18 * (4 - 3))) 0) (lows m) p in
+    let e : packed m 3 ≡ m = omega (arith, eqb-true (m % 2 ^ (18 * (4 - 3))) 0 (q .0)) in
+    let l = low-is (dom m 3) (dom m 2) (dom m 1) (m % 65536) (q .1) in
+    both (eq-eqb (packed m 3) m e) (both (le-leb (dom m 3) 32751 (l .first)) (both (le-leb (dom m 2) 32751 (l .second)) (both (le-leb (dom m 1) 32751 (l .third)) refl))))
+entries-parts m (suc (suc (suc (suc zero)))) b h k =
+    let whole = packed-past m 4 b h k in
+    both-ways
+    (λ p.
+    let q = both-true (eqb (packed m 4) m) (goodEntries (counted m 4)) p in
+    let e : m % 2 ^ (18 * (4 - 4)) ≡ 0 = omega (arith, eqb-true (packed m 4) m (q .0)) in
+    let g0 = both-true (leb (dom m 3) 32751) (leb (dom m 2) 32751 && (leb (dom m 1) 32751 && (leb (dom m 0) 32751 && true))) (q .1) in
+    let g1 = both-true (leb (dom m 2) 32751) (leb (dom m 1) 32751 && (leb (dom m 0) 32751 && true)) (g0 .1) in
+    let g2 = both-true (leb (dom m 1) 32751) (leb (dom m 0) 32751 && true) (g1 .1) in
+    let g3 = both-true (leb (dom m 0) 32751) (true) (g2 .1) in
+    both (eq-eqb (m % 2 ^ (18 * (4 - 4))) 0 e) (is-low (dom m 3) (dom m 2) (dom m 1) (m % 65536) (leb-true (dom m 3) 32751 (g0 .0)) (leb-true (dom m 2) 32751 (g1 .0)) (leb-true (dom m 1) 32751 (g2 .0)) (omega (arith, leb-true (dom m 0) 32751 (g3 .0)))))
+    (λ p.
+    let q = both-true (eqb (m % 2 ^ (18 * (4 - 4))) 0) (lows m) p in
+    let e : packed m 4 ≡ m = omega (arith, eqb-true (m % 2 ^ (18 * (4 - 4))) 0 (q .0)) in
+    let l = low-is (dom m 3) (dom m 2) (dom m 1) (m % 65536) (q .1) in
+    both (eq-eqb (packed m 4) m e) (both (le-leb (dom m 3) 32751 (l .first)) (both (le-leb (dom m 2) 32751 (l .second)) (both (le-leb (dom m 1) 32751 (l .third)) (both (le-leb (dom m 0) 32751 (omega (arith, l .fourth))) refl)))))
+entries-parts m (suc (suc (suc (suc (suc c))))) b h k = absurd (omega arith)
+
+-- ── the bytes of the entries ──
+
+pub field-four : (t : Octets) (at : ℕ) → at + 4 ≤ length t →
+    field t at 4 ≡ getD t at 0 * 16777216 + getD t (at + 1) 0 * 65536 + getD t (at + 2) 0 * 256 + getD t (at + 3) 0
+field-four t at h =
+    field-split t at 2 2 (omega arith)
+    ∙ rw (field-two t at (omega arith), field-two t (at + 2) (omega arith), add-assoc at 2 1) (omega arith)
+
+pub field-eight : (t : Octets) (at : ℕ) → at + 8 ≤ length t → field t at 8 ≡ field t at 4 * 4294967296 + field t (at + 4) 4
+field-eight t at h = field-split t at 4 4 (omega arith)
+
+-- the entries that count, as one number
+pub packed-bound : (m c : ℕ) → m < 256 ^ 9 → 1 ≤ c → c ≤ 4 → pack (entryBits 4 (counted m c)) < 256 ^ 9
+packed-bound m c b h k = lt-of-le-of-lt (fewer (packed m c) (m % 2 ^ (18 * (4 - c))) m (packed-past m c b h k)) b
+  where
+    fewer : (a r m : ℕ) → a + r ≡ m → a ≤ m
+    fewer a r m e = omega arith
+
+-- the same by the first byte and the eight others
+pub entries-low : (m c first rest : ℕ) → m < 256 ^ 9 → 1 ≤ c → c ≤ 4 → rest < 256 ^ 8 → m ≡ first * 256 ^ 8 + rest →
+    eqb (pack (entryBits 4 (counted m c))) m && goodEntries (counted m c) ≡ lowDomains first rest && eqb (rest % 2 ^ (18 * (4 - c))) 0
+unfolding lowDomains
+entries-low m c first rest b h k r e =
+    entries-parts m c b h k
+    ∙ rw (past c h k, domain-three, domain-two, domain-one, domain-none)
+    (and-comm (eqb (rest % 2 ^ (18 * (4 - c))) 0) (low ((first * 1024 + rest / 2 ^ 54) % 65536) (rest / 2 ^ 36 % 65536) (rest / 2 ^ 18 % 65536) (rest % 65536)))
+  where
+    past : (c : ℕ) → 1 ≤ c → c ≤ 4 → m % 2 ^ (18 * (4 - c)) ≡ rest % 2 ^ (18 * (4 - c))
+    past zero h k = absurd (omega arith)
+    past (suc zero) h k = omega arith
+    past (suc (suc zero)) h k = omega arith
+    past (suc (suc (suc zero))) h k = omega arith
+    past (suc (suc (suc (suc zero)))) h k = omega arith
+    past (suc (suc (suc (suc (suc c))))) h k = absurd (omega arith)
+
+    domain-three : m / 2 ^ 54 % 65536 ≡ (first * 1024 + rest / 2 ^ 54) % 65536
+    domain-three = omega arith
+
+    domain-two : m / 2 ^ 36 % 65536 ≡ rest / 2 ^ 36 % 65536
+    domain-two = omega arith
+
+    domain-one : m / 2 ^ 18 % 65536 ≡ rest / 2 ^ 18 % 65536
+    domain-one = omega arith
+
+    domain-none : m % 65536 ≡ rest % 65536
+    domain-none = omega arith
+
+-- what is past a count that is known
+pub past-count : {count k : ℕ} (rest : ℕ) → count ≡ k → eqb (rest % 2 ^ (18 * (4 - k))) 0 ≡ eqb (rest % 2 ^ (18 * (4 - count))) 0
+past-count rest e = ap (λ (n : ℕ). eqb (rest % 2 ^ (18 * (4 - n))) 0) (sym e)
+
+pub past-none : (rest : ℕ) {count : ℕ} → count ≡ 4 → true ≡ eqb (rest % 2 ^ (18 * (4 - count))) 0
+past-none rest e = sym (ap (λ (n : ℕ). eqb (rest % 2 ^ (18 * (4 - n))) 0) e ∙ eq-eqb (rest % 1) 0 (omega arith))

@@ -1,0 +1,111 @@
+-- Keys: siblings with one name share one, so what differs in keys does not clash.
+use mathlib.Core.Path.{_≡_, refl, sym, ap, ap₂, _∙_}
+use mathlib.Core.Bool.{Bool, true, false, true≢false, false≢true, cond, not, _&&_, _||_, and-comm, or-true}
+use mathlib.Core.List.{List, [], _∷_}
+use mathlib.Core.Option.{Option, none, some}
+use Prim.Native.Nat.{ℕ, zero, suc, _+_, _*_, _-_, _%_, _≤_, _<_}
+use native.Mathlib.Nat.{mod-lt}
+use native.Mathlib.Numerals.{add-one}
+use native.Mathlib.Omega.{arith}
+use native.Mathlib.Decide.{ℕ-discrete}
+use lib.ListN.{length, getD, set}
+use lib.Seq.{getD-set-same, getD-set-other}
+use lib.Dec.{eqb, ltb}
+use borrow.Author.Tests.{eq-eqb, ne-eqb, eqb-true, eqb-false, lt-ltb, le-ltb}
+use Rattle.rules.specs.Size.{slots}
+use Rattle.rules.specs.Octets.{Octets, same}
+use Rattle.rules.specs.Node.{Node, Table, nodeAt}
+use Rattle.rules.specs.Layout.{tableOf}
+use Rattle.rules.specs.Sound.{clash, distinct}
+use Rattle.rules.proofs.Compare.{both-true, same-eq}
+use Rattle.rules.proofs.Places.{At, at-below, is-false, some-is}
+use Rattle.rules.proofs.Slots.{length-tableOf}
+use Rattle.slots.specs.Slot.{slotAt, isUsed}
+use Rattle.slots.proofs.Reading.{node-some}
+use Rattle.soundness.specs.Keys.{digestOf, keyOf, listed}
+use Rattle.soundness.proofs.WalkLaws.{used-some}
+
+-- ── the digest ──
+
+pub digest-small : (s : Octets) → length s < 2 → getD s 0 0 % 256 ≡ digestOf s
+unfolding digestOf
+digest-small s h = rw (lt-ltb (length s) 2 h) refl
+
+pub digest-large : (s : Octets) → 2 ≤ length s → (getD s 0 0 * 7 + getD s (length s - 1) 0 + getD s (length s - 2) 0 * 16 + length s * 5) % 256 ≡ digestOf s
+unfolding digestOf
+digest-large s h = rw (le-ltb (length s) 2 h) refl
+
+pub digest-bound : (s : Octets) → digestOf s < 256
+unfolding digestOf
+digest-bound s = by (ltb (length s) 2)
+  where
+    by : (b : Bool) → cond b (getD s 0 0 % 256) ((getD s 0 0 * 7 + getD s (length s - 1) 0 + getD s (length s - 2) 0 * 16 + length s * 5) % 256) < 256
+    by true = mod-lt _ (omega arith)
+    by false = mod-lt _ (omega arith)
+
+-- ── keys ──
+
+pub key-none : (x : Option Node) → isUsed x ≡ false → 0 ≡ keyOf x
+unfolding keyOf
+key-none none e = refl
+key-none (some n) e = absurd (true≢false e)
+
+pub key-some : (t : Octets) (i p d : ℕ) (s : Octets) → isUsed (slotAt t i) ≡ true → p ≡ nodeAt (tableOf t) i .parent → s ≡ nodeAt (tableOf t) i .name → d ≡ digestOf s →
+    32768 + p * 256 + d ≡ keyOf (slotAt t i)
+unfolding keyOf
+key-some t i p d s u ep es ed =
+    let x = used-some (slotAt t i) u in
+    let n = node-some (tableOf t) i (x .0) (x .1) in
+    rw (x .1, ep, ed, es, n) refl
+
+pub key-used : (x : Option Node) (k : ℕ) → k ≡ keyOf x → (k ≡ 0 → ⊥) → isUsed x ≡ true
+unfolding keyOf
+key-used none k e h = absurd (h e)
+key-used (some n) k e h = refl
+
+pub key-positive : (n : Node) → keyOf (some n) ≡ 0 → ⊥
+unfolding keyOf
+key-positive n e = omega (arith, e)
+
+clash-parts : (n m : Node) → clash n m ≡ true → (n .parent ≡ m .parent) × (n .name ≡ m .name)
+unfolding clash
+clash-parts n m e =
+    let p = both-true (eqb (n .parent) (m .parent)) (same (n .name) (m .name)) e in
+    (eqb-true (n .parent) (m .parent) (p .0), same-eq (n .name) (m .name) (p .1))
+
+pub clash-keys : (n m : Node) → clash n m ≡ true → keyOf (some n) ≡ keyOf (some m)
+unfolding keyOf
+clash-keys n m e =
+    let p = clash-parts n m e in
+    rw (p .0, p .1) refl
+
+pub keys-parents : (n m : Node) → keyOf (some n) ≡ keyOf (some m) → n .parent ≡ m .parent
+unfolding keyOf
+keys-parents n m e = omega (arith, e, digest-bound (n .name), digest-bound (m .name))
+
+-- ── keys that are listed ──
+
+pub listed-next : (k : ℕ) (xs : List ℕ) (n : ℕ) {hit : Bool} → hit ≡ listed k xs n → (hit || eqb (getD xs n 0) k) ≡ listed k xs (n + 1)
+unfolding listed
+listed-next k xs n e = rw (add-one n, e) refl
+
+pub listed-at : (k : ℕ) (xs : List ℕ) (n j : ℕ) → j < n → getD xs j 0 ≡ k → listed k xs n ≡ true
+unfolding listed
+listed-at k xs zero j h e = absurd (omega arith)
+listed-at k xs (suc n) j h e = by (ℕ-discrete j n) (λ l. listed-at k xs n j l e)
+  where
+    by : Dec (j ≡ n) → (j < n → listed k xs n ≡ true) → (listed k xs n || eqb (getD xs n 0) k) ≡ true
+    by (yes q) f = rw (eq-eqb (getD xs n 0) k (ap (λ (m : ℕ). getD xs m 0) (sym q) ∙ e)) (or-true (listed k xs n))
+    by (no q) f = rw (f (omega arith)) refl
+
+pub among-ended : (k : ℕ) (xs : List ℕ) (n : ℕ) {hit : Bool} → hit ≡ listed k xs n → n ≡ slots → (hit && not (eqb k 0)) ≡ not (eqb k 0) && listed k xs slots
+among-ended k xs n {hit} e h = and-comm hit (not (eqb k 0)) ∙ ap (λ (b : Bool). not (eqb k 0) && b) (e ∙ ap (listed k xs) h)
+
+pub digest-none : (s : Octets) → length s ≡ 0 → 0 ≡ digestOf s
+unfolding digestOf
+digest-none [] e = refl
+digest-none (c ∷ s) e = absurd (omega (arith, e))
+
+-- a key that is among others is not 0
+pub among-used : {r : Bool} (k : ℕ) (xs : List ℕ) → r ≡ not (eqb k 0) && listed k xs slots → r ≡ true → k ≡ 0 → ⊥
+among-used k xs e f z = true≢false (sym (both-true (not (eqb k 0)) (listed k xs slots) (sym e ∙ f) .0) ∙ ap not (eq-eqb k 0 z))

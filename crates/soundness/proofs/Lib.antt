@@ -1,0 +1,9 @@
+pub mod Tests
+pub mod Entries
+pub mod NameLaws
+pub mod SlotLaws
+pub mod WalkLaws
+pub mod PathTexts
+pub mod KeyLaws
+pub mod PairLaws
+pub mod TableLaws

@@ -1,0 +1,102 @@
+-- Pairs of slots: which were seen to be apart, and what a pair that clashes decides.
+use mathlib.Core.Path.{_≡_, refl, sym, ap, ap₂, _∙_}
+use mathlib.Core.Bool.{Bool, true, false, true≢false, not, _&&_, and-false}
+use mathlib.Core.List.{List}
+use mathlib.Core.Option.{Option, none, some}
+use Prim.Native.Nat.{ℕ, _+_, _≤_, _<_}
+use native.Mathlib.Omega.{arith}
+use native.Mathlib.Decide.{ℕ-discrete}
+use lib.ListN.{length, getD, set, length-set}
+use lib.Seq.{getD-set-same, getD-set-other}
+use lib.Dec.{eqb}
+use borrow.Author.Tests.{eq-eqb, ne-eqb}
+use Rattle.rules.specs.Size.{slots}
+use Rattle.rules.specs.Octets.{Octets, same}
+use Rattle.rules.specs.Node.{Node, nodeAt}
+use Rattle.rules.specs.Layout.{tableOf}
+use Rattle.rules.specs.Sound.{clash, distinct}
+use Rattle.rules.proofs.Places.{At, at-below, is-false, apart-at, at-apart}
+use Rattle.rules.proofs.Slots.{length-tableOf}
+use Rattle.rules.proofs.GoodTables.{distinct-is}
+use Rattle.slots.specs.Slot.{slotAt, isUsed}
+use Rattle.slots.proofs.Reading.{node-some}
+use Rattle.soundness.specs.Keys.{keyOf, listed}
+use Rattle.soundness.proofs.Tests.{both}
+use Rattle.soundness.proofs.WalkLaws.{used-some}
+use Rattle.soundness.proofs.KeyLaws.{key-used, key-positive, clash-keys, keys-parents, listed-at}
+
+-- the first i of the keys are the slots'
+pub record Keyed (t : Octets) (keys : List ℕ) (i : ℕ) : Type 0 where
+  pub long : length keys ≡ slots
+  pub each : (j : ℕ) → j < i → getD keys j 0 ≡ keyOf (slotAt t j)
+
+pub keyed-next : (t : Octets) (keys : List ℕ) (i k : ℕ) → i < slots → k ≡ keyOf (slotAt t i) → Keyed t keys i → Keyed t (set keys i k) (i + 1)
+keyed-next t keys i k h e s = record { long = length-set keys i k ∙ s .long; each = λ j l. by j l (ℕ-discrete j i) }
+  where
+    by : (j : ℕ) → j < i + 1 → Dec (j ≡ i) → getD (set keys i k) j 0 ≡ keyOf (slotAt t j)
+    by j l (yes q) = rw q (getD-set-same keys i k 0 (omega (arith, s .long)) ∙ e)
+    by j l (no q) = getD-set-other keys i j k 0 q ∙ s .each j (omega arith)
+
+-- no two of the first i slots clash
+abbrev pub Apart : Octets → ℕ → Type 0
+Apart t i = (a b : ℕ) (n m : Node) → a < b → b < i → At (tableOf t) a n → At (tableOf t) b m → clash n m ≡ false
+
+-- slot i clashes with none of the first j
+abbrev pub Row : Octets → ℕ → ℕ → Type 0
+Row t i j = (a : ℕ) (n m : Node) → a < j → At (tableOf t) a n → At (tableOf t) i m → clash n m ≡ false
+
+pub apart-next : (t : Octets) (i : ℕ) → Apart t i → Row t i i → Apart t (i + 1)
+apart-next t i f r a b n m l h p q = by (ℕ-discrete b i)
+  where
+    by : Dec (b ≡ i) → clash n m ≡ false
+    by (yes e) = r a n m (omega arith) p (rw e at q)
+    by (no e) = f a b n m l (omega arith) p q
+
+row-next : (t : Octets) (i j : ℕ) → Row t i j → ((n m : Node) → At (tableOf t) j n → At (tableOf t) i m → clash n m ≡ false) → Row t i (j + 1)
+row-next t i j r f a n m h p q = by (ℕ-discrete a j)
+  where
+    by : Dec (a ≡ j) → clash n m ≡ false
+    by (yes e) = f n m (rw e at p) q
+    by (no e) = r a n m (omega arith) p q
+
+-- slots whose keys differ
+pub row-differ : (t : Octets) (keys : List ℕ) (i j k : ℕ) → Keyed t keys i → k ≡ keyOf (slotAt t i) → j < i → (getD keys j 0 ≡ k → ⊥) → Row t i j → Row t i (j + 1)
+row-differ t keys i j k s e h d r =
+    row-next t i j r λ n m p q. is-false (clash n m) λ c. d (s .each j h ∙ ap keyOf p ∙ clash-keys n m c ∙ sym (e ∙ ap keyOf q))
+
+-- slots whose names differ
+pub row-names : (t : Octets) (i j : ℕ) → same (nodeAt (tableOf t) j .name) (nodeAt (tableOf t) i .name) ≡ false → Row t i j → Row t i (j + 1)
+unfolding clash
+row-names t i j d r =
+    row-next t i j r λ n m p q.
+    ap (λ (b : Bool). eqb (n .parent) (m .parent) && b) (sym (ap₂ (λ (x y : Node). same (x .name) (y .name)) (node-some (tableOf t) j n p) (node-some (tableOf t) i m q)) ∙ d)
+    ∙ and-false (eqb (n .parent) (m .parent))
+
+-- a slot whose key is not among the others'
+pub row-new : (t : Octets) (keys : List ℕ) (i k : ℕ) → Keyed t keys i → i < slots → k ≡ keyOf (slotAt t i) → (not (eqb k 0) && listed k keys slots) ≡ false → Row t i i
+row-new t keys i k s h e f a n m l p q = is-false (clash n m) λ c.
+    let z : k ≡ 0 → ⊥ = λ x. key-positive m (sym (e ∙ ap keyOf q) ∙ x) in
+    let same-key : getD keys a 0 ≡ k = s .each a l ∙ ap keyOf p ∙ clash-keys n m c ∙ sym (e ∙ ap keyOf q) in
+    true≢false (sym (both (ap not (ne-eqb k 0 z)) (listed-at k keys slots a (omega arith) same-key)) ∙ f)
+
+pub all-apart : (t : Octets) (i : ℕ) → slots ≤ i → Apart t i → true ≡ distinct (tableOf t)
+all-apart t i h f =
+    sym (distinct-is (tableOf t) ∙ at-apart clash (tableOf t) (λ a b n m l p q. f a b n m l (omega (arith, at-below (tableOf t) b m q, length-tableOf t)) p q))
+
+-- two slots that clash
+pub pair-found : (t : Octets) (keys : List ℕ) (i j k : ℕ) → Keyed t keys i → k ≡ keyOf (slotAt t i) → (k ≡ 0 → ⊥) → j < i → getD keys j 0 ≡ k
+    → same (nodeAt (tableOf t) j .name) (nodeAt (tableOf t) i .name) ≡ true → false ≡ distinct (tableOf t)
+unfolding clash
+pair-found t keys i j k s e z h d f =
+    let x = used-some (slotAt t j) (key-used (slotAt t j) k (sym d ∙ s .each j h) z) in
+    let y = used-some (slotAt t i) (key-used (slotAt t i) k e z) in
+    let n = x .0 in
+    let m = y .0 in
+    let parents = keys-parents n m (sym (s .each j h ∙ ap keyOf (x .1)) ∙ d ∙ e ∙ ap keyOf (y .1)) in
+    let names : same (n .name) (m .name) ≡ true =
+    sym (ap₂ (λ (a b : Node). same (a .name) (b .name)) (node-some (tableOf t) j n (x .1)) (node-some (tableOf t) i m (y .1))) ∙ f in
+    sym (is-false (distinct (tableOf t)) λ g.
+    true≢false (sym (both (eq-eqb (n .parent) (m .parent) parents) names) ∙ apart-at clash (tableOf t) (sym (distinct-is (tableOf t)) ∙ g) j i n m h (x .1) (y .1)))
+
+pub row-whole : (t : Octets) (i j : ℕ) → j ≤ i → i ≤ j → Row t i j → Row t i i
+row-whole t i j h l r a n m k p q = r a n m (omega arith) p q

@@ -1,0 +1,276 @@
+-- What is asked of a slot by itself, part by part.
+use mathlib.Core.Path.{_≡_, refl, sym, ap, ap₂, _∙_}
+use mathlib.Core.Bool.{Bool, true, false, true≢false, cond, not, _&&_, and-true, and-false, and-comm, and-assoc}
+use mathlib.Core.List.{List, [], _∷_, _++_}
+use mathlib.Core.Option.{Option, none, some}
+use Prim.Native.Nat.{ℕ, zero, suc, _+_, _*_, _-_, _/_, _%_, _^_, _≤_, _<_, min}
+use native.Mathlib.Nat.{mod-lt, min-eq-left, min-le-right, add-assoc, add-sub-cancel-left, sub-zero, zero-sub, suc-sub-suc}
+use native.Mathlib.Omega.{arith}
+use lib.ListN.{length, getD, take, drop, replicate, length-append, length-replicate, length-take, length-drop, take-append-drop}
+use lib.Seq.{take-take, drop-drop, take-all, length-take-le, take-nil, getD-drop}
+use lib.Dec.{eqb, leb}
+use borrow.Author.Tests.{eq-eqb, ne-eqb, eqb-true, le-leb, lt-leb, leb-true}
+use Rattle.rules.specs.Size.{slots, slotSize, tableSize}
+use Rattle.rules.specs.Octets.{Octets, same, allZero, padded, bigEndian, bigFrom, field, bitsAt, pack, packFrom}
+use Rattle.rules.specs.Node.{Node, nodeAt}
+use Rattle.rules.specs.Layout.{slotBytes, nodeBits, entryBits, entryAt, nodeOf, textAt, tableOf}
+use Rattle.rules.specs.Sound.{goodName, goodEntries}
+use Rattle.rules.proofs.Compare.{both-true}
+use Rattle.rules.proofs.Fields.{length-big, take-drop-take, field-part, field-split, field-one, field-bound}
+use Rattle.rules.proofs.Slots.{NodeFits, head-bound}
+use Rattle.rules.proofs.Fitting.{nodeAt-fits, decoded-fits}
+use Rattle.rules.proofs.Reencoding.{both-ways, same-append, same-padded, same-zeros, same-big, bytes-take}
+use Rattle.slots.specs.Slot.{Bytes, slotAt, isUsed, head, nameLength, valueLength, entryCount}
+use Rattle.slots.proofs.Reading.{chunk, meant, head-bytes, used-slot, used-node, used-byte}
+use Rattle.soundness.specs.Parts.{fair, goodSlot, sized, keptEntries, lowDomains, zeroBehind, Used}
+use Rattle.soundness.proofs.Tests.{both}
+use Rattle.soundness.proofs.Entries.{counted, packed-bound, entries-low}
+
+length-padded : (k : ℕ) (xs : Octets) → length xs ≤ k → length (padded k xs) ≡ k
+unfolding padded
+length-padded k xs h = length-append xs (replicate (k - length xs) 0) ∙ rw length-replicate (omega arith)
+
+-- ── sizes ──
+
+pub record Sizes (t : Octets) (i : ℕ) : Type 0 where
+  pub name : nameLength t i ≤ 32
+  pub value : valueLength t i ≤ 64
+  pub some : 1 ≤ entryCount t i
+  pub few : entryCount t i ≤ 4
+
+pub sizes-of : (t : Octets) (i : ℕ) → sized t i ≡ true → Sizes t i
+unfolding sized
+sizes-of t i e =
+    let n = nameLength t i in
+    let v = valueLength t i in
+    let c = entryCount t i in
+    let p = both-true (leb n 32) (leb v 64 && (leb 1 c && leb c 4)) e in
+    let q = both-true (leb v 64) (leb 1 c && leb c 4) (p .1) in
+    let r = both-true (leb 1 c) (leb c 4) (q .1) in
+    record { name = leb-true n 32 (p .0); value = leb-true v 64 (q .0); some = leb-true 1 c (r .0); few = leb-true c 4 (r .1) }
+
+of-sizes : (t : Octets) (i : ℕ) → Sizes t i → sized t i ≡ true
+unfolding sized
+of-sizes t i s = both (le-leb (nameLength t i) 32 (s .name)) (both (le-leb (valueLength t i) 64 (s .value)) (both (le-leb 1 (entryCount t i) (s .some)) (le-leb (entryCount t i) 4 (s .few))))
+
+drop-take : {A : Type 0} (n k : ℕ) (l : List A) → drop n (take k l) ≡ take (k - n) (drop n l)
+drop-take zero k l = rw (sub-zero k) refl
+drop-take (suc n) zero l = rw (zero-sub (suc n)) refl
+drop-take (suc n) (suc k) [] = sym (take-nil (suc k - suc n))
+drop-take (suc n) (suc k) (x ∷ l) = drop-take n k l ∙ ap (λ (m : ℕ). take m (drop n l)) (sym (suc-sub-suc k n))
+
+bytes-drop : (n : ℕ) (t : Octets) → Bytes t → Bytes (drop n t)
+bytes-drop n t b k = rw (getD-drop n t k 0) (b (n + k))
+
+-- lengths and a count that were cut to the sizes, and are the same all the same
+uncut : (n v c : ℕ) → n < 64 → v < 128 → c < 8 → min n 32 * 1024 + min v 64 * 8 + suc (min (c - 1) 3) ≡ n * 1024 + v * 8 + c
+    → (n ≤ 32) × (v ≤ 64) × (1 ≤ c) × (c ≤ 4)
+uncut n v c hn hv hc e = (omega arith, omega arith, omega arith, omega arith)
+
+-- the fields of a used slot's first number
+fields-of : (m : ℕ) → m < 16777216 → 128 ≤ m / 65536 → m ≡ (128 + m / 65536 % 128) * 65536 + bitsAt m 10 6 * 1024 + bitsAt m 3 7 * 8 + bitsAt m 0 3
+unfolding bitsAt
+fields-of m b u = joined m (m / 65536) (m / 65536 % 128) (m % 65536) _ (m % 1024) _ _ (omega arith) (omega arith) (omega arith) (omega arith)
+  where
+    joined : (m q p r n l v c : ℕ) → m ≡ q * 65536 + r → q ≡ 128 + p → r ≡ n * 1024 + l → l ≡ v * 8 + c → m ≡ (128 + p) * 65536 + n * 1024 + v * 8 + c
+    joined m q p r n l v c e f g h = omega arith
+
+aligned : (p n v c a b d x m : ℕ) → m ≡ (128 + p) * 65536 + n * 1024 + v * 8 + c → x ≡ (((128 + p) * 64 + a) * 128 + b) * 8 + suc d → x ≡ m
+    → a * 1024 + b * 8 + suc d ≡ n * 1024 + v * 8 + c
+aligned p n v c a b d x m e f g = omega arith
+
+module _ (t : Octets) (bytes : Bytes t) (whole : length t ≡ tableSize) (i : ℕ) (h : i < slots) where
+  length-chunk : length (chunk t i) ≡ 108
+  length-chunk = length-take-le 108 (drop (i * 108) t) (rw (length-drop (i * 108) t) (omega arith))
+
+  bytes-chunk : Bytes (chunk t i)
+  bytes-chunk = bytes-take 108 (drop (i * 108) t) (bytes-drop (i * 108) t bytes)
+
+  module _ (u : isUsed (slotAt t i) ≡ true) where
+    -- the lengths that the node has
+    name-long : length (meant t i .name) ≡ min (nameLength t i) 32
+    unfolding nodeOf textAt nameLength
+    name-long = length-take _ _ ∙ ap (min (nameLength t i)) (length-take-le 32 (drop 12 (chunk t i)) (rw (length-drop 12 (chunk t i), length-chunk) (omega arith)))
+
+    value-long : length (meant t i .value) ≡ min (valueLength t i) 64
+    unfolding nodeOf textAt valueLength
+    value-long = length-take _ _ ∙ ap (min (valueLength t i)) (length-take-le 64 (drop 44 (chunk t i)) (rw (length-drop 44 (chunk t i), length-chunk) (omega arith)))
+
+    others-few : length (meant t i .others) ≡ min (entryCount t i - 1) 3
+    unfolding nodeOf entryCount
+    others-few = length-take _ _
+
+    number : pack (nodeBits (meant t i)) ≡ (((128 + head t i / 65536 % 128) * 64 + min (nameLength t i) 32) * 128 + min (valueLength t i) 64) * 8 + suc (min (entryCount t i - 1) 3)
+    unfolding nodeOf bitsAt pack packFrom nodeBits
+    number = rw (name-long, value-long, others-few) refl
+
+    bound : head t i < 16777216
+    unfolding head
+    bound = field-bound t bytes 3 (i * 108) (omega arith)
+
+    first : 128 ≤ head t i / 65536
+    first =
+        omega (arith, head-bytes t i (omega arith), bytes (i * 108 + 1), bytes (i * 108 + 2), leb-true 128 (getD t (i * 108) 0) (used-byte t bytes whole i h ∙ u))
+
+    kept-number : Sizes t i → pack (nodeBits (meant t i)) ≡ head t i
+    unfolding nameLength valueLength entryCount
+    kept-number s = number ∙ rw (min-eq-left (s .name), min-eq-left (s .value), min-eq-left {n = entryCount t i - 1} {m = 3} (omega (arith, s .few))) (omega (arith, fields-of (head t i) bound first, s .some))
+
+    -- the fields that the node has are the slot's where they are within the sizes
+    head-part : eqb (pack (nodeBits (meant t i))) (head t i) ≡ sized t i
+    unfolding nameLength valueLength entryCount bitsAt
+    head-part =
+        both-ways
+        (λ p.
+        let e : pack (nodeBits (meant t i)) ≡ head t i = eqb-true (pack (nodeBits (meant t i))) (head t i) p in
+        let u = uncut (nameLength t i) (valueLength t i) (entryCount t i) (mod-lt _ (omega arith)) (mod-lt _ (omega arith)) (mod-lt _ (omega arith))
+        (aligned (head t i / 65536 % 128) (nameLength t i) (valueLength t i) (entryCount t i) (min (nameLength t i) 32) (min (valueLength t i) 64) (min (entryCount t i - 1) 3) (pack (nodeBits (meant t i))) (head t i) (fields-of (head t i) bound first) number e) in
+        of-sizes t i (record { name = u .0; value = u .1; some = u .2; few = u .3 }))
+        (λ p.
+        let s = sizes-of t i p in
+        eq-eqb (pack (nodeBits (meant t i))) (head t i) (kept-number s))
+
+    -- the slot's four parts
+    parted : chunk t i ≡ take 3 (chunk t i) ++ (take 9 (drop 3 (chunk t i)) ++ (take 32 (drop 12 (chunk t i)) ++ take 64 (drop 44 (chunk t i))))
+    parted =
+        let s = chunk t i in
+        let last : take 64 (drop 44 s) ≡ drop 44 s = take-all 64 (drop 44 s) (rw (length-drop 44 s, length-chunk) (omega arith)) in
+        let third : drop 12 s ≡ take 32 (drop 12 s) ++ take 64 (drop 44 s) = sym (rw (last, ← drop-drop 32 12 s) (take-append-drop 32 (drop 12 s))) in
+        let second : drop 3 s ≡ take 9 (drop 3 s) ++ drop 12 s = sym (rw (← drop-drop 9 3 s) (take-append-drop 9 (drop 3 s))) in
+        sym (take-append-drop 3 s) ∙ ap (λ (l : Octets). take 3 s ++ l) (second ∙ ap (λ (l : Octets). take 9 (drop 3 s) ++ l) third)
+
+    part-length : (j k : ℕ) → j + k ≤ 108 → length (take k (drop j (chunk t i))) ≡ k
+    part-length j k l = length-take-le k (drop j (chunk t i)) (rw (length-drop j (chunk t i), length-chunk) (omega arith))
+
+    part-bytes : (j k : ℕ) → Bytes (take k (drop j (chunk t i)))
+    part-bytes j k = bytes-take k (drop j (chunk t i)) (bytes-drop j (chunk t i) bytes-chunk)
+
+    first-part : same (bigEndian 3 (pack (nodeBits (meant t i)))) (take 3 (chunk t i)) ≡ sized t i
+    unfolding head field
+    first-part =
+        same-big 3 (pack (nodeBits (meant t i))) (take 3 (chunk t i)) (part-bytes 0 3) (part-length 0 3 (omega arith)) (head-bound (meant t i) fits)
+        ∙ ap (λ (l : Octets). eqb (pack (nodeBits (meant t i))) (bigFrom 0 l)) (take-take 3 108 (drop (i * 108) t) (omega arith))
+        ∙ head-part
+      where
+        fits : NodeFits (meant t i)
+        fits = rw (used-node t i h u) at (nodeAt-fits (tableOf t) i (decoded-fits t .all))
+
+    -- the entries' number
+    entries : ℕ
+    entries = field t (i * 108 + 3) 9
+
+    entries-bound : entries < 256 ^ 9
+    unfolding entries
+    entries-bound = field-bound t bytes 9 (i * 108 + 3) (omega arith)
+
+    counted-is : meant t i .owner ∷ meant t i .others ≡ counted (field t (i * 108 + 3) 9) (entryCount t i)
+    unfolding nodeOf entryCount
+    counted-is = refl
+
+    second-part : Sizes t i → same (bigEndian 9 (pack (entryBits 4 (meant t i .owner ∷ meant t i .others)))) (take 9 (drop 3 (chunk t i)))
+        ≡ eqb (pack (entryBits 4 (meant t i .owner ∷ meant t i .others))) (field t (i * 108 + 3) 9)
+    unfolding entries field
+    second-part s =
+        same-big 9 _ (take 9 (drop 3 (chunk t i))) (part-bytes 3 9) (part-length 3 9 (omega arith))
+        (rw counted-is (packed-bound (field t (i * 108 + 3) 9) (entryCount t i) entries-bound (s .some) (s .few)))
+        ∙ ap (eqb (pack (entryBits 4 (meant t i .owner ∷ meant t i .others)))) (field-part t (i * 108) 108 3 9 (omega arith))
+
+    -- a part of the slot is one of the table
+    part-of : (j k : ℕ) → j + k ≤ 108 → take k (drop j (chunk t i)) ≡ take k (drop (i * 108 + j) t)
+    part-of j k l = take-drop-take k j 108 (drop (i * 108) t) l ∙ ap (take k) (drop-drop j (i * 108) t)
+
+    padding : (j k n : ℕ) → j + k ≤ 108 → n ≤ k → same (padded k (textAt (chunk t i) j k n)) (take k (drop j (chunk t i))) ≡ allZero (drop n (take k (drop (i * 108 + j) t)))
+    unfolding textAt
+    padding j k n l m = same-padded k n (take k (drop j (chunk t i))) (part-length j k l) m ∙ ap (λ (x : Octets). allZero (drop n x)) (part-of j k l)
+
+    -- a used slot by itself, part by part
+    all-parts : goodSlot t i
+        ≡ same (bigEndian 3 (pack (nodeBits (meant t i)))) (take 3 (chunk t i))
+        && (same (bigEndian 9 (pack (entryBits 4 (meant t i .owner ∷ meant t i .others)))) (take 9 (drop 3 (chunk t i)))
+        && (same (padded 32 (meant t i .name)) (take 32 (drop 12 (chunk t i))) && same (padded 64 (meant t i .value)) (take 64 (drop 44 (chunk t i)))))
+        && (goodName i (meant t i .name) && goodEntries (meant t i .owner ∷ meant t i .others))
+    unfolding goodSlot fair slotBytes
+    all-parts =
+        let n = meant t i in
+        let fields = bigEndian 3 (pack (nodeBits n)) in
+        let perms = bigEndian 9 (pack (entryBits 4 (n .owner ∷ n .others))) in
+        let s = chunk t i in
+        ap (λ (x : Option Node). same (slotBytes x) s && fair i x) (used-slot t i h u)
+        ∙ ap (λ (b : Bool). b && (goodName i (n .name) && goodEntries (n .owner ∷ n .others)))
+        (ap (same (slotBytes (some n))) parted
+        ∙ same-append fields (perms ++ (padded 32 (n .name) ++ padded 64 (n .value))) (take 3 s) _ (length-big 3 _ ∙ sym (part-length 0 3 (omega arith)))
+        ∙ ap (λ (b : Bool). same fields (take 3 s) && b)
+        (same-append perms (padded 32 (n .name) ++ padded 64 (n .value)) (take 9 (drop 3 s)) _ (length-big 9 _ ∙ sym (part-length 3 9 (omega arith)))
+        ∙ ap (λ (b : Bool). same perms (take 9 (drop 3 s)) && b)
+        (same-append (padded 32 (n .name)) (padded 64 (n .value)) (take 32 (drop 12 s)) _ (length-padded 32 (n .name) (rw name-long (min-le-right _ 32)) ∙ sym (part-length 12 32 (omega arith))))))
+
+    -- what is not within the sizes is not good
+    pub unsized : sized t i ≡ false → false ≡ goodSlot t i
+    unsized e = sym (all-parts ∙ rw (first-part, e) refl)
+
+    -- what is within them is good by its entries, its padding and its name
+    pub within-sizes : sized t i ≡ true → goodSlot t i ≡ keptEntries t i && (zeroBehind t i && goodName i (nodeAt (tableOf t) i .name))
+    unfolding keptEntries zeroBehind nodeOf nameLength valueLength
+    within-sizes e =
+        let s = sizes-of t i e in
+        rw (used-node t i h u)
+        (all-parts
+        ∙ rw (first-part, e, second-part s, name-padding s, value-padding s)
+        (regroup
+        (eqb (pack (entryBits 4 (meant t i .owner ∷ meant t i .others))) (field t (i * 108 + 3) 9))
+        (allZero (drop (nameLength t i) (take 32 (drop (i * 108 + 12) t))))
+        (allZero (drop (valueLength t i) (take 64 (drop (i * 108 + 44) t))))
+        (goodName i (meant t i .name)) (goodEntries (meant t i .owner ∷ meant t i .others))))
+      where
+        regroup : (p q r g e : Bool) → (p && (q && r)) && (g && e) ≡ (p && e) && ((q && r) && g)
+        regroup true q r g e = sym (and-assoc (q && r) g e) ∙ and-comm ((q && r) && g) e
+        regroup false q r g e = refl
+
+        name-padding : Sizes t i → same (padded 32 (meant t i .name)) (take 32 (drop 12 (chunk t i))) ≡ allZero (drop (nameLength t i) (take 32 (drop (i * 108 + 12) t)))
+        name-padding s = padding 12 32 (nameLength t i) (omega arith) (s .name)
+
+        value-padding : Sizes t i → same (padded 64 (meant t i .value)) (take 64 (drop 44 (chunk t i))) ≡ allZero (drop (valueLength t i) (take 64 (drop (i * 108 + 44) t)))
+        value-padding s = padding 44 64 (valueLength t i) (omega arith) (s .value)
+
+    -- the entries, as the code has them
+    pub entries-by : sized t i ≡ true → (first rest c : ℕ) → first ≡ getD t (i * 108 + 3) 0 → rest ≡ field t (i * 108 + 3 + 1) 8 → c ≡ entryCount t i →
+        keptEntries t i ≡ lowDomains first rest && eqb (rest % 2 ^ (18 * (4 - c))) 0
+    unfolding keptEntries entries
+    entries-by e first rest c ef er ec =
+        let s = sizes-of t i e in
+        let split : field t (i * 108 + 3) 9 ≡ field t (i * 108 + 3) 1 * 256 ^ 8 + field t (i * 108 + 3 + 1) 8 = field-split t (i * 108 + 3) 1 8 (omega arith) in
+        let m : field t (i * 108 + 3) 9 ≡ first * 256 ^ 8 + rest = split ∙ rw (field-one t (i * 108 + 3) (omega arith), ← ef, ← er) refl in
+        let r : rest < 256 ^ 8 = rw er (field-bound t bytes 8 (i * 108 + 3 + 1) (omega arith)) in
+        rw (used-node t i h u, counted-is, ec)
+        (entries-low (field t (i * 108 + 3) 9) (entryCount t i) first rest entries-bound (s .some) (s .few) r m)
+
+  -- an unused slot
+  module _ (u : isUsed (slotAt t i) ≡ false) where
+    unused : slotAt t i ≡ none
+    unused = by (slotAt t i) u
+      where
+        by : (x : Option Node) → isUsed x ≡ false → x ≡ none
+        by none e = refl
+        by (some n) e = absurd (true≢false e)
+
+    pub unused-slot : goodSlot t i ≡ allZero (take (i * 108 + 108 - i * 108) (drop (i * 108) t)) && not (eqb i 0)
+    unfolding goodSlot fair slotBytes
+    unused-slot =
+        ap (λ (x : Option Node). same (slotBytes x) (chunk t i) && fair i x) unused
+        ∙ rw (add-sub-cancel-left (i * 108) 108, same-zeros 108 (chunk t i) length-chunk) refl
+
+    pub unused-root : i ≡ 0 → false ≡ goodSlot t i
+    unused-root e = sym (unused-slot ∙ rw (eq-eqb i 0 e) (and-false (allZero (take (i * 108 + 108 - i * 108) (drop (i * 108) t)))))
+
+    pub unused-other : (i ≡ 0 → ⊥) → {b : Bool} → b ≡ allZero (take (i * 108 + 108 - i * 108) (drop (i * 108) t)) → b ≡ goodSlot t i
+    unused-other n e = e ∙ sym (unused-slot ∙ rw (ne-eqb i 0 n) (and-true (allZero (take (i * 108 + 108 - i * 108) (drop (i * 108) t)))))
+
+-- a part of the table from a place behind a text on, as the code has it
+pub behind : (t : Octets) (at k n : ℕ) → n ≤ k → take (at + k - (at + n)) (drop (at + n) t) ≡ drop n (take k (drop at t))
+behind t at k n h = sym (drop-take n k (drop at t) ∙ rw (drop-drop n at t, fewer) refl)
+  where
+    fewer : k - n ≡ at + k - (at + n)
+    fewer = omega arith
+
+pub zero-from : (t : Octets) (at k m n : ℕ) → m ≡ n → n ≤ k → (b : Bool) → b ≡ allZero (take (at + k - (at + m)) (drop (at + m) t)) → b ≡ allZero (drop n (take k (drop at t)))
+zero-from t at k m n e h b f = f ∙ rw (e, behind t at k n h) refl

@@ -1,0 +1,6 @@
+// Whether the bytes of a node table are sound: the check that every call makes first.
+pub mod answer;
+pub mod chain;
+pub mod pairs;
+pub mod slot;
+pub mod table;

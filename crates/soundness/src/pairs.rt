@@ -1,0 +1,97 @@
+// Siblings with one name. Each used slot has a key, which those siblings share, so that names are compared only where keys agree.
+ghost use mathlib.Core.Path.{_≡_};
+ghost use mathlib.Core.Bool.{true, not, _&&_};
+ghost use Prim.Native.Nat.{_+_, _≤_, _<_};
+ghost use lib.Dec.{eqb};
+ghost use lib.ListN.{length};
+ghost use Rattle.rules.specs.Size.{slots};
+ghost use Rattle.rules.specs.Octets.{same};
+ghost use Rattle.rules.specs.Node.{nodeAt};
+ghost use Rattle.rules.specs.Layout.{tableOf};
+ghost use Rattle.rules.specs.Sound.{distinct};
+ghost use Rattle.slots.specs.Slot.{slotAt, isUsed};
+ghost use Rattle.soundness.specs.Keys.{digestOf, keyOf, listed};
+ghost use Rattle.soundness.specs.Walks.{Short};
+use octets::compare::same;
+use slots::fields::SLOTS;
+use slots::fields::name;
+use slots::fields::parent;
+use slots::fields::used;
+
+// A number below 256 from a name's first byte, its last two and its length.
+fn digest(s: &[u8]) -> usize
+    requires { ⌜ length (now s) ≤ 32 ⌝ }
+    ensures { λ r. ⌜ (r ≡ digestOf (now (s .entry))) × (r < 256) ⌝ }
+{
+    let n = s.len();
+    if n == 0 {
+        return 0;
+    }
+    let first = s[0] as usize;
+    if n == 1 {
+        return first % 256;
+    }
+    let last = s[n - 1] as usize;
+    let second = s[n - 2] as usize;
+    (first * 7 + last + second * 16 + n * 5) % 256
+}
+
+// The key of a slot, 0 if it is unused.
+fn key_of(t: &[u8], i: usize) -> u16
+    requires { ⌜ (i < slots) × Short (now t) ⌝ }
+    ensures { λ r. ⌜ r ≡ keyOf (slotAt (now (t .entry)) i) ⌝ }
+{
+    if !used(t, i) {
+        return 0;
+    }
+    let p = parent(t, i);
+    (32768 + p * 256 + digest(name(t, i))) as u16
+}
+
+// Whether a key, which is not 0, is among the keys. Every one is looked at, with one test at the end.
+fn among(keys: &[u16; 128], key: u16) -> bool
+    ensures { λ r. ⌜ r ≡ not (eqb key 0) && listed key (now (keys .entry)) slots ⌝ }
+{
+    let mut hit = false;
+    let mut j = 0;
+    while j < SLOTS {
+        hit = hit | (keys[j] == key);
+        j += 1;
+    }
+    hit & (key != 0)
+}
+
+fn same_names(t: &[u8], i: usize, j: usize) -> bool
+    requires { ⌜ (i < slots) × (j < slots) × Short (now t) × (isUsed (slotAt (now t) i) ≡ true) × (isUsed (slotAt (now t) j) ≡ true) ⌝ }
+    ensures { λ r. ⌜ r ≡ same (nodeAt (tableOf (now (t .entry))) i .name) (nodeAt (tableOf (now (t .entry))) j .name) ⌝ }
+{
+    same(name(t, i), name(t, j))
+}
+
+// Whether no two siblings have one name. The look ends at the first pair that has.
+pub fn all_distinct(t: &[u8]) -> bool
+    requires { ⌜ Short (now t) ⌝ }
+    ensures { λ r. ⌜ r ≡ distinct (tableOf (now (t .entry))) ⌝ }
+{
+    let mut keys = [0u16; 128];
+    let mut apart = true;
+    let mut i = 0;
+    'pairs: while i < SLOTS {
+        let key = key_of(t, i);
+        if among(&keys, key) {
+            let mut j = 0;
+            while j < i {
+                if keys[j] == key {
+                    if same_names(t, j, i) {
+                        apart = false;
+                        break 'pairs;
+                    }
+                }
+                j += 1;
+            }
+        }
+        keys[i] = key;
+        i += 1;
+    }
+    apart
+}
