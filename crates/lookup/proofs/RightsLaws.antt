@@ -1,8 +1,7 @@
 -- Rights, entry by entry.
 use mathlib.Core.Path.{_≡_, refl, sym, ap, _∙_}
-use mathlib.Core.Bool.{Bool, true, false, cond}
-use mathlib.Core.Option.{Option, none, some}
-use mathlib.Core.List.{List, [], _∷_}
+use mathlib.Core.Option.{some}
+use mathlib.Core.List.{List, _∷_}
 use Prim.Native.Nat.{ℕ, zero, suc, _+_, _-_, _≤_, _<_}
 use native.Mathlib.Numerals.{add-one, sub-one}
 use native.Mathlib.Omega.{arith}
@@ -12,10 +11,10 @@ use borrow.Author.Tests.{eq-eqb, ne-eqb}
 use Rattle.rules.specs.Octets.{Octets}
 use Rattle.rules.specs.Path.{Domain}
 use Rattle.rules.specs.Node.{Entry, Node, nodeAt}
-use Rattle.rules.specs.Rights.{Access, accessOf, named, control, owner, entry, default}
+use Rattle.rules.specs.Rights.{accessOf, named, control, owner, entry, default}
 use Rattle.rules.specs.Layout.{tableOf}
 use Rattle.rules.proofs.Fitting.{nodeAt-fits, decoded-fits}
-use Rattle.slots.specs.Slot.{slotAt, isUsed, entryCount, entryOf}
+use Rattle.slots.specs.Slot.{slotAt, entryCount, entryOf}
 use Rattle.slots.proofs.Reading.{node-some}
 use Rattle.slots.proofs.Canonical.{sound-canonical, used-some, entry-count-is, entry-is}
 use Rattle.lookup.specs.Rights.{Asked}

@@ -140,7 +140,7 @@ free-fewer (some x ∷ xs) a h = free-fewer xs a h
 set-fitting : (t : Table) (i : ℕ) (x : Option Node) → Fitting t → SlotFits x → Fitting (set t i x)
 set-fitting t i x f g = record { all = each-set SlotFits t i x (f .all) g; long = length-set t i x ∙ f .long }
 
-heir-fits : (d : Domain) (e : Entry) → d < 65536 → EntryFits e → EntryFits (heir d e)
+pub heir-fits : (d : Domain) (e : Entry) → d < 65536 → EntryFits e → EntryFits (heir d e)
 unfolding heir
 heir-fits d e h f = cond-case EntryFits (isControl d) _ _ f (record { access = f .access; domain = h })
 

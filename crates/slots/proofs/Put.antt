@@ -6,19 +6,17 @@ use mathlib.Core.Option.{Option, none, some}
 use Prim.Native.Nat.{ℕ, suc, _+_, _*_, _-_, _/_, _%_, _≤_, _<_}
 use native.Mathlib.Nat.{mod-lt}
 use native.Mathlib.Omega.{arith}
-use lib.ListN.{length, take, drop, set, replicate, length-append, length-replicate}
+use lib.ListN.{length, take, drop, set, replicate, length-append}
 use lib.Seq.{drop-drop, take-at, drop-at}
 use Rattle.rules.specs.Size.{slots, slotSize}
 use Rattle.rules.specs.Octets.{Octets, padded, paste, bigEndian, pack, packFrom, bitsAt}
-use Rattle.rules.specs.Path.{Domain, isControl}
 use Rattle.rules.specs.Node.{Entry, Node, Table, nodeAt, heir, newNode, withValue, withEntries}
 use Rattle.rules.specs.Layout.{tableOf, tableBytes, slotBytes, nodeBits}
-use Rattle.rules.proofs.Cases.{cond-case}
 use Rattle.rules.proofs.Joined.{paste-behind}
 use Rattle.rules.proofs.Tables.{Each}
-use Rattle.rules.proofs.Slots.{EntryFits, NodeFits, SlotFits, slot-written, length-tableOf, length-table, table-read}
+use Rattle.rules.proofs.Slots.{EntryFits, NodeFits, SlotFits, slot-written, length-tableOf, length-table, table-read, length-padded}
 use Rattle.rules.proofs.Fields.{length-big, take-drop-take}
-use Rattle.rules.proofs.Fitting.{Fitting, decoded-fits, nodeAt-fits}
+use Rattle.rules.proofs.Fitting.{Fitting, decoded-fits, nodeAt-fits, heir-fits}
 use Rattle.rules.proofs.Paste.{paste-sets, paste-append, paste-own, part-before, length-paste}
 use Rattle.slots.specs.Slot.{Canonical, slotAt, isUsed, nameLength, valueLength, entryCount}
 use Rattle.slots.specs.Written.{fieldsOf, entriesOf, entriesBytes}
@@ -118,20 +116,12 @@ seam at j m a b t ha hm ht =
     let e : at + length a ≡ m = omega arith in
     paste-append at a b t (omega arith) ∙ ap (λ (n : ℕ). paste at a (paste n b t)) e
 
-length-padded : (n : ℕ) (s : Octets) → length s ≤ n → length (padded n s) ≡ n
-unfolding padded
-length-padded n s h = length-append s (replicate (n - length s) 0) ∙ rw length-replicate (omega arith)
-
 pub used-is : (t : Octets) (i : ℕ) → i < slots → isUsed (slotAt t i) ≡ true → slotAt t i ≡ some (nodeAt (tableOf t) i)
 used-is t i h u = used-slot t i h u ∙ ap some (sym (used-node t i h u))
 
 length-entries : (o : Entry) (es : List Entry) → length (entriesBytes o es) ≡ 9
 unfolding entriesBytes
 length-entries o es = length-big 9 _
-
-pub heir-fits : (d : Domain) (e : Entry) → d < 65536 → EntryFits e → EntryFits (heir d e)
-unfolding heir
-heir-fits d e h f = cond-case EntryFits (isControl d) _ _ f (record { access = f .access; domain = h })
 
 module _ (t : Octets) (k : Canonical t) (i : ℕ) (h : i < slots) where
   -- a slot's bytes put in place

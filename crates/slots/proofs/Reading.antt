@@ -3,16 +3,16 @@ use mathlib.Core.Path.{_≡_, refl, sym, ap, _∙_}
 use mathlib.Core.Bool.{Bool, true, false, cond}
 use mathlib.Core.Option.{Option, none, some}
 use Prim.Native.Nat.{ℕ, zero, suc, _+_, _*_, _-_, _/_, _%_, _^_, _≤_, _<_}
-use native.Mathlib.Nat.{add-zero, add-assoc, add-sub-cancel-left}
+use native.Mathlib.Nat.{add-zero, add-sub-cancel-left}
 use native.Mathlib.Omega.{arith}
 use lib.ListN.{length, getD, take, drop}
 use lib.Dec.{eqb, leb}
-use borrow.Author.Tests.{le-leb, lt-leb, eq-eqb, ne-eqb, leb-true, leb-false}
+use borrow.Author.Tests.{eq-eqb, ne-eqb, leb-true, leb-false}
 use lib.Seq.{drop-drop, take-take}
 use mir.Val.{Fits}
 use mir.Syntax.{w8}
 use Rattle.rules.specs.Size.{slots, slotSize, tableSize}
-use Rattle.rules.specs.Octets.{Octets, field, bigFrom, bitsAt}
+use Rattle.rules.specs.Octets.{Octets, field, bitsAt}
 use Rattle.rules.specs.Node.{Node, Table, root, nodeAt}
 use Rattle.rules.specs.Layout.{tableOf, slotOf, nodeOf, textAt, entryAt}
 use Rattle.rules.proofs.Fields.{field-part, field-three, field-split, field-bound, take-drop-take}

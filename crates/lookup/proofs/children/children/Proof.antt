@@ -1,18 +1,10 @@
-use mathlib.Core.Path.{_≡_, refl, sym, ap, _∙_}
+use mathlib.Core.Path.{sym, _∙_}
 use Prim.Native.Nat.{_-_, _%_}
 use native.Mathlib.Omega.{arith}
-use borrow.Author.Needs.{needs}
-use lib.ListN.{length, take}
 use lib.Seq.{length-take-le}
-use Rattle.rules.specs.Layout.{tableOf}
 use Rattle.lookup.proofs.ChildrenLaws.{Gathered, gather-none, gather-skip, gather-put, gather-done, parent-used}
 use Rattle.lookup.proofs.children.children.Statement.{statement}
 use Rattle.lookup.proofs.children.children.Tie as tie
-use Rattle.lookup.proofs.children.children.Reads as reads
-use Rattle.lookup.proofs.children.children.Lts as lts
-use Rattle.lookup.proofs.children.has_parent.Reads as has-parent-reads
-use Rattle.lookup.proofs.children.place.Reads as place-reads
-use Rattle.lookup.proofs.children.put_in.Reads as put-in-reads
 
 abbrev Inv-loop : tie.InvT-loop
 Inv-loop t p list₀ n₀ i₀ list n i = Gathered t p i n list
@@ -20,19 +12,15 @@ Inv-loop t p list₀ n₀ i₀ list n i = Gathered t p i n list
 abbrev μ-loop : tie.MeasureT-loop
 μ-loop t p list₀ n₀ i₀ list n i = i
 
--- src/children.rt:68:5
 loop-holds : tie.Need-loop-holds Inv-loop μ-loop
 loop-holds c = gather-none (c .before .before .args .t .now) (c .before .before .args .p) (c .before .before .args .list .now) (c .before .before .pre .1)
 
--- src/children.rt:69:9
 sub-i : tie.Need-sub-i Inv-loop μ-loop
 sub-i c = omega arith
 
--- src/children.rt:70:12
 has-parent-requires : tie.Need-has-parent-requires Inv-loop μ-loop
 has-parent-requires c κs = (omega arith, c .before .before .before .before .pre .0)
 
--- src/children.rt:71:17
 place-requires : tie.Need-place-requires Inv-loop μ-loop
 place-requires c κs =
     let a = c .before .before .before .before .before .before .before in
@@ -40,26 +28,21 @@ place-requires c κs =
     let u = parent-used (a .args .p) _ (sym (c .before .before .has-parent .ensures) ∙ c .before .if1 .taken) in
     (omega arith, b .loop .inv .asked, record { below = omega arith; sound = a .pre .0; used = u })
 
--- src/children.rt:72:32
 cast-put-in : tie.Need-cast-put-in Inv-loop μ-loop
 cast-put-in c = omega arith
 
--- src/children.rt:72:13
 put-in-requires : tie.Need-put-in-requires Inv-loop μ-loop
 put-in-requires c κs =
     let b = c .before .before .before .before .before .before in
     let l = length-take-le (b .loop .n) (b .loop .list) (omega arith) in
     (omega arith, omega (arith, c .before .place .ensures .within))
 
--- src/children.rt:73:13
 add-n : tie.Need-add-n Inv-loop μ-loop
 add-n c = omega arith
 
--- src/children.rt:68:5
 loop-less : tie.Need-loop-less Inv-loop μ-loop
 loop-less c = omega arith
 
--- src/children.rt:68:5
 loop-again : tie.Need-loop-again Inv-loop μ-loop
 loop-again c =
     let a = c .before .before .before .before .before .before .before .before .before .before .before .before in
@@ -69,22 +52,18 @@ loop-again c =
     (sym (c .before .before .before .before .before .before .before .has-parent .ensures) ∙ c .before .before .before .before .before .before .if1 .taken) (record { below = omega arith; sound = a .pre .0; used = u })
     (c .before .before .before .before .place .result) (c .before .before .before .before .place .ensures) ((b .loop .i - 1) % 256) (omega arith) (c .before .before .put-in .last .0) (c .before .before .put-in .ensures)
 
--- src/children.rt:68:5
 loop-less-2 : tie.Need-loop-less-2 Inv-loop μ-loop
 loop-less-2 c = omega arith
 
--- src/children.rt:68:5
 loop-again-2 : tie.Need-loop-again-2 Inv-loop μ-loop
 loop-again-2 c =
     let a = c .before .before .before .before .before .before in
     let b = c .before .before .before in
     gather-skip (a .args .t .now) (a .args .p) (b .loop .i) (b .loop .n) (b .loop .list) (b .loop .inv) (omega arith) (sym (c .before .has-parent .ensures) ∙ c .if1 .left)
 
--- src/children.rt:62:1
 same-length : tie.Need-same-length Inv-loop μ-loop
 same-length c = c .before .loop .inv .long ∙ sym (c .before .before .before .before .pre .1)
 
--- src/children.rt:62:1
 returns : tie.Need-returns Inv-loop μ-loop
 returns c =
     let a = c .before .before .before .before in

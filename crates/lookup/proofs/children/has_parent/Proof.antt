@@ -7,26 +7,18 @@ use Rattle.slots.proofs.Canonical.{sound-canonical}
 use Rattle.lookup.proofs.ChildrenLaws.{unused-parent, used-parent}
 use Rattle.lookup.proofs.children.has_parent.Statement.{statement}
 use Rattle.lookup.proofs.children.has_parent.Tie as tie
-use Rattle.lookup.proofs.children.has_parent.Reads as reads
-use Rattle.lookup.proofs.children.has_parent.Lts as lts
-use Rattle.slots.proofs.fields.parent.Reads as parent-reads
-use Rattle.slots.proofs.fields.used.Reads as used-reads
 
--- src/children.rt:26:9
 used-requires : tie.Need-used-requires
 used-requires c κs = (c .before .pre .0, sound-canonical _ (c .before .pre .1) .whole)
 
--- src/children.rt:27:9
 returns : tie.Need-returns
 returns c = sym (unused-parent _ _ (sym (c .before .used .ensures) ∙ not-true _ (c .if1 .taken)))
 
--- src/children.rt:29:5
 parent-requires : tie.Need-parent-requires
 parent-requires c κs =
     let a = c .before .before .before in
     (a .pre .0, sound-canonical _ (a .pre .1) .whole, sym (c .before .used .ensures) ∙ not-false _ (c .if1 .left))
 
--- src/children.rt:22:1
 returns-2 : tie.Need-returns-2
 returns-2 c =
     let a = c .before .before .before .before in

@@ -1,9 +1,9 @@
 use mathlib.Core.Path.{_≡_, refl, sym, ap₂, _∙_}
 use mathlib.Core.List.{_++_}
-use Prim.Native.Nat.{_+_, _-_, _≤_}
+use Prim.Native.Nat.{_-_, _≤_}
 use native.Mathlib.Omega.{arith}
 use borrow.Author.Needs.{needs}
-use lib.ListN.{length, getD, take, drop}
+use lib.ListN.{take, drop}
 use lib.Seq.{length-take-le}
 use Rattle.rules.specs.Octets.{less}
 use Rattle.rules.specs.Node.{insert}
@@ -11,10 +11,6 @@ use Rattle.rules.specs.Layout.{tableOf}
 use Rattle.lookup.proofs.ChildrenLaws.{has-name, listed, placed, not-placed, placed-last}
 use Rattle.lookup.proofs.children.place.Statement.{statement}
 use Rattle.lookup.proofs.children.place.Tie as tie
-use Rattle.lookup.proofs.children.place.Reads as reads
-use Rattle.lookup.proofs.children.place.Lts as lts
-use Rattle.octets.proofs.compare.less.Reads as less-reads
-use Rattle.slots.proofs.fields.name.Reads as name-reads
 
 abbrev Inv-loop : tie.InvT-loop
 Inv-loop t list n j k₀ k = (k ≤ n) × (insert (tableOf t) j (take n list) ≡ take k (take n list) ++ insert (tableOf t) j (drop k (take n list)))
@@ -22,34 +18,27 @@ Inv-loop t list n j k₀ k = (k ≤ n) × (insert (tableOf t) j (take n list) �
 abbrev μ-loop : tie.MeasureT-loop
 μ-loop t list n j k₀ k = n - k
 
--- src/children.rt:38:5
 loop-holds : tie.Need-loop-holds Inv-loop μ-loop
 loop-holds c = (search needs, refl)
 
--- src/children.rt:39:21
 shared-slice-read-other : tie.Need-shared-slice-read-other Inv-loop μ-loop
 shared-slice-read-other c = omega arith
 
--- src/children.rt:39:21
 cast-other : tie.Need-cast-other Inv-loop μ-loop
 cast-other c = omega (arith, c .shared-slice-known3 .given (c .before .before .loop .k))
 
--- src/children.rt:40:17
 name-requires : tie.Need-name-requires Inv-loop μ-loop
 name-requires c κs = has-name _ _ (c .before .before .before .before .before .pre .2)
 
--- src/children.rt:40:29
 name-requires-2 : tie.Need-name-requires-2 Inv-loop μ-loop
 name-requires-2 c κs =
     let a = c .before .before .before .before .before .before in
     let b = c .before .before .before in
     has-name _ _ (listed (a .args .t .now) (a .args .list .now) (a .args .n) (b .loop .k) (a .pre .1) (omega arith) (a .pre .0))
 
--- src/children.rt:40:12
 less-requires : tie.Need-less-requires Inv-loop μ-loop
 less-requires c κs = tt
 
--- src/children.rt:41:13
 returns : tie.Need-returns Inv-loop μ-loop
 returns c =
     let a = c .before .before .before .before .before .before .before .before .before in
@@ -57,15 +46,12 @@ returns c =
     let e = ap₂ less (sym (c .before .before .before .name .ensures)) (sym (c .before .before .name2 .ensures)) ∙ sym (c .before .less .ensures) ∙ c .if1 .taken in
     placed (tableOf (a .args .t .now)) (a .args .j) (a .args .list .now) (a .args .n) (b .loop .k) (a .pre .0) (omega arith) (b .loop .inv .1) e
 
--- src/children.rt:43:9
 add-k : tie.Need-add-k Inv-loop μ-loop
 add-k c = omega arith
 
--- src/children.rt:38:5
 loop-less : tie.Need-loop-less Inv-loop μ-loop
 loop-less c = omega arith
 
--- src/children.rt:38:5
 loop-again : tie.Need-loop-again Inv-loop μ-loop
 loop-again c =
     let a = c .before .before .before .before .before .before .before .before .before in
@@ -73,7 +59,6 @@ loop-again c =
     let e = ap₂ less (sym (c .before .before .before .name .ensures)) (sym (c .before .before .name2 .ensures)) ∙ sym (c .before .less .ensures) ∙ c .if1 .left in
     (omega arith, not-placed (tableOf (a .args .t .now)) (a .args .j) (a .args .list .now) (a .args .n) (b .loop .k) (a .pre .0) (omega arith) (b .loop .inv .1) e)
 
--- src/children.rt:33:1
 returns-2 : tie.Need-returns-2 Inv-loop μ-loop
 returns-2 c =
     let a = c .before .before .before .before in

@@ -1,14 +1,11 @@
-use mathlib.Core.Path.{_≡_, refl, sym, ap, _∙_}
+use mathlib.Core.Path.{_≡_, _∙_}
 use Prim.Native.Nat.{_+_, _-_, _≤_}
 use native.Mathlib.Omega.{arith}
-use borrow.Author.Needs.{needs}
-use lib.ListN.{length, take, drop, length-set}
+use lib.ListN.{take, drop, length-set}
 use Rattle.rules.specs.Octets.{paste}
 use Rattle.lookup.proofs.ChildrenLaws.{shift-none, shifted, shift-length, shift-done}
 use Rattle.lookup.proofs.children.put_in.Statement.{statement}
 use Rattle.lookup.proofs.children.put_in.Tie as tie
-use Rattle.lookup.proofs.children.put_in.Reads as reads
-use Rattle.lookup.proofs.children.put_in.Lts as lts
 
 abbrev Inv-loop : tie.InvT-loop
 Inv-loop list₀ n k j m₀ list m = (k ≤ m) × (m ≤ n) × (list ≡ paste (m + 1) (take (n - m) (drop m list₀)) list₀)
@@ -16,15 +13,12 @@ Inv-loop list₀ n k j m₀ list m = (k ≤ m) × (m ≤ n) × (list ≡ paste (
 abbrev μ-loop : tie.MeasureT-loop
 μ-loop list₀ n k j m₀ list m = m
 
--- src/children.rt:54:5
 loop-holds : tie.Need-loop-holds Inv-loop μ-loop
 loop-holds c = (omega arith, omega arith, shift-none (c .args .list .now) (c .args .n))
 
--- src/children.rt:55:24
 sub-list : tie.Need-sub-list Inv-loop μ-loop
 sub-list c = omega arith
 
--- src/children.rt:55:19
 slice-read-list : tie.Need-slice-read-list Inv-loop μ-loop
 slice-read-list c =
     let a = c .before .before .before in
@@ -32,7 +26,6 @@ slice-read-list c =
     let l = shift-length (a .args .list .now) (a .args .n) (b .loop .m) (b .loop .list) (a .pre .0) (b .loop .inv .1) (b .loop .inv .2) in
     omega arith
 
--- src/children.rt:55:9
 slice-write-list : tie.Need-slice-write-list Inv-loop μ-loop
 slice-write-list c =
     let a = c .before .before .before in
@@ -40,22 +33,18 @@ slice-write-list c =
     let l = shift-length (a .args .list .now) (a .args .n) (b .loop .m) (b .loop .list) (a .pre .0) (b .loop .inv .1) (b .loop .inv .2) in
     omega arith
 
--- src/children.rt:56:9
 sub-m : tie.Need-sub-m Inv-loop μ-loop
 sub-m c = omega arith
 
--- src/children.rt:54:5
 loop-less : tie.Need-loop-less Inv-loop μ-loop
 loop-less c = omega arith
 
--- src/children.rt:54:5
 loop-again : tie.Need-loop-again Inv-loop μ-loop
 loop-again c =
     let a = c .before .before .before in
     let b = c .before .before in
     (omega arith, omega arith, shifted (a .args .list .now) (a .args .n) (b .loop .m) (b .loop .list) (a .pre .0) (b .loop .inv .1) (omega arith) (b .loop .inv .2))
 
--- src/children.rt:58:5
 slice-write-list-2 : tie.Need-slice-write-list-2 Inv-loop μ-loop
 slice-write-list-2 c =
     let a = c .before .before in
@@ -64,7 +53,6 @@ slice-write-list-2 c =
     let l = shift-length (a .args .list .now) (a .args .n) (b .loop .m) (b .loop .list) (a .pre .0) (b .loop .inv .1) (b .loop .inv .2) in
     omega arith
 
--- src/children.rt:49:1
 same-length : tie.Need-same-length Inv-loop μ-loop
 same-length c =
     let a = c .before .before in
@@ -73,7 +61,6 @@ same-length c =
     let l = shift-length (a .args .list .now) (a .args .n) (b .loop .m) (b .loop .list) (a .pre .0) (b .loop .inv .1) (b .loop .inv .2) in
     length-set (b .loop .list) (a .args .k) (a .args .j) ∙ l
 
--- src/children.rt:49:1
 returns : tie.Need-returns Inv-loop μ-loop
 returns c =
     let a = c .before .before in

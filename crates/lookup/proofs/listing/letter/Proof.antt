@@ -4,25 +4,19 @@ use Rattle.rules.specs.Octets.{text}
 use Rattle.rules.specs.Answer.{accessText}
 use Rattle.lookup.proofs.listing.letter.Statement.{statement}
 use Rattle.lookup.proofs.listing.letter.Tie as tie
-use Rattle.lookup.proofs.listing.letter.Reads as reads
-use Rattle.lookup.proofs.listing.letter.Lts as lts
 
--- src/listing.rt:58:9
 returns : tie.Need-returns
 unfolding accessText text
 returns c = ap accessText (sym (c .if1 .taken))
 
--- src/listing.rt:61:9
 returns-2 : tie.Need-returns-2
 unfolding accessText text
 returns-2 c = ap accessText (sym (c .if2 .taken))
 
--- src/listing.rt:64:9
 returns-3 : tie.Need-returns-3
 unfolding accessText text
 returns-3 c = ap accessText (sym (c .if3 .taken))
 
--- src/listing.rt:53:1
 returns-4 : tie.Need-returns-4
 unfolding accessText text
 returns-4 c =

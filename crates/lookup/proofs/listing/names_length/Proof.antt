@@ -1,6 +1,6 @@
-use mathlib.Core.Path.{_≡_, refl, sym, ap, ap₂, _∙_}
+use mathlib.Core.Path.{_≡_, refl, ap, _∙_}
 use mathlib.Core.List.{flatMap}
-use Prim.Native.Nat.{ℕ, _+_, _*_, _-_, _≤_}
+use Prim.Native.Nat.{ℕ, _*_, _-_, _≤_}
 use native.Mathlib.Omega.{arith}
 use borrow.Author.Needs.{needs}
 use lib.ListN.{length, getD, take}
@@ -11,9 +11,6 @@ use Rattle.lookup.proofs.ChildrenLaws.{listed}
 use Rattle.lookup.proofs.ListingLaws.{names-longer, name-length, name-fits}
 use Rattle.lookup.proofs.listing.names_length.Statement.{statement}
 use Rattle.lookup.proofs.listing.names_length.Tie as tie
-use Rattle.lookup.proofs.listing.names_length.Reads as reads
-use Rattle.lookup.proofs.listing.names_length.Lts as lts
-use Rattle.slots.proofs.fields.name_length.Reads as name-length-reads
 
 abbrev Inv-loop : tie.InvT-loop
 Inv-loop t list n sum₀ k₀ sum k = (k ≤ n) × (sum ≤ 33 * k) × (sum ≡ length (nameList (tableOf t) (take k list)))
@@ -21,20 +18,16 @@ Inv-loop t list n sum₀ k₀ sum k = (k ≤ n) × (sum ≤ 33 * k) × (sum ≡ 
 abbrev μ-loop : tie.MeasureT-loop
 μ-loop t list n sum₀ k₀ sum k = n - k
 
--- src/listing.rt:27:5
 loop-holds : tie.Need-loop-holds Inv-loop μ-loop
 unfolding nameList flatMap
 loop-holds c = (search needs, search needs, refl)
 
--- src/listing.rt:28:31
 shared-slice-read-name-length : tie.Need-shared-slice-read-name-length Inv-loop μ-loop
 shared-slice-read-name-length c = omega arith
 
--- src/listing.rt:28:31
 cast-name-length : tie.Need-cast-name-length Inv-loop μ-loop
 cast-name-length c = omega (arith, c .shared-slice-known3 .given (c .before .before .loop .k))
 
--- src/listing.rt:28:16
 name-length-requires : tie.Need-name-length-requires Inv-loop μ-loop
 name-length-requires c κs =
     let a = c .before .before .before .before .before in
@@ -42,7 +35,6 @@ name-length-requires c κs =
     let q = listed (a .args .t .now) (a .args .list .now) (a .args .n) (b .loop .k) (a .pre .2) (omega arith) (a .pre .1) in
     (q .below, sound-canonical _ (q .sound) .whole)
 
--- src/listing.rt:28:16
 add-sum : tie.Need-add-sum Inv-loop μ-loop
 add-sum c =
     let a = c .before .before .before .before .before .before in
@@ -53,7 +45,6 @@ add-sum c =
     let f = name-fits (a .args .t .now) i in
     omega (arith, c .name-length .ensures)
 
--- src/listing.rt:28:9
 add-sum-2 : tie.Need-add-sum-2 Inv-loop μ-loop
 add-sum-2 c =
     let a = c .before .before .before .before .before .before in
@@ -64,15 +55,12 @@ add-sum-2 c =
     let f = name-fits (a .args .t .now) i in
     omega (arith, c .name-length .ensures)
 
--- src/listing.rt:29:9
 add-k : tie.Need-add-k Inv-loop μ-loop
 add-k c = omega arith
 
--- src/listing.rt:27:5
 loop-less : tie.Need-loop-less Inv-loop μ-loop
 loop-less c = omega arith
 
--- src/listing.rt:27:5
 loop-again : tie.Need-loop-again Inv-loop μ-loop
 loop-again c =
     let a = c .before .before .before .before .before .before in
@@ -84,7 +72,6 @@ loop-again c =
     let e = names-longer (a .args .t .now) (a .args .list .now) (b .loop .k) (omega arith) q in
     (omega arith, omega (arith, c .name-length .ensures), omega (arith, c .name-length .ensures, e))
 
--- src/listing.rt:21:1
 returns : tie.Need-returns Inv-loop μ-loop
 returns c =
     let a = c .before .before .before .before in

@@ -1,4 +1,4 @@
-use mathlib.Core.Path.{_≡_, refl, sym, ap, _∙_}
+use mathlib.Core.Path.{_≡_, ap, _∙_}
 use Prim.Native.Nat.{suc, _≤_, _-_}
 use native.Mathlib.Omega.{arith}
 use borrow.Author.Needs.{needs}
@@ -11,11 +11,6 @@ use Rattle.lookup.proofs.RightsLaws.{count-is, few}
 use Rattle.lookup.proofs.ListingLaws.{Written, none-written, entry-fits, written-room, one-more, all-written}
 use Rattle.lookup.proofs.listing.put_entries.Statement.{statement}
 use Rattle.lookup.proofs.listing.put_entries.Tie as tie
-use Rattle.lookup.proofs.listing.put_entries.Reads as reads
-use Rattle.lookup.proofs.listing.put_entries.Lts as lts
-use Rattle.lookup.proofs.listing.put_entry.Reads as put-entry-reads
-use Rattle.slots.proofs.fields.entry_at.Reads as entry-at-reads
-use Rattle.slots.proofs.fields.entry_count.Reads as entry-count-reads
 
 abbrev Inv-loop : tie.InvT-loop
 Inv-loop t i into₀ at count to₀ k₀ into to k = (k ≤ count) × (count ≡ suc (length (nodeAt (tableOf t) i .others))) × Written t i at into₀ k into to
@@ -23,23 +18,19 @@ Inv-loop t i into₀ at count to₀ k₀ into to k = (k ≤ count) × (count ≡
 abbrev μ-loop : tie.MeasureT-loop
 μ-loop t i into₀ at count to₀ k₀ into to k = count - k
 
--- src/listing.rt:85:9
 entry-count-requires : tie.Need-entry-count-requires Inv-loop μ-loop
 entry-count-requires c κs = (c .before .before .pre .0 .below, sound-canonical _ (c .before .before .pre .0 .sound) .whole)
 
--- src/listing.rt:88:5
 loop-holds : tie.Need-loop-holds Inv-loop μ-loop
 loop-holds c =
     let a = c .before .before .before in
     (search needs, c .entry-count .ensures ∙ count-is (a .args .t .now) (a .args .i) (a .pre .0), none-written (a .args .t .now) (a .args .i) (a .pre .0) (a .args .at) (a .args .into .now) (a .pre .1))
 
--- src/listing.rt:89:13
 entry-at-requires : tie.Need-entry-at-requires Inv-loop μ-loop
 entry-at-requires c κs =
     let a = c .before .before .before .before .before in
     (a .pre .0 .below, sound-canonical _ (a .pre .0 .sound) .whole, omega (arith, few (a .args .t .now) (a .args .i) (a .pre .0)))
 
--- src/listing.rt:90:9
 put-entry-requires : tie.Need-put-entry-requires Inv-loop μ-loop
 put-entry-requires c κs =
     let a = c .before .before .before .before .before .before .before in
@@ -50,15 +41,12 @@ put-entry-requires c κs =
     let n = few (a .args .t .now) (a .args .i) (a .pre .0) in
     (omega arith, omega arith, omega (arith, b .loop .inv .2 .short))
 
--- src/listing.rt:91:9
 add-k : tie.Need-add-k Inv-loop μ-loop
 add-k c = omega arith
 
--- src/listing.rt:88:5
 loop-less : tie.Need-loop-less Inv-loop μ-loop
 loop-less c = omega arith
 
--- src/listing.rt:88:5
 loop-again : tie.Need-loop-again Inv-loop μ-loop
 loop-again c =
     let a = c .before .before .before .before .before .before .before .before .before .before in
@@ -66,7 +54,6 @@ loop-again c =
     let e = c .before .before .before .before .entry-at in
     (omega arith, b .loop .inv .1, one-more (a .args .t .now) (a .args .i) (a .pre .0) (a .args .at) (a .args .into .now) (a .pre .1) (b .loop .k) (b .loop .into) (b .loop .to) (b .loop .inv .2) (omega arith) (e .result .access) (e .result .domain) (e .ensures .0) (e .ensures .1) (c .before .before .put-entry .last .0) (c .before .before .put-entry .result) (c .before .before .put-entry .ensures))
 
--- src/listing.rt:81:1
 same-length : tie.Need-same-length Inv-loop μ-loop
 same-length c =
     let a = c .before .before .before .before .before in
@@ -75,7 +62,6 @@ same-length c =
     let w = all-written (a .args .t .now) (a .args .i) (a .pre .0) (a .args .at) (a .args .into .now) (a .pre .1) (b .loop .k) (b .loop .into) (b .loop .to) (b .loop .inv .2) (omega arith) in
     ap length (w .bytes) ∙ length-paste (a .args .at) _ (a .args .into .now) (omega (arith, w .behind, b .loop .inv .2 .short))
 
--- src/listing.rt:81:1
 returns : tie.Need-returns Inv-loop μ-loop
 returns c =
     let a = c .before .before .before .before .before in

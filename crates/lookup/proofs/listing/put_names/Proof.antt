@@ -1,4 +1,4 @@
-use mathlib.Core.Path.{_≡_, refl, sym, ap, ap₂, _∙_}
+use mathlib.Core.Path.{_≡_, sym, ap, _∙_}
 use mathlib.Core.List.{_++_, flatMap}
 use Prim.Native.Nat.{ℕ, _+_, _-_, _≤_}
 use native.Mathlib.Omega.{arith}
@@ -14,10 +14,6 @@ use Rattle.lookup.proofs.ChildrenLaws.{listed, has-name}
 use Rattle.lookup.proofs.ListingLaws.{names-next, room-for, same-room, room-after, nul-behind}
 use Rattle.lookup.proofs.listing.put_names.Statement.{statement}
 use Rattle.lookup.proofs.listing.put_names.Tie as tie
-use Rattle.lookup.proofs.listing.put_names.Reads as reads
-use Rattle.lookup.proofs.listing.put_names.Lts as lts
-use Rattle.octets.proofs.parts.copy.Reads as copy-reads
-use Rattle.slots.proofs.fields.name.Reads as name-reads
 
 abbrev Inv-loop : tie.InvT-loop
 Inv-loop t list n into₀ at to₀ k₀ into to k = (k ≤ n) × (into ≡ paste at (nameList (tableOf t) (take k list)) into₀) × (to ≡ at + length (nameList (tableOf t) (take k list)))
@@ -25,22 +21,18 @@ Inv-loop t list n into₀ at to₀ k₀ into to k = (k ≤ n) × (into ≡ paste
 abbrev μ-loop : tie.MeasureT-loop
 μ-loop t list n into₀ at to₀ k₀ into to k = n - k
 
--- src/listing.rt:41:5
 loop-holds : tie.Need-loop-holds Inv-loop μ-loop
 unfolding nameList flatMap
 loop-holds c =
     let a = c .before .before .before .args in
     (search needs, sym (paste-nil (a .at) (a .into .now)), sym (add-zero (a .at)))
 
--- src/listing.rt:42:28
 shared-slice-read-name : tie.Need-shared-slice-read-name Inv-loop μ-loop
 shared-slice-read-name c = omega arith
 
--- src/listing.rt:42:28
 cast-name : tie.Need-cast-name Inv-loop μ-loop
 cast-name c = omega (arith, c .shared-slice-known3 .given (c .before .before .loop .k))
 
--- src/listing.rt:42:13
 name-requires : tie.Need-name-requires Inv-loop μ-loop
 name-requires c κs =
     let a = c .before .before .before .before .before .before in
@@ -48,7 +40,6 @@ name-requires c κs =
     let q = listed (a .args .t .now) (a .args .list .now) (a .args .n) (b .loop .k) (a .pre .1) (omega arith) (a .pre .0) in
     has-name _ _ q
 
--- src/listing.rt:43:9
 copy-requires : tie.Need-copy-requires Inv-loop μ-loop
 copy-requires c κs =
     let a = c .before .before .before .before .before .before .before .before in
@@ -63,7 +54,6 @@ copy-requires c κs =
     let same = same-room (a .args .at) xs (a .args .into .now) (b .loop .into) (b .loop .to) (b .loop .inv .1) (b .loop .inv .2) ys room in
     omega arith
 
--- src/listing.rt:44:9
 add-to : tie.Need-add-to Inv-loop μ-loop
 add-to c =
     let a = c .before .before .before .before .before .before .before .before .before .before .before in
@@ -78,7 +68,6 @@ add-to c =
     let same = same-room (a .args .at) xs (a .args .into .now) (b .loop .into) (b .loop .to) (b .loop .inv .1) (b .loop .inv .2) ys room in
     omega arith
 
--- src/listing.rt:45:9
 slice-write-into : tie.Need-slice-write-into Inv-loop μ-loop
 slice-write-into c =
     let a = c .before .before .before .before .before .before .before .before .before .before .before in
@@ -95,7 +84,6 @@ slice-write-into c =
     let after = room-after (a .args .at) xs (a .args .into .now) (b .loop .into) (b .loop .to) (b .loop .inv .1) (b .loop .inv .2) ys room (c .before .before .copy .last .0) copied in
     omega arith
 
--- src/listing.rt:46:9
 add-to-2 : tie.Need-add-to-2 Inv-loop μ-loop
 add-to-2 c =
     let a = c .before .before .before .before .before .before .before .before .before .before .before in
@@ -110,15 +98,12 @@ add-to-2 c =
     let same = same-room (a .args .at) xs (a .args .into .now) (b .loop .into) (b .loop .to) (b .loop .inv .1) (b .loop .inv .2) ys room in
     omega arith
 
--- src/listing.rt:47:9
 add-k : tie.Need-add-k Inv-loop μ-loop
 add-k c = omega arith
 
--- src/listing.rt:41:5
 loop-less : tie.Need-loop-less Inv-loop μ-loop
 loop-less c = omega arith
 
--- src/listing.rt:41:5
 loop-again : tie.Need-loop-again Inv-loop μ-loop
 loop-again c =
     let a = c .before .before .before .before .before .before .before .before .before .before .before in
@@ -141,7 +126,6 @@ loop-again c =
       omega (arith, ap length e, length-append xs (ys ++ nul), length-append ys nul),
     )
 
--- src/listing.rt:35:1
 same-length : tie.Need-same-length Inv-loop μ-loop
 same-length c =
     let a = c .before .before .before .before .before in
@@ -152,7 +136,6 @@ same-length c =
     b .loop .inv .1 ∙ ap (λ (k : ℕ). paste (a .args .at) (ns (take k (a .args .list .now))) (a .args .into .now)) e in
     ap length w ∙ length-paste (a .args .at) (ns (take (a .args .n) (a .args .list .now))) (a .args .into .now) (a .pre .2)
 
--- src/listing.rt:35:1
 returns : tie.Need-returns Inv-loop μ-loop
 returns c =
     let a = c .before .before .before .before .before in

@@ -1,4 +1,4 @@
-use mathlib.Core.Path.{_≡_, refl, sym, ap, _∙_}
+use mathlib.Core.Path.{_≡_, refl, sym, _∙_}
 use Prim.Native.Nat.{_≤_, _-_}
 use native.Mathlib.Omega.{arith}
 use borrow.Author.Needs.{needs}
@@ -9,9 +9,6 @@ use Rattle.rules.proofs.Slots.{length-tableOf}
 use Rattle.lookup.proofs.ReachLaws.{child-here, child-further, child-over}
 use Rattle.lookup.proofs.reach.child.Statement.{statement}
 use Rattle.lookup.proofs.reach.child.Tie as tie
-use Rattle.lookup.proofs.reach.child.Reads as reads
-use Rattle.lookup.proofs.reach.child.Lts as lts
-use Rattle.lookup.proofs.reach.is_child.Reads as is-child-reads
 
 abbrev Inv-loop : tie.InvT-loop
 Inv-loop t p n i₀ i = (i ≤ 128) × (child (tableOf t) p n ≡ childFrom p n i (drop i (tableOf t)))
@@ -19,31 +16,25 @@ Inv-loop t p n i₀ i = (i ≤ 128) × (child (tableOf t) p n ≡ childFrom p n 
 abbrev μ-loop : tie.MeasureT-loop
 μ-loop t p n i₀ i = 128 - i
 
--- src/reach.rt:50:5
 loop-holds : tie.Need-loop-holds Inv-loop μ-loop
 unfolding child
 loop-holds c = (search needs, refl)
 
--- src/reach.rt:51:12
 is-child-requires : tie.Need-is-child-requires Inv-loop μ-loop
 is-child-requires c κs = (c .loop-test .taken, c .before .before .before .before .pre)
 
--- src/reach.rt:52:13
 returns : tie.Need-returns Inv-loop μ-loop
 returns c =
     let b = c .before .before .before in
     let a = b .before .before .before .args in
     sym (b .loop .inv .1 ∙ child-here (a .p) (a .n .now) (tableOf (a .t .now)) (b .loop .i) (rw (length-tableOf (a .t .now)) (c .before .before .loop-test .taken)) (sym (c .before .is-child .ensures) ∙ c .if1 .taken))
 
--- src/reach.rt:54:9
 add-i : tie.Need-add-i Inv-loop μ-loop
 add-i c = omega arith
 
--- src/reach.rt:50:5
 loop-less : tie.Need-loop-less Inv-loop μ-loop
 loop-less c = omega arith
 
--- src/reach.rt:50:5
 loop-again : tie.Need-loop-again Inv-loop μ-loop
 loop-again c =
     let b = c .before .before .before in
@@ -52,7 +43,6 @@ loop-again c =
       b .loop .inv .1 ∙ child-further (a .p) (a .n .now) (tableOf (a .t .now)) (b .loop .i) (rw (length-tableOf (a .t .now)) (c .before .before .loop-test .taken)) (sym (c .before .is-child .ensures) ∙ c .if1 .left),
     )
 
--- src/reach.rt:45:1
 returns-2 : tie.Need-returns-2 Inv-loop μ-loop
 returns-2 c =
     let b = c .before in

@@ -1,52 +1,39 @@
 use Rattle.rules.specs.Octets.{Octets, same}
 use Rattle.rules.specs.Layout.{tableOf}
-use mathlib.Core.Path.{_≡_, sym, ap, _∙_}
-use borrow.Author.Tests.{eq-eqb, ne-eqb, not-true, not-false}
+use mathlib.Core.Path.{sym, ap, _∙_}
+use borrow.Author.Tests.{not-true, not-false}
 use Rattle.slots.proofs.Canonical.{sound-canonical, name-short}
 use Rattle.lookup.proofs.ReachLaws.{unused-child, other-parent, same-parent}
 use borrow.Author.Needs.{needs}
 use Rattle.lookup.proofs.reach.is_child.Statement.{statement}
 use Rattle.lookup.proofs.reach.is_child.Tie as tie
-use Rattle.lookup.proofs.reach.is_child.Reads as reads
-use Rattle.lookup.proofs.reach.is_child.Lts as lts
-use Rattle.octets.proofs.compare.same.Reads as same-reads
-use Rattle.slots.proofs.fields.name.Reads as name-reads
-use Rattle.slots.proofs.fields.parent.Reads as parent-reads
-use Rattle.slots.proofs.fields.used.Reads as used-reads
 
--- src/reach.rt:35:9
 used-requires : tie.Need-used-requires
 used-requires c κs = (c .before .before .pre .0, sound-canonical _ (c .before .before .pre .1) .whole)
 
--- src/reach.rt:36:9
 returns : tie.Need-returns
 returns c = sym (unused-child _ _ _ (sym (c .before .used .ensures) ∙ not-true _ (c .if1 .taken)))
 
--- src/reach.rt:38:8
 parent-requires : tie.Need-parent-requires
 parent-requires c κs =
     let b = c .before .before .before .before in
     (b .pre .0, sound-canonical _ (b .pre .1) .whole, sym (c .before .used .ensures) ∙ not-false _ (c .if1 .left))
 
--- src/reach.rt:39:9
 returns-2 : tie.Need-returns-2
 returns-2 c =
     let b = c .before .before .before .before .before .before in
     let u = sym (c .before .before .before .used .ensures) ∙ not-false _ (c .before .before .if1 .left) in
     sym (other-parent (tableOf (b .args .t .now)) (b .args .i) (b .args .p) (b .args .n .now) u (λ e. c .if2 .taken (c .before .parent .ensures .1 ∙ e)))
 
--- src/reach.rt:41:10
 name-requires : tie.Need-name-requires
 name-requires c κs =
     let b = c .before .before .before .before .before .before in
     let u = sym (c .before .before .before .used .ensures) ∙ not-false _ (c .before .before .if1 .left) in
     (b .pre .0, sound-canonical _ (b .pre .1) .whole, u, name-short (b .args .t .now) (b .pre .1) (b .args .i) (b .pre .0) u)
 
--- src/reach.rt:41:5
 same-requires : tie.Need-same-requires
 same-requires c κs = search needs
 
--- src/reach.rt:31:1
 returns-3 : tie.Need-returns-3
 returns-3 c =
     let b = c .before .before .before .before .before .before .before .before in

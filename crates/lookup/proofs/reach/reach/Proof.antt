@@ -1,6 +1,6 @@
-use mathlib.Core.Path.{_≡_, refl, sym, ap, _∙_}
+use mathlib.Core.Path.{_≡_, sym, ap, _∙_}
 use mathlib.Core.Bool.{true}
-use Prim.Native.Nat.{_≤_, _<_, _-_, _+_}
+use Prim.Native.Nat.{_<_, _-_}
 use native.Mathlib.Omega.{arith}
 use borrow.Author.Needs.{needs}
 use mathlib.Core.Option.{some, none}
@@ -9,7 +9,6 @@ use lib.ListN.{length, take, drop}
 use Rattle.rules.specs.Path.{Names, allNames, namesIn}
 use Rattle.rules.specs.Node.{child, Reached, reach, reachFrom}
 use Rattle.rules.specs.Layout.{tableOf}
-use Rattle.rules.proofs.Slots.{length-tableOf}
 use Rattle.rules.proofs.PathLaws.{full}
 use Rattle.paths.specs.Names.{nameEnd}
 use Rattle.paths.proofs.PieceLaws.{end-low, end-high}
@@ -20,10 +19,6 @@ use Rattle.lookup.specs.Reach.{foundMeant}
 use Rattle.lookup.proofs.ReachLaws.{reach-end, left-over, left-whole, turned, stopped}
 use Rattle.lookup.proofs.reach.reach.Statement.{statement}
 use Rattle.lookup.proofs.reach.reach.Tie as tie
-use Rattle.lookup.proofs.reach.reach.Reads as reads
-use Rattle.lookup.proofs.reach.reach.Lts as lts
-use Rattle.lookup.proofs.reach.child.Reads as child-reads
-use Rattle.paths.proofs.names.name_end.Reads as name-end-reads
 
 abbrev Inv-loop : tie.InvT-loop
 Inv-loop t path slot₀ at₀ slot at =
@@ -32,7 +27,6 @@ Inv-loop t path slot₀ at₀ slot at =
 abbrev μ-loop : tie.MeasureT-loop
 μ-loop t path slot₀ at₀ slot at = length path - at
 
--- src/reach.rt:66:5
 loop-holds : tie.Need-loop-holds Inv-loop μ-loop
 unfolding reach
 loop-holds c =
@@ -45,49 +39,40 @@ loop-holds c =
       ap (λ (ns : Names). reachFrom ns (tableOf (a .args .t .now)) 0) e,
     )
 
--- src/reach.rt:67:13
 name-end-requires : tie.Need-name-end-requires Inv-loop μ-loop
 name-end-requires c κs = omega arith
 
--- src/reach.rt:68:30
 sub-child : tie.Need-sub-child Inv-loop μ-loop
 sub-child c =
     let p = c .before .before .before .before .before .args .path .now in
     rw (c .name-end .ensures) (end-low p (c .before .before .loop .at) (omega arith))
 
--- src/reach.rt:68:30
 part-child-start : tie.Need-part-child-start Inv-loop μ-loop
 part-child-start c = omega (arith, sub-child c)
 
--- src/reach.rt:68:30
 part-child-end : tie.Need-part-child-end Inv-loop μ-loop
 part-child-end c =
     let p = c .before .before .before .before .before .args .path .now in
     omega (arith, end-high p (c .before .before .loop .at) (omega arith), c .name-end .ensures)
 
--- src/reach.rt:68:15
 child-requires : tie.Need-child-requires Inv-loop μ-loop
 child-requires c κs = c .before .before .before .before .before .before .pre .0
 
--- src/reach.rt:69:23
 enum-known-i : tie.Need-enum-known-i Inv-loop μ-loop
 enum-known-i c = c .match .keys1
 
--- src/reach.rt:71:22
 add-at : tie.Need-add-at Inv-loop μ-loop
 add-at c =
     let p = c .before .before .before .before .before .before .before .before .before .before .args .path .now in
     let b = c .before .before .before .before .before .before .before in
     omega (arith, end-high p (b .loop .at) (omega arith), c .before .before .before .before .before .name-end .ensures)
 
--- src/reach.rt:66:5
 loop-less : tie.Need-loop-less Inv-loop μ-loop
 loop-less c =
     let p = c .before .before .before .before .before .before .before .before .before .before .args .path .now in
     let b = c .before .before .before .before .before .before .before in
     omega (arith, end-low p (b .loop .at) (omega arith), c .before .before .before .before .before .name-end .ensures)
 
--- src/reach.rt:66:5
 loop-again : tie.Need-loop-again Inv-loop μ-loop
 loop-again c =
     let a = c .before .before .before .before .before .before .before .before .before .before in
@@ -98,11 +83,9 @@ loop-again c =
     let f : child (tableOf (a .args .t .now)) (b .loop .slot) (take (c .before .before .before .before .before .name-end .result - b .loop .at) (drop (b .loop .at) p)) ≡ some i = sym (c .before .before .before .child .ensures) ∙ ap foundMeant (c .before .i .given .1) in
     turned (a .args .t .now) p (b .loop .slot) (b .loop .at) (omega arith) (b .loop .inv .2) (b .loop .inv .3) (c .before .before .before .before .before .name-end .result) e i f
 
--- src/reach.rt:73:31
 enum-told : tie.Need-enum-told Inv-loop μ-loop
 enum-told c = c .match .keys2
 
--- src/reach.rt:73:31
 returns : tie.Need-returns Inv-loop μ-loop
 returns c =
     let a = c .before .before .before .before .before .before .before .before .before in
@@ -113,7 +96,6 @@ returns c =
     let r = stopped (a .args .t .now) p (b .loop .slot) (b .loop .at) (omega arith) (b .loop .inv .2) (b .loop .inv .3) (c .before .before .before .before .name-end .result) e f in
     record { below = b .loop .inv .0; used = b .loop .inv .1; there = ap (λ (x : Reached). x .slot) (sym r); left = ap (λ (x : Reached). x .left) (sym r) }
 
--- src/reach.rt:60:1
 returns-2 : tie.Need-returns-2 Inv-loop μ-loop
 returns-2 c =
     let a = c .before .before .before .before in

@@ -1,4 +1,4 @@
-use mathlib.Core.Path.{_≡_, sym, ap, _∙_}
+use mathlib.Core.Path.{sym, ap, _∙_}
 use Prim.Native.Nat.{ℕ}
 use Rattle.rules.specs.Node.{Entry, nodeAt}
 use Rattle.rules.specs.Rights.{named}
@@ -8,31 +8,22 @@ use Rattle.lookup.proofs.RightsLaws.{owner-is, by-control, by-owner, by
 use borrow.Author.Needs.{needs}
 use Rattle.lookup.proofs.rights.access_of.Statement.{statement}
 use Rattle.lookup.proofs.rights.access_of.Tie as tie
-use Rattle.lookup.proofs.rights.access_of.Reads as reads
-use Rattle.lookup.proofs.rights.access_of.Lts as lts
-use Rattle.lookup.proofs.rights.named.Reads as named-reads
-use Rattle.slots.proofs.fields.entry_at.Reads as entry-at-reads
 
--- src/rights.rt:57:9
 returns : tie.Need-returns
 returns c = sym (by-control _ _ (c .if1 .taken))
 
--- src/rights.rt:62:9
 entry-at-requires : tie.Need-entry-at-requires
 entry-at-requires c κs = (c .before .before .pre .below, sound-canonical _ (c .before .before .pre .sound) .whole, search needs)
 
--- src/rights.rt:64:9
 returns-2 : tie.Need-returns-2
 returns-2 c =
     let a = c .before .before .before .before .before in
     let o = owner-is (a .args .t .now) (a .args .i) (a .pre) in
     sym (by-owner _ _ (c .before .before .before .if1 .left) (c .if2 .taken ∙ c .before .before .entry-at .ensures .1 ∙ ap (λ (e : Entry). e .domain) o))
 
--- src/rights.rt:69:5
 named-requires : tie.Need-named-requires
 named-requires c κs = search needs
 
--- src/rights.rt:52:1
 returns-3 : tie.Need-returns-3
 returns-3 c =
     let a = c .before .before .before .before .before .before in

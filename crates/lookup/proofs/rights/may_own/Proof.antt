@@ -2,26 +2,20 @@ use lib.Dec.{eqb}
 use borrow.Author.Needs.{needs}
 use borrow.Author.Tests.{eq-eqb, ne-eqb}
 use Rattle.rules.specs.Node.{Entry}
-use mathlib.Core.Path.{_≡_, refl, sym, ap, _∙_}
+use mathlib.Core.Path.{ap, _∙_}
 use Rattle.rules.specs.Rights.{mayOwn}
 use Rattle.slots.proofs.Canonical.{sound-canonical}
 use Rattle.lookup.proofs.RightsLaws.{owner-is}
 use Rattle.lookup.proofs.rights.may_own.Statement.{statement}
 use Rattle.lookup.proofs.rights.may_own.Tie as tie
-use Rattle.lookup.proofs.rights.may_own.Reads as reads
-use Rattle.lookup.proofs.rights.may_own.Lts as lts
-use Rattle.slots.proofs.fields.entry_at.Reads as entry-at-reads
 
--- src/rights.rt:92:9
 returns : tie.Need-returns
 unfolding mayOwn
 returns c = rw (eq-eqb (c .before .before .args .domain) 0 (c .if1 .taken))
 
--- src/rights.rt:94:15
 entry-at-requires : tie.Need-entry-at-requires
 entry-at-requires c κs = (c .before .before .pre .below, sound-canonical _ (c .before .before .pre .sound) .whole, search needs)
 
--- src/rights.rt:87:1
 returns-2 : tie.Need-returns-2
 unfolding mayOwn
 returns-2 c =

@@ -1,4 +1,4 @@
-use mathlib.Core.Path.{_≡_, refl, sym, ap, _∙_}
+use mathlib.Core.Path.{_≡_, refl, sym, _∙_}
 use Prim.Native.Nat.{_≤_, _-_, suc}
 use native.Mathlib.Omega.{arith}
 use borrow.Author.Needs.{needs}
@@ -10,10 +10,6 @@ use Rattle.slots.proofs.Canonical.{sound-canonical}
 use Rattle.lookup.proofs.RightsLaws.{from, named-none, count-is, few, named-by, not-named-by}
 use Rattle.lookup.proofs.rights.named.Statement.{statement}
 use Rattle.lookup.proofs.rights.named.Tie as tie
-use Rattle.lookup.proofs.rights.named.Reads as reads
-use Rattle.lookup.proofs.rights.named.Lts as lts
-use Rattle.slots.proofs.fields.entry_at.Reads as entry-at-reads
-use Rattle.slots.proofs.fields.entry_count.Reads as entry-count-reads
 
 abbrev Inv-loop : tie.InvT-loop
 Inv-loop t i domain first count k₀ k =
@@ -23,24 +19,20 @@ Inv-loop t i domain first count k₀ k =
 abbrev μ-loop : tie.MeasureT-loop
 μ-loop t i domain first count k₀ k = count - k
 
--- src/rights.rt:33:9
 entry-count-requires : tie.Need-entry-count-requires Inv-loop μ-loop
 entry-count-requires c κs = (c .before .pre .below, sound-canonical _ (c .before .pre .sound) .whole)
 
--- src/rights.rt:35:5
 loop-holds : tie.Need-loop-holds Inv-loop μ-loop
 loop-holds c =
     let a = c .before .before in
     let n = count-is (a .args .t .now) (a .args .i) (a .pre) in
     (search needs, omega (arith, c .entry-count .ensures, n), c .entry-count .ensures ∙ n, refl)
 
--- src/rights.rt:36:13
 entry-at-requires : tie.Need-entry-at-requires Inv-loop μ-loop
 entry-at-requires c κs =
     let a = c .before .before .before .before in
     (a .pre .below, sound-canonical _ (a .pre .sound) .whole, omega (arith, few (a .args .t .now) (a .args .i) (a .pre)))
 
--- src/rights.rt:38:13
 returns : tie.Need-returns Inv-loop μ-loop
 returns c =
     let a = c .before .before .before .before .before .before .before in
@@ -48,15 +40,12 @@ returns c =
     let e = c .before .before .entry-at in
     sym (b .loop .inv .3 ∙ named-by (a .args .t .now) (a .args .i) (a .pre) (a .args .domain) (a .args .first) (b .loop .k) (b .loop .inv .0) (omega arith) (e .result .access) (e .result .domain) (e .ensures .0) (e .ensures .1) (c .if1 .taken))
 
--- src/rights.rt:43:9
 add-k : tie.Need-add-k Inv-loop μ-loop
 add-k c = omega arith
 
--- src/rights.rt:35:5
 loop-less : tie.Need-loop-less Inv-loop μ-loop
 loop-less c = omega arith
 
--- src/rights.rt:35:5
 loop-again : tie.Need-loop-again Inv-loop μ-loop
 loop-again c =
     let a = c .before .before .before .before .before .before .before in
@@ -68,7 +57,6 @@ loop-again c =
       b .loop .inv .3 ∙ not-named-by (a .args .t .now) (a .args .i) (a .pre) (a .args .domain) (a .args .first) (b .loop .k) (b .loop .inv .0) (omega arith) (e .result .domain) (e .ensures .1) (c .if1 .left),
     )
 
--- src/rights.rt:29:1
 returns-2 : tie.Need-returns-2 Inv-loop μ-loop
 returns-2 c =
     let a = c .before .before .before .before in

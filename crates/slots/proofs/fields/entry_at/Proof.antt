@@ -3,69 +3,52 @@ use Rattle.slots.proofs.Reading.{entry-read}
 use borrow.Author.Needs.{needs}
 use Rattle.slots.proofs.fields.entry_at.Statement.{statement}
 use Rattle.slots.proofs.fields.entry_at.Tie as tie
-use Rattle.slots.proofs.fields.entry_at.Reads as reads
-use Rattle.slots.proofs.fields.entry_at.Lts as lts
-use Rattle.slots.proofs.fields.parted.Reads as parted-reads
-use Rattle.slots.proofs.fields.three.Reads as three-reads
 
--- src/slots.rt:104:25
 mul-three : tie.Need-mul-three
 mul-three c = search needs
 
--- src/slots.rt:104:25
 add-three : tie.Need-add-three
 add-three c = search needs
 
--- src/slots.rt:104:45
 mul-three-2 : tie.Need-mul-three-2
 mul-three-2 c = search needs
 
--- src/slots.rt:104:25
 add-three-2 : tie.Need-add-three-2
 add-three-2 c = search needs
 
--- src/slots.rt:104:9
 three-requires : tie.Need-three-requires
 three-requires c κs = search needs
 
--- src/slots.rt:106:9
 parted-requires : tie.Need-parted-requires
 parted-requires c κs = search needs
 
--- src/slots.rt:106:9
 returns : tie.Need-returns
 returns c =
     let b = c .before .before .before .before in
     let got = c .before .before .three in
     entry-read (b .args .t .now) (got .ensures .2) (b .pre .1) (b .args .i) (b .pre .0) (b .args .k) 0 (omega arith) (omega arith) (got .result) (c .parted .result .access) (c .parted .result .domain) (got .ensures .0) (omega (arith, c .parted .ensures)) (omega (arith, c .parted .ensures))
 
--- src/slots.rt:109:9
 parted-requires-2 : tie.Need-parted-requires-2
 parted-requires-2 c κs = search needs
 
--- src/slots.rt:109:9
 returns-2 : tie.Need-returns-2
 returns-2 c =
     let b = c .before .before .before .before .before in
     let got = c .before .before .before .three in
     entry-read (b .args .t .now) (got .ensures .2) (b .pre .1) (b .args .i) (b .pre .0) (b .args .k) 1 (omega arith) (omega arith) (got .result) (c .parted2 .result .access) (c .parted2 .result .domain) (got .ensures .0) (omega (arith, c .parted2 .ensures)) (omega (arith, c .parted2 .ensures))
 
--- src/slots.rt:112:9
 parted-requires-3 : tie.Need-parted-requires-3
 parted-requires-3 c κs = search needs
 
--- src/slots.rt:112:9
 returns-3 : tie.Need-returns-3
 returns-3 c =
     let b = c .before .before .before .before .before .before in
     let got = c .before .before .before .before .three in
     entry-read (b .args .t .now) (got .ensures .2) (b .pre .1) (b .args .i) (b .pre .0) (b .args .k) 2 (omega arith) (omega arith) (got .result) (c .parted3 .result .access) (c .parted3 .result .domain) (got .ensures .0) (omega (arith, c .parted3 .ensures)) (omega (arith, c .parted3 .ensures))
 
--- src/slots.rt:114:5
 parted-requires-4 : tie.Need-parted-requires-4
 parted-requires-4 c κs = search needs
 
--- src/slots.rt:100:1
 returns-4 : tie.Need-returns-4
 returns-4 c =
     let b = c .before .before .before .before .before .before in

@@ -2,26 +2,19 @@ use Rattle.slots.proofs.Reading.{known, entry-count-byte}
 use borrow.Author.Needs.{needs}
 use Rattle.slots.proofs.fields.entry_count.Statement.{statement}
 use Rattle.slots.proofs.fields.entry_count.Tie as tie
-use Rattle.slots.proofs.fields.entry_count.Reads as reads
-use Rattle.slots.proofs.fields.entry_count.Lts as lts
 
--- src/slots.rt:49:8
 mul-result : tie.Need-mul-result
 mul-result c = search needs
 
--- src/slots.rt:49:8
 add-result : tie.Need-add-result
 add-result c = search needs
 
--- src/slots.rt:49:6
 shared-slice-read-result : tie.Need-shared-slice-read-result
 shared-slice-read-result c = search needs
 
--- src/slots.rt:49:5
 cast-result : tie.Need-cast-result
 cast-result c = search needs
 
--- src/slots.rt:45:1
 returns : tie.Need-returns
 returns c = entry-count-byte (c .before .args .t .now) (known (c .before .args .t .now) (c .shared-slice-known .given)) (c .before .pre .1) _ (c .before .pre .0)
 

@@ -4,26 +4,19 @@ use native.Mathlib.Omega.{arith}
 use borrow.Author.Needs.{needs}
 use Rattle.slots.proofs.fields.name_length.Statement.{statement}
 use Rattle.slots.proofs.fields.name_length.Tie as tie
-use Rattle.slots.proofs.fields.name_length.Reads as reads
-use Rattle.slots.proofs.fields.name_length.Lts as lts
 
--- src/slots.rt:33:8
 mul-result : tie.Need-mul-result
 mul-result c = search needs
 
--- src/slots.rt:33:8
 add-result : tie.Need-add-result
 add-result c = search needs
 
--- src/slots.rt:33:6
 shared-slice-read-result : tie.Need-shared-slice-read-result
 shared-slice-read-result c = search needs
 
--- src/slots.rt:33:5
 cast-result : tie.Need-cast-result
 cast-result c = omega (arith, c .shared-slice-known .given (c .before .args .i * 108 + 1))
 
--- src/slots.rt:29:1
 returns : tie.Need-returns
 returns c = name-length-byte (c .before .args .t .now) (known (c .before .args .t .now) (c .shared-slice-known .given)) (c .before .pre .1) _ (c .before .pre .0)
 

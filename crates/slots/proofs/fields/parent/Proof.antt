@@ -2,22 +2,16 @@ use Rattle.slots.proofs.Reading.{known, parent-byte}
 use borrow.Author.Needs.{needs}
 use Rattle.slots.proofs.fields.parent.Statement.{statement}
 use Rattle.slots.proofs.fields.parent.Tie as tie
-use Rattle.slots.proofs.fields.parent.Reads as reads
-use Rattle.slots.proofs.fields.parent.Lts as lts
 
--- src/slots.rt:26:8
 mul-result : tie.Need-mul-result
 mul-result c = search needs
 
--- src/slots.rt:26:6
 shared-slice-read-result : tie.Need-shared-slice-read-result
 shared-slice-read-result c = search needs
 
--- src/slots.rt:26:5
 cast-result : tie.Need-cast-result
 cast-result c = search needs
 
--- src/slots.rt:22:1
 returns : tie.Need-returns
 returns c = (search needs, parent-byte (c .before .args .t .now) (known (c .before .args .t .now) (c .shared-slice-known .given)) (c .before .pre .1) _ (c .before .pre .0) (c .before .pre .2))
 

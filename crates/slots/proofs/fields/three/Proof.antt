@@ -1,63 +1,48 @@
 use Rattle.slots.specs.Slot.{Bytes}
 use Rattle.slots.proofs.Reading.{known}
-use Prim.Native.Nat.{_+_, _*_}
+use Prim.Native.Nat.{_+_}
 use native.Mathlib.Omega.{arith}
 use Rattle.rules.proofs.Fields.{field-three}
 use borrow.Author.Needs.{needs}
 use Rattle.slots.proofs.fields.three.Statement.{statement}
 use Rattle.slots.proofs.fields.three.Tie as tie
-use Rattle.slots.proofs.fields.three.Reads as reads
-use Rattle.slots.proofs.fields.three.Lts as lts
 
--- src/slots.rt:83:16
 shared-slice-read-high : tie.Need-shared-slice-read-high
 shared-slice-read-high c = search needs
 
--- src/slots.rt:83:16
 cast-high : tie.Need-cast-high
 cast-high c = omega (arith, c .shared-slice-known .given (c .before .args .at))
 
--- src/slots.rt:84:20
 add-middle : tie.Need-add-middle
 add-middle c = search needs
 
--- src/slots.rt:84:18
 shared-slice-read-middle : tie.Need-shared-slice-read-middle
 shared-slice-read-middle c = search needs
 
--- src/slots.rt:84:18
 cast-middle : tie.Need-cast-middle
 cast-middle c = omega (arith, c .shared-slice-known2 .given (c .before .before .args .at + 1))
 
--- src/slots.rt:85:17
 add-low : tie.Need-add-low
 add-low c = search needs
 
--- src/slots.rt:85:15
 shared-slice-read-low : tie.Need-shared-slice-read-low
 shared-slice-read-low c = search needs
 
--- src/slots.rt:85:15
 cast-low : tie.Need-cast-low
 cast-low c = omega (arith, c .shared-slice-known3 .given (c .before .before .before .args .at + 2))
 
--- src/slots.rt:86:5
 mul-result : tie.Need-mul-result
 mul-result c = omega (arith, c .shared-slice-known3 .given (c .before .before .before .args .at), c .shared-slice-known3 .given (c .before .before .before .args .at + 1), c .shared-slice-known3 .given (c .before .before .before .args .at + 2))
 
--- src/slots.rt:86:20
 mul-result-2 : tie.Need-mul-result-2
 mul-result-2 c = omega (arith, c .shared-slice-known3 .given (c .before .before .before .args .at), c .shared-slice-known3 .given (c .before .before .before .args .at + 1), c .shared-slice-known3 .given (c .before .before .before .args .at + 2))
 
--- src/slots.rt:86:5
 add-result : tie.Need-add-result
 add-result c = omega (arith, c .shared-slice-known3 .given (c .before .before .before .args .at), c .shared-slice-known3 .given (c .before .before .before .args .at + 1), c .shared-slice-known3 .given (c .before .before .before .args .at + 2))
 
--- src/slots.rt:86:5
 add-result-2 : tie.Need-add-result-2
 add-result-2 c = omega (arith, c .shared-slice-known3 .given (c .before .before .before .args .at), c .shared-slice-known3 .given (c .before .before .before .args .at + 1), c .shared-slice-known3 .given (c .before .before .before .args .at + 2))
 
--- src/slots.rt:79:1
 returns : tie.Need-returns
 returns c =
     let b = c .before .before .before in

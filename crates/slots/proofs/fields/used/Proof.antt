@@ -2,18 +2,13 @@ use Rattle.slots.proofs.Reading.{known, used-byte}
 use borrow.Author.Needs.{needs}
 use Rattle.slots.proofs.fields.used.Statement.{statement}
 use Rattle.slots.proofs.fields.used.Tie as tie
-use Rattle.slots.proofs.fields.used.Reads as reads
-use Rattle.slots.proofs.fields.used.Lts as lts
 
--- src/slots.rt:18:14
 mul-result : tie.Need-mul-result
 mul-result c = search needs
 
--- src/slots.rt:18:12
 shared-slice-read-result : tie.Need-shared-slice-read-result
 shared-slice-read-result c = search needs
 
--- src/slots.rt:14:1
 returns : tie.Need-returns
 returns c = used-byte (c .before .args .t .now) (known (c .before .args .t .now) (c .shared-slice-known .given)) (c .before .pre .1) _ (c .before .pre .0)
 

@@ -2,39 +2,28 @@ use Rattle.slots.proofs.Reading.{value-part}
 use borrow.Author.Needs.{needs}
 use Rattle.slots.proofs.fields.value.Statement.{statement}
 use Rattle.slots.proofs.fields.value.Tie as tie
-use Rattle.slots.proofs.fields.value.Reads as reads
-use Rattle.slots.proofs.fields.value.Lts as lts
-use Rattle.slots.proofs.fields.value_length.Reads as value-length-reads
 
--- src/slots.rt:67:9
 value-length-requires : tie.Need-value-length-requires
 value-length-requires c κs = search needs
 
--- src/slots.rt:68:16
 mul-from : tie.Need-mul-from
 mul-from c = search needs
 
--- src/slots.rt:68:16
 add-from : tie.Need-add-from
 add-from c = search needs
 
--- src/slots.rt:69:14
 add-result : tie.Need-add-result
 add-result c = search needs
 
--- src/slots.rt:69:5
 sub-result : tie.Need-sub-result
 sub-result c = search needs
 
--- src/slots.rt:69:5
 part-result-start : tie.Need-part-result-start
 part-result-start c = search needs
 
--- src/slots.rt:69:5
 part-result-end : tie.Need-part-result-end
 part-result-end c = search needs
 
--- src/slots.rt:63:1
 returns : tie.Need-returns
 returns c =
     let b = c .before .before .before in

@@ -4,50 +4,37 @@ use native.Mathlib.Omega.{arith}
 use borrow.Author.Needs.{needs}
 use Rattle.slots.proofs.fields.value_length.Statement.{statement}
 use Rattle.slots.proofs.fields.value_length.Tie as tie
-use Rattle.slots.proofs.fields.value_length.Reads as reads
-use Rattle.slots.proofs.fields.value_length.Lts as lts
 
--- src/slots.rt:40:19
 mul-high : tie.Need-mul-high
 mul-high c = search needs
 
--- src/slots.rt:40:19
 add-high : tie.Need-add-high
 add-high c = search needs
 
--- src/slots.rt:40:17
 shared-slice-read-high : tie.Need-shared-slice-read-high
 shared-slice-read-high c = search needs
 
--- src/slots.rt:40:16
 cast-high : tie.Need-cast-high
 cast-high c = search needs
 
--- src/slots.rt:41:18
 mul-low : tie.Need-mul-low
 mul-low c = search needs
 
--- src/slots.rt:41:18
 add-low : tie.Need-add-low
 add-low c = search needs
 
--- src/slots.rt:41:16
 shared-slice-read-low : tie.Need-shared-slice-read-low
 shared-slice-read-low c = search needs
 
--- src/slots.rt:41:15
 cast-low : tie.Need-cast-low
 cast-low c = omega (arith, c .shared-slice-known2 .given (c .before .before .args .i * 108 + 2))
 
--- src/slots.rt:42:5
 mul-result : tie.Need-mul-result
 mul-result c = search needs
 
--- src/slots.rt:42:5
 add-result : tie.Need-add-result
 add-result c = omega (arith, c .shared-slice-known2 .given (c .before .before .args .i * 108 + 2))
 
--- src/slots.rt:36:1
 returns : tie.Need-returns
 returns c = value-length-bytes (c .before .before .args .t .now) (known (c .before .before .args .t .now) (c .shared-slice-known2 .given)) (c .before .before .pre .1) _ (c .before .before .pre .0)
 
