@@ -17,3 +17,4 @@ pub mod PathLaws
 pub mod BelowLaws
 pub mod Joined
 pub mod RelativeLaws
+pub mod Owned
