@@ -18,3 +18,4 @@ pub mod BelowLaws
 pub mod Joined
 pub mod RelativeLaws
 pub mod Reencoding
+pub mod Owned

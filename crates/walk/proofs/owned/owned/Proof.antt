@@ -1,0 +1,33 @@
+use mathlib.Core.Path.{_≡_, _∙_}
+use native.Mathlib.Omega.{arith}
+use borrow.Author.Needs.{needs}
+use Rattle.rules.specs.Node.{ownedBy}
+use Rattle.walk.proofs.WalkLaws.{root-asked, owned-room, owned-done}
+use Rattle.walk.proofs.owned.owned.Statement.{statement}
+use Rattle.walk.proofs.owned.owned.Tie as tie
+use Rattle.walk.proofs.owned.owned.Reads as reads
+use Rattle.walk.proofs.owned.owned.Lts as lts
+use Rattle.walk.proofs.owned.visit.Reads as visit-reads
+
+-- src/owned.rt:53:5
+visit-requires : tie.Need-visit-requires
+unfolding ownedBy
+visit-requires c κs =
+    let s = c .before .before .before in
+    let t = s .args .t .now in
+    (root-asked t (s .pre .0), omega (arith, owned-room t (s .pre .0) (s .args .domain) (s .pre .1), s .pre .2))
+
+-- src/owned.rt:49:1
+same-length : tie.Need-same-length
+same-length c = search needs
+
+-- src/owned.rt:49:1
+returns : tie.Need-returns
+unfolding ownedBy
+returns c =
+    let s = c .before .before .before .before .before .before in
+    let v = c .before .before .visit in
+    owned-done (s .args .t .now) (s .pre .0) (s .args .domain) (s .pre .1) (s .args .out .now) _ _ (v .kept .1 .1 .1 .1 .0 ∙ s .pre .2) (v .ensures)
+
+pub owned-spec : {M : Type 1} → statement M
+owned-spec = tie.close (tie.spec visit-requires same-length returns)
