@@ -192,6 +192,12 @@ added =
           ∷ call 5 (WRITE "/a" "2") (refused EACCES) ∷ [];
     }
     ∷ record {
+      says = "The first later entry counts: with `n3`, `r5`, `w5` 5 reads and does not write.";
+      steps =
+          call 0 (INTRODUCE "5") OK ∷ call 0 (WRITE "/a" "1") OK ∷ call 0 (SETPERMS "/a" (string "n3" ++ (string "r5" ++ string "w5"))) OK ∷ call 5 (READ "/a") (done (text "1"))
+          ∷ call 5 (WRITE "/a" "2") (refused EACCES) ∷ [];
+    }
+    ∷ record {
       says = "Watch `/a` depth 0 is silent for WRITE `/a/b`; depth 1 hears it.";
       steps = heardBy 0 (WATCHTO "/a" "0") OK 1 ∷ heardBy 0 (WRITE "/a/b" "1") OK 0 ∷ heardBy 0 (WATCHTO "/a" "1") OK 1
           ∷ heardBy 0 (WRITE "/a/b" "1") OK 1 ∷ heardBy 0 (WRITE "/a/b/c" "1") OK 0 ∷ [];
