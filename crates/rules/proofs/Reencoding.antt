@@ -1,21 +1,20 @@
 -- Bytes that re-encode to themselves: part by part, number by number, and slot by slot.
 use mathlib.Core.Path.{_≡_, refl, sym, ap, ap₂, _∙_}
 use mathlib.Core.Bool.{Bool, true, false, _&&_, and-assoc}
-use mathlib.Core.List.{List, [], _∷_, _++_, map, flatMap}
+use mathlib.Core.List.{[], _∷_, _++_, map, flatMap}
 use mathlib.Core.Option.{none}
 use Prim.Native.Nat.{ℕ, zero, suc, _+_, _*_, _-_, _/_, _%_, _^_, _≤_, _<_}
-use native.Mathlib.Nat.{add-zero, zero-mul, suc-mul, add-comm, le-of-suc-le-suc, not-suc-le-zero}
-use native.Mathlib.Numerals.{add-one}
+use native.Mathlib.Nat.{zero-mul, suc-mul, add-comm}
 use native.Mathlib.Omega.{arith}
-use lib.ListN.{length, getD, take, drop, replicate, length-append, length-take, length-drop, length-replicate, take-append-drop}
-use lib.Seq.{take-suc, take-length, length-take-le, take-all, drop-drop, take-append-seam}
+use lib.ListN.{length, getD, take, drop, replicate, length-drop, take-append-drop}
+use lib.Seq.{take-suc, length-take-le, take-all, drop-drop}
 use lib.Dec.{eqb}
 use borrow.Author.Tests.{eq-eqb, eqb-true}
 use Rattle.rules.specs.Size.{slots, slotSize, tableSize}
 use Rattle.rules.specs.Octets.{Octets, same, allZero, padded, chunks, bigEndian, bigFrom}
 use Rattle.rules.specs.Layout.{slotBytes, slotOf, tableBytes, tableOf}
-use Rattle.rules.proofs.Compare.{same-refl, same-eq, eq-same, same-length, zero-eq, eq-zero}
-use Rattle.rules.proofs.Fields.{length-big, big-read}
+use Rattle.rules.proofs.Compare.{same-refl, same-eq, eq-same, zero-eq, eq-zero}
+use Rattle.rules.proofs.Fields.{big-read}
 use Rattle.rules.proofs.Tables.{encoded-at, each-map}
 use Rattle.rules.proofs.Slots.{SlotFits, slot-width, slot-at, length-tableOf}
 use Rattle.rules.proofs.Fitting.{decoded-fits}

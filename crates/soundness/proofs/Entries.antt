@@ -1,22 +1,19 @@
 -- The entries of a slot against the rule book, as numbers.
-use mathlib.Core.Path.{_≡_, refl, sym, ap, ap₂, _∙_}
-use mathlib.Core.Bool.{Bool, true, false, _&&_, and-comm}
+use mathlib.Core.Path.{_≡_, refl, sym, ap, _∙_}
+use mathlib.Core.Bool.{and-true, Bool, true, _&&_, and-comm}
 use mathlib.Core.List.{List, [], _∷_}
 use Prim.Native.Nat.{ℕ, zero, suc, _+_, _*_, _-_, _/_, _%_, _^_, _≤_, _<_}
-use native.Mathlib.Nat.{add-assoc, lt-of-le-of-lt}
+use native.Mathlib.Nat.{div-one, add-assoc, lt-of-le-of-lt}
 use native.Mathlib.Omega.{arith}
 use lib.ListN.{length, getD, take}
 use lib.Dec.{eqb, leb}
-use borrow.Author.Tests.{eq-eqb, eqb-true, le-leb, leb-true}
+use borrow.Author.Tests.{ne-eqb, eq-eqb, le-leb}
 use Rattle.rules.specs.Octets.{Octets, field, bitsAt, pack, packFrom}
 use Rattle.rules.specs.Node.{Entry}
 use Rattle.rules.specs.Layout.{entryAt, entryBits}
 use Rattle.rules.specs.Sound.{goodEntries}
-use Rattle.rules.proofs.Compare.{both-true}
-use Rattle.rules.proofs.Fields.{field-split, field-two, field-one}
-use Rattle.rules.proofs.Reencoding.{both-ways}
+use Rattle.rules.proofs.Fields.{field-split, field-two}
 use Rattle.soundness.specs.Parts.{lowDomains}
-use Rattle.soundness.proofs.Tests.{both}
 
 -- the entries of nine bytes that a count says
 abbrev pub counted : ℕ → ℕ → List Entry
@@ -25,22 +22,6 @@ counted m c = entryAt m 3 ∷ take (c - 1) (entryAt m 2 ∷ entryAt m 1 ∷ entr
 -- the four domains are no higher than the last
 abbrev pub low : ℕ → ℕ → ℕ → ℕ → Bool
 low a b c d = leb a 32751 && (leb b 32751 && (leb c 32751 && leb d 32751))
-
-record Low (a b c d : ℕ) : Type 0 where
-  first : a ≤ 32751
-  second : b ≤ 32751
-  third : c ≤ 32751
-  fourth : d ≤ 32751
-
-is-low : (a b c d : ℕ) → a ≤ 32751 → b ≤ 32751 → c ≤ 32751 → d ≤ 32751 → low a b c d ≡ true
-is-low a b c d p q r s = both (le-leb a 32751 p) (both (le-leb b 32751 q) (both (le-leb c 32751 r) (le-leb d 32751 s)))
-
-low-is : (a b c d : ℕ) → low a b c d ≡ true → Low a b c d
-low-is a b c d e =
-    let p = both-true (leb a 32751) (leb b 32751 && (leb c 32751 && leb d 32751)) e in
-    let q = both-true (leb b 32751) (leb c 32751 && leb d 32751) (p .1) in
-    let r = both-true (leb c 32751) (leb d 32751) (q .1) in
-    record { first = leb-true a 32751 (p .0); second = leb-true b 32751 (q .0); third = leb-true c 32751 (r .0); fourth = leb-true d 32751 (r .1) }
 
 -- the domain of the entry with k more after it
 abbrev dom : ℕ → ℕ → ℕ
@@ -115,71 +96,24 @@ packed-past m (suc (suc (suc zero))) b h k = rw (pack-three (entryAt m 3) (entry
 packed-past m (suc (suc (suc (suc zero)))) b h k = rw (pack-four (entryAt m 3) (entryAt m 2) (entryAt m 1) (entryAt m 0), word-three m, word-two m, word-one m, word-none m) (none-left m b _ ∙ three-words m b)
 packed-past m (suc (suc (suc (suc (suc c))))) b h k = absurd (omega arith)
 
--- the entries that count are good and what is past them is zero: by the number's parts
-pub entries-parts : (m c : ℕ) → m < 256 ^ 9 → 1 ≤ c → c ≤ 4 →
-    eqb (pack (entryBits 4 (counted m c))) m && goodEntries (counted m c)
-    ≡ eqb (m % 2 ^ (18 * (4 - c))) 0 && low (m / 2 ^ 54 % 65536) (m / 2 ^ 36 % 65536) (m / 2 ^ 18 % 65536) (m % 65536)
+-- where nothing is left past the entries that count, the entries decide
+by-rest : (m x r : ℕ) (g l : Bool) → x + r ≡ m → (r ≡ 0 → g ≡ l) → eqb x m && g ≡ eqb r 0 && l
+by-rest m x zero g l e f = rw (eq-eqb x m (omega arith), f refl) refl
+by-rest m x (suc r) g l e f = rw (ne-eqb x m (λ z. omega arith), ne-eqb (suc r) 0 (λ z. omega arith)) refl
+
+-- where nothing is past them, the entries that count are good where all four are
+all-good : (m c : ℕ) → 1 ≤ c → c ≤ 4 → m % 2 ^ (18 * (4 - c)) ≡ 0 → goodEntries (counted m c) ≡ lows m
 unfolding goodEntries entryAt bitsAt
-entries-parts m zero b h k = absurd (omega arith)
-entries-parts m (suc zero) b h k =
-    let whole = packed-past m 1 b h k in
-    both-ways
-    (λ p.
-    let q = both-true (eqb (packed m 1) m) (goodEntries (counted m 1)) p in
-    let e : m % 2 ^ (18 * (4 - 1)) ≡ 0 = omega (arith, eqb-true (packed m 1) m (q .0)) in
-    let g0 = both-true (leb (dom m 3) 32751) (true) (q .1) in
-    both (eq-eqb (m % 2 ^ (18 * (4 - 1))) 0 e) (is-low (dom m 3) (dom m 2) (dom m 1) (m % 65536) (leb-true (dom m 3) 32751 (g0 .0)) (omega (arith, e)) (omega (arith, e)) (omega (arith, e))))
-    (λ p.
-    let q = both-true (eqb (m % 2 ^ (18 * (4 - 1))) 0) (lows m) p in
-    let e : packed m 1 ≡ m = omega (arith, eqb-true (m % 2 ^ (18 * (4 - 1))) 0 (q .0)) in
-    let l = low-is (dom m 3) (dom m 2) (dom m 1) (m % 65536) (q .1) in
-    both (eq-eqb (packed m 1) m e) (both (le-leb (dom m 3) 32751 (l .first)) refl))
-entries-parts m (suc (suc zero)) b h k =
-    let whole = packed-past m 2 b h k in
-    both-ways
-    (λ p.
-    let q = both-true (eqb (packed m 2) m) (goodEntries (counted m 2)) p in
-    let e : m % 2 ^ (18 * (4 - 2)) ≡ 0 = omega (arith, eqb-true (packed m 2) m (q .0)) in
-    let g0 = both-true (leb (dom m 3) 32751) (leb (dom m 2) 32751 && true) (q .1) in
-    let g1 = both-true (leb (dom m 2) 32751) (true) (g0 .1) in
-    both (eq-eqb (m % 2 ^ (18 * (4 - 2))) 0 e) (is-low (dom m 3) (dom m 2) (dom m 1) (m % 65536) (leb-true (dom m 3) 32751 (g0 .0)) (leb-true (dom m 2) 32751 (g1 .0)) (omega (arith, e)) (omega (arith, e))))
-    (λ p.
-    let q = both-true (eqb (m % 2 ^ (18 * (4 - 2))) 0) (lows m) p in
-    let e : packed m 2 ≡ m = omega (arith, eqb-true (m % 2 ^ (18 * (4 - 2))) 0 (q .0)) in
-    let l = low-is (dom m 3) (dom m 2) (dom m 1) (m % 65536) (q .1) in
-    both (eq-eqb (packed m 2) m e) (both (le-leb (dom m 3) 32751 (l .first)) (both (le-leb (dom m 2) 32751 (l .second)) refl)))
-entries-parts m (suc (suc (suc zero))) b h k =
-    let whole = packed-past m 3 b h k in
-    both-ways
-    (λ p.
-    let q = both-true (eqb (packed m 3) m) (goodEntries (counted m 3)) p in
-    let e : m % 2 ^ (18 * (4 - 3)) ≡ 0 = omega (arith, eqb-true (packed m 3) m (q .0)) in
-    let g0 = both-true (leb (dom m 3) 32751) (leb (dom m 2) 32751 && (leb (dom m 1) 32751 && true)) (q .1) in
-    let g1 = both-true (leb (dom m 2) 32751) (leb (dom m 1) 32751 && true) (g0 .1) in
-    let g2 = both-true (leb (dom m 1) 32751) (true) (g1 .1) in
-    both (eq-eqb (m % 2 ^ (18 * (4 - 3))) 0 e) (is-low (dom m 3) (dom m 2) (dom m 1) (m % 65536) (leb-true (dom m 3) 32751 (g0 .0)) (leb-true (dom m 2) 32751 (g1 .0)) (leb-true (dom m 1) 32751 (g2 .0)) (omega (arith, e))))
-    (λ p.
-    let q = both-true (eqb (m % 2 ^ (18 * (4 - 3))) 0) (lows m) p in
-    let e : packed m 3 ≡ m = omega (arith, eqb-true (m % 2 ^ (18 * (4 - 3))) 0 (q .0)) in
-    let l = low-is (dom m 3) (dom m 2) (dom m 1) (m % 65536) (q .1) in
-    both (eq-eqb (packed m 3) m e) (both (le-leb (dom m 3) 32751 (l .first)) (both (le-leb (dom m 2) 32751 (l .second)) (both (le-leb (dom m 1) 32751 (l .third)) refl))))
-entries-parts m (suc (suc (suc (suc zero)))) b h k =
-    let whole = packed-past m 4 b h k in
-    both-ways
-    (λ p.
-    let q = both-true (eqb (packed m 4) m) (goodEntries (counted m 4)) p in
-    let e : m % 2 ^ (18 * (4 - 4)) ≡ 0 = omega (arith, eqb-true (packed m 4) m (q .0)) in
-    let g0 = both-true (leb (dom m 3) 32751) (leb (dom m 2) 32751 && (leb (dom m 1) 32751 && (leb (dom m 0) 32751 && true))) (q .1) in
-    let g1 = both-true (leb (dom m 2) 32751) (leb (dom m 1) 32751 && (leb (dom m 0) 32751 && true)) (g0 .1) in
-    let g2 = both-true (leb (dom m 1) 32751) (leb (dom m 0) 32751 && true) (g1 .1) in
-    let g3 = both-true (leb (dom m 0) 32751) (true) (g2 .1) in
-    both (eq-eqb (m % 2 ^ (18 * (4 - 4))) 0 e) (is-low (dom m 3) (dom m 2) (dom m 1) (m % 65536) (leb-true (dom m 3) 32751 (g0 .0)) (leb-true (dom m 2) 32751 (g1 .0)) (leb-true (dom m 1) 32751 (g2 .0)) (omega (arith, leb-true (dom m 0) 32751 (g3 .0)))))
-    (λ p.
-    let q = both-true (eqb (m % 2 ^ (18 * (4 - 4))) 0) (lows m) p in
-    let e : packed m 4 ≡ m = omega (arith, eqb-true (m % 2 ^ (18 * (4 - 4))) 0 (q .0)) in
-    let l = low-is (dom m 3) (dom m 2) (dom m 1) (m % 65536) (q .1) in
-    both (eq-eqb (packed m 4) m e) (both (le-leb (dom m 3) 32751 (l .first)) (both (le-leb (dom m 2) 32751 (l .second)) (both (le-leb (dom m 1) 32751 (l .third)) (both (le-leb (dom m 0) 32751 (omega (arith, l .fourth))) refl)))))
-entries-parts m (suc (suc (suc (suc (suc c))))) b h k = absurd (omega arith)
+all-good m zero h k e = absurd (omega arith)
+all-good m (suc zero) h k e = rw (le-leb (dom m 2) 32751 (omega arith), le-leb (dom m 1) 32751 (omega arith), le-leb (m % 65536) 32751 (omega arith)) refl
+all-good m (suc (suc zero)) h k e = rw (le-leb (dom m 1) 32751 (omega arith), le-leb (m % 65536) 32751 (omega arith)) refl
+all-good m (suc (suc (suc zero))) h k e = rw (le-leb (m % 65536) 32751 (omega arith)) refl
+all-good m (suc (suc (suc (suc zero)))) h k e = rw (and-true (leb (m / 1 % 65536) 32751), div-one m) refl
+all-good m (suc (suc (suc (suc (suc c))))) h k e = absurd (omega arith)
+
+-- the entries that count are good and what is past them is zero: by the number's parts
+entries-parts : (m c : ℕ) → m < 256 ^ 9 → 1 ≤ c → c ≤ 4 → eqb (packed m c) m && goodEntries (counted m c) ≡ eqb (m % 2 ^ (18 * (4 - c))) 0 && lows m
+entries-parts m c b h k = by-rest m (packed m c) (m % 2 ^ (18 * (4 - c))) (goodEntries (counted m c)) (lows m) (packed-past m c b h k) (all-good m c h k)
 
 -- ── the bytes of the entries ──
 

@@ -1,6 +1,6 @@
 -- Keys: siblings with one name share one, so what differs in keys does not clash.
-use mathlib.Core.Path.{_≡_, refl, sym, ap, ap₂, _∙_}
-use mathlib.Core.Bool.{Bool, true, false, true≢false, false≢true, cond, not, _&&_, _||_, and-comm, or-true}
+use mathlib.Core.Path.{_≡_, refl, sym, ap, _∙_}
+use mathlib.Core.Bool.{Bool, true, false, true≢false, cond, not, _&&_, _||_, and-comm, or-true}
 use mathlib.Core.List.{List, [], _∷_}
 use mathlib.Core.Option.{Option, none, some}
 use Prim.Native.Nat.{ℕ, zero, suc, _+_, _*_, _-_, _%_, _≤_, _<_}
@@ -8,18 +8,15 @@ use native.Mathlib.Nat.{mod-lt}
 use native.Mathlib.Numerals.{add-one}
 use native.Mathlib.Omega.{arith}
 use native.Mathlib.Decide.{ℕ-discrete}
-use lib.ListN.{length, getD, set}
-use lib.Seq.{getD-set-same, getD-set-other}
+use lib.ListN.{length, getD}
 use lib.Dec.{eqb, ltb}
-use borrow.Author.Tests.{eq-eqb, ne-eqb, eqb-true, eqb-false, lt-ltb, le-ltb}
+use borrow.Author.Tests.{eq-eqb, eqb-true, lt-ltb, le-ltb}
 use Rattle.rules.specs.Size.{slots}
 use Rattle.rules.specs.Octets.{Octets, same}
-use Rattle.rules.specs.Node.{Node, Table, nodeAt}
+use Rattle.rules.specs.Node.{Node, nodeAt}
 use Rattle.rules.specs.Layout.{tableOf}
-use Rattle.rules.specs.Sound.{clash, distinct}
+use Rattle.rules.specs.Sound.{clash}
 use Rattle.rules.proofs.Compare.{both-true, same-eq}
-use Rattle.rules.proofs.Places.{At, at-below, is-false, some-is}
-use Rattle.rules.proofs.Slots.{length-tableOf}
 use Rattle.slots.specs.Slot.{slotAt, isUsed}
 use Rattle.slots.proofs.Reading.{node-some}
 use Rattle.soundness.specs.Keys.{digestOf, keyOf, listed}

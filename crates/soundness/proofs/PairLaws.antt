@@ -1,8 +1,8 @@
 -- Pairs of slots: which were seen to be apart, and what a pair that clashes decides.
-use mathlib.Core.Path.{_≡_, refl, sym, ap, ap₂, _∙_}
+use mathlib.Core.Path.{_≡_, sym, ap, ap₂, _∙_}
 use mathlib.Core.Bool.{Bool, true, false, true≢false, not, _&&_, and-false}
 use mathlib.Core.List.{List}
-use mathlib.Core.Option.{Option, none, some}
+use mathlib.Core.Option.{none}
 use Prim.Native.Nat.{ℕ, _+_, _≤_, _<_}
 use native.Mathlib.Omega.{arith}
 use native.Mathlib.Decide.{ℕ-discrete}
@@ -18,7 +18,7 @@ use Rattle.rules.specs.Sound.{clash, distinct}
 use Rattle.rules.proofs.Places.{At, at-below, is-false, apart-at, at-apart}
 use Rattle.rules.proofs.Slots.{length-tableOf}
 use Rattle.rules.proofs.GoodTables.{distinct-is}
-use Rattle.slots.specs.Slot.{slotAt, isUsed}
+use Rattle.slots.specs.Slot.{slotAt}
 use Rattle.slots.proofs.Reading.{node-some}
 use Rattle.soundness.specs.Keys.{keyOf, listed}
 use Rattle.soundness.proofs.Tests.{both}

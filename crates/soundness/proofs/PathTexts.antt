@@ -1,26 +1,24 @@
 -- A sound table's slots: their names are short, they reach the root, and the walk spells their paths.
 use mathlib.Core.Path.{_≡_, refl, sym, ap, _∙_}
-use mathlib.Core.Bool.{Bool, true, false, cond, false≢true}
+use mathlib.Core.Bool.{true}
 use mathlib.Core.List.{[], _∷_, _++_}
-use mathlib.Core.Option.{Option, none, some}
-use Prim.Native.Nat.{ℕ, zero, suc, _+_, _≤_, _<_}
+use Prim.Native.Nat.{ℕ, _<_}
 use native.Mathlib.Nat.{zero-add}
 use native.Mathlib.Omega.{arith}
-use lib.ListN.{length, getD, set}
-use lib.Dec.{eqb}
-use borrow.Author.Tests.{eq-eqb, ne-eqb}
+use lib.ListN.{length, set}
+use borrow.Author.Tests.{ne-eqb}
 use Rattle.rules.specs.Size.{slots, longestPath}
-use Rattle.rules.specs.Octets.{Octets, paste}
+use Rattle.rules.specs.Octets.{Octets}
 use Rattle.rules.specs.Path.{Names, Name, slashed, pathText}
-use Rattle.rules.specs.Node.{Node, nodeAt, pathUp, pathOf}
+use Rattle.rules.specs.Node.{nodeAt, pathUp, pathOf}
 use Rattle.rules.specs.Layout.{tableOf}
-use Rattle.rules.specs.Sound.{soundTable, goodTable, reachesRoot}
+use Rattle.rules.specs.Sound.{soundTable, reachesRoot}
 use Rattle.rules.proofs.Joined.{set-paste}
 use Rattle.rules.proofs.Places.{at-below}
 use Rattle.rules.proofs.Slots.{length-tableOf}
 use Rattle.rules.proofs.GoodTables.{Good, good-of}
 use Rattle.octets.specs.Numbers.{Put}
-use Rattle.slots.specs.Slot.{slotAt, isUsed, nameLength, Canonical}
+use Rattle.slots.specs.Slot.{slotAt, isUsed}
 use Rattle.slots.proofs.Canonical.{sound-canonical, sound-good, name-length-is, node-fits}
 use Rattle.soundness.specs.declared.answer.Walk.{Walk}
 use Rattle.soundness.specs.declared.answer.Walk.the-variants.{Lost, Root}

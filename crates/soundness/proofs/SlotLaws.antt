@@ -1,19 +1,19 @@
 -- What is asked of a slot by itself, part by part.
-use mathlib.Core.Path.{_≡_, refl, sym, ap, ap₂, _∙_}
-use mathlib.Core.Bool.{Bool, true, false, true≢false, cond, not, _&&_, and-true, and-false, and-comm, and-assoc}
+use mathlib.Core.Path.{_≡_, refl, sym, ap, _∙_}
+use mathlib.Core.Bool.{Bool, true, false, true≢false, not, _&&_, and-true, and-false, and-comm, and-assoc}
 use mathlib.Core.List.{List, [], _∷_, _++_}
 use mathlib.Core.Option.{Option, none, some}
 use Prim.Native.Nat.{ℕ, zero, suc, _+_, _*_, _-_, _/_, _%_, _^_, _≤_, _<_, min}
-use native.Mathlib.Nat.{mod-lt, min-eq-left, min-le-right, add-assoc, add-sub-cancel-left, sub-zero, zero-sub, suc-sub-suc}
+use native.Mathlib.Nat.{mod-lt, min-eq-left, min-le-right, add-sub-cancel-left, sub-zero, zero-sub, suc-sub-suc}
 use native.Mathlib.Omega.{arith}
 use lib.ListN.{length, getD, take, drop, replicate, length-append, length-replicate, length-take, length-drop, take-append-drop}
 use lib.Seq.{take-take, drop-drop, take-all, length-take-le, take-nil, getD-drop}
 use lib.Dec.{eqb, leb}
-use borrow.Author.Tests.{eq-eqb, ne-eqb, eqb-true, le-leb, lt-leb, leb-true}
-use Rattle.rules.specs.Size.{slots, slotSize, tableSize}
+use borrow.Author.Tests.{eq-eqb, ne-eqb, eqb-true, le-leb, leb-true}
+use Rattle.rules.specs.Size.{slots, tableSize}
 use Rattle.rules.specs.Octets.{Octets, same, allZero, padded, bigEndian, bigFrom, field, bitsAt, pack, packFrom}
 use Rattle.rules.specs.Node.{Node, nodeAt}
-use Rattle.rules.specs.Layout.{slotBytes, nodeBits, entryBits, entryAt, nodeOf, textAt, tableOf}
+use Rattle.rules.specs.Layout.{slotBytes, nodeBits, entryBits, nodeOf, textAt, tableOf}
 use Rattle.rules.specs.Sound.{goodName, goodEntries}
 use Rattle.rules.proofs.Compare.{both-true}
 use Rattle.rules.proofs.Fields.{length-big, take-drop-take, field-part, field-split, field-one, field-bound}
@@ -22,7 +22,7 @@ use Rattle.rules.proofs.Fitting.{nodeAt-fits, decoded-fits}
 use Rattle.rules.proofs.Reencoding.{both-ways, same-append, same-padded, same-zeros, same-big, bytes-take}
 use Rattle.slots.specs.Slot.{Bytes, slotAt, isUsed, head, nameLength, valueLength, entryCount}
 use Rattle.slots.proofs.Reading.{chunk, meant, head-bytes, used-slot, used-node, used-byte}
-use Rattle.soundness.specs.Parts.{fair, goodSlot, sized, keptEntries, lowDomains, zeroBehind, Used}
+use Rattle.soundness.specs.Parts.{fair, goodSlot, sized, keptEntries, lowDomains, zeroBehind}
 use Rattle.soundness.proofs.Tests.{both}
 use Rattle.soundness.proofs.Entries.{counted, packed-bound, entries-low}
 

@@ -1,7 +1,7 @@
 -- The whole check, part by part.
 use mathlib.Core.Path.{_≡_, refl, sym, ap, subst, _∙_}
-use mathlib.Core.Bool.{Bool, true, false, true≢false, false≢true, cond, not, _&&_, _||_, and-true, and-assoc, or-true}
-use mathlib.Core.List.{List, [], _∷_}
+use mathlib.Core.Bool.{Bool, true, false, false≢true, cond, not, _&&_, _||_, and-true, and-assoc, or-true}
+use mathlib.Core.List.{List, _∷_}
 use mathlib.Core.Option.{Option, none, some}
 use Prim.Native.Nat.{ℕ, zero, suc, _+_, _*_, _-_, _≤_, _<_}
 use native.Mathlib.Nat.{zero-add, pos-of-ne-zero}
@@ -14,7 +14,6 @@ use lib.Dec.{eqb}
 use borrow.Author.Tests.{eq-eqb, ne-eqb, eqb-true}
 use Rattle.rules.specs.Size.{slots, slotSize, tableSize, deepest}
 use Rattle.rules.specs.Octets.{Octets, same}
-use Rattle.rules.specs.Path.{isControl}
 use Rattle.rules.specs.Node.{Entry, Node, Table, nodeAt}
 use Rattle.rules.specs.Layout.{slotBytes, tableBytes, tableOf}
 use Rattle.rules.specs.Sound.{goodName, goodEntries, reachesRoot, goodNode, goodNodes, goodRoot, distinct, goodTable, soundTable}

@@ -1,7 +1,7 @@
 -- What a walk to the root finds and leaves, step by step.
-use mathlib.Core.Path.{_≡_, refl, sym, ap, ap₂, _∙_}
-use mathlib.Core.Bool.{Bool, true, false, true≢false, false≢true, cond, _||_}
-use mathlib.Core.List.{List, [], _∷_, _++_, append-nil, append-assoc}
+use mathlib.Core.Path.{_≡_, refl, sym, ap, _∙_}
+use mathlib.Core.Bool.{Bool, true, false, true≢false, false≢true, cond}
+use mathlib.Core.List.{[], _∷_, _++_, append-nil, append-assoc}
 use mathlib.Core.Option.{Option, none, some}
 use Prim.Native.Nat.{ℕ, zero, suc, _+_, _*_, _-_, _≤_, _<_}
 use native.Mathlib.Nat.{pos-of-ne-zero}
@@ -9,20 +9,19 @@ use native.Mathlib.Omega.{arith}
 use lib.ListN.{length, getD, set, length-append}
 use lib.Dec.{eqb}
 use borrow.Author.Tests.{eq-eqb, ne-eqb}
-use Rattle.rules.specs.Size.{slots, longestName, longestPath, deepest}
 use Rattle.rules.specs.Octets.{Octets, paste}
-use Rattle.rules.specs.Path.{Names, slashed, pathText}
-use Rattle.rules.specs.Node.{Node, Table, nodeAt, pathUp, pathOf}
+use Rattle.rules.specs.Path.{Names, slashed}
+use Rattle.rules.specs.Node.{Node, Table, nodeAt, pathUp}
 use Rattle.rules.specs.Layout.{tableOf}
 use Rattle.rules.specs.Sound.{reachesRoot}
-use Rattle.rules.proofs.Paste.{paste-nil, length-paste}
+use Rattle.rules.proofs.Paste.{paste-nil}
 use Rattle.rules.proofs.Joined.{paste-behind, set-paste}
 use Rattle.rules.proofs.Fitting.{nodeAt-fits, decoded-fits}
 use Rattle.slots.specs.Slot.{slotAt, isUsed}
 use Rattle.slots.proofs.Reading.{node-some}
 use Rattle.soundness.specs.declared.answer.Walk.{Walk}
 use Rattle.soundness.specs.declared.answer.Walk.the-variants.{Lost, Root}
-use Rattle.soundness.specs.Walks.{Room, textTo, written, Named, Walked}
+use Rattle.soundness.specs.Walks.{textTo, written, Named, Walked}
 
 -- ── one name ──
 

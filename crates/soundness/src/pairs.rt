@@ -65,7 +65,9 @@ fn same_names(t: &[u8], i: usize, j: usize) -> bool
     requires { ⌜ (i < slots) × (j < slots) × Short (now t) × (isUsed (slotAt (now t) i) ≡ true) × (isUsed (slotAt (now t) j) ≡ true) ⌝ }
     ensures { λ r. ⌜ r ≡ same (nodeAt (tableOf (now (t .entry))) i .name) (nodeAt (tableOf (now (t .entry))) j .name) ⌝ }
 {
-    same(name(t, i), name(t, j))
+    let a = name(t, i);
+    let b = name(t, j);
+    same(a, b)
 }
 
 // Whether no two siblings have one name. The look ends at the first pair that has.

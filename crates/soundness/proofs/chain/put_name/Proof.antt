@@ -1,5 +1,4 @@
-use mathlib.Core.Path.{refl, sym, _∙_, ap}
-use Prim.Native.Nat.{ℕ, _+_, _≤_}
+use mathlib.Core.Path.{_∙_, ap}
 use native.Mathlib.Omega.{arith}
 use lib.ListN.{length, length-set}
 use Rattle.soundness.proofs.WalkLaws.{named-none, named-put, name-short}
@@ -35,9 +34,7 @@ copy-requires c κs =
     rw length-set (omega (arith, b .pre .3, b .pre .4 (c .before .if1 .left), ap length (c .before .before .name .ensures), name-short (b .args .t .now) (b .args .i)))
 
 same-length : tie.Need-same-length
-same-length c =
-    let b = c .before .before .before .before .before .before .before .before in
-    c .before .before .copy .kept .0 ∙ length-set {A = ℕ} (b .args .into .now) (b .args .at) 47
+same-length c = c .before .before .copy .kept .0 ∙ simp length-set
 
 returns-2 : tie.Need-returns-2
 returns-2 c =

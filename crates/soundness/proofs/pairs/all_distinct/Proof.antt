@@ -1,6 +1,6 @@
 use Rattle.slots.specs.Slot.{slotAt}
 use Rattle.soundness.proofs.KeyLaws.{key-used, among-used}
-use mathlib.Core.Path.{_≡_, refl, sym, _∙_, ap}
+use mathlib.Core.Path.{_≡_, refl, sym, _∙_}
 use mathlib.Core.Bool.{true}
 use mathlib.Core.Logic.{⊎-elim}
 use Prim.Native.Nat.{_≤_, _-_}

@@ -1,7 +1,6 @@
-use mathlib.Core.Path.{refl, sym, _∙_, ap}
-use Prim.Native.Nat.{ℕ, _-_, _%_}
+use Prim.Native.Nat.{_-_}
 use native.Mathlib.Omega.{arith}
-use lib.ListN.{length, getD}
+use lib.ListN.{length}
 use Rattle.soundness.proofs.KeyLaws.{digest-small, digest-large, digest-bound, digest-none}
 use borrow.Author.Needs.{needs}
 use Rattle.soundness.proofs.pairs.digest.Statement.{statement}

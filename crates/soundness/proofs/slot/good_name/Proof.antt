@@ -1,9 +1,3 @@
-use mathlib.Core.Path.{refl, sym, _∙_, ap}
-use Prim.Native.Nat.{ℕ}
-use lib.Dec.{eqb}
-use lib.ListN.{length}
-use Rattle.rules.specs.Octets.{Octets}
-use Rattle.rules.specs.Path.{isName}
 use Rattle.soundness.proofs.NameLaws.{root-good, other-good}
 use Rattle.soundness.proofs.SlotLaws.{sizes-of}
 use borrow.Author.Needs.{needs}

@@ -1,8 +1,4 @@
-use mathlib.Core.Path.{refl, sym, _∙_, ap}
-use mathlib.Core.Bool.{not, _&&_, and-true, and-false}
-use Prim.Native.Nat.{ℕ}
-use lib.Dec.{eqb}
-use borrow.Author.Tests.{eq-eqb, ne-eqb}
+use mathlib.Core.Path.{sym, _∙_}
 use Rattle.slots.proofs.Reading.{known}
 use Rattle.soundness.proofs.SlotLaws.{unused-root, unused-other}
 use borrow.Author.Needs.{needs}

@@ -1,9 +1,7 @@
 use borrow.Author.Tests.{not-true, not-false}
-use mathlib.Core.Path.{refl, sym, _∙_, ap}
-use mathlib.Core.Bool.{_&&_}
-use Prim.Native.Nat.{ℕ, _+_, _*_, _-_, _%_, _^_}
+use mathlib.Core.Path.{refl, sym, _∙_}
+use Prim.Native.Nat.{_+_, _*_}
 use native.Mathlib.Omega.{arith}
-use lib.Dec.{eqb}
 use Rattle.slots.proofs.Reading.{known}
 use Rattle.soundness.proofs.Tests.{stop, pass}
 use Rattle.soundness.proofs.SlotLaws.{sizes-of, entries-by}

@@ -1,8 +1,7 @@
 use Rattle.soundness.proofs.Tests.{stop, pass}
 use Rattle.soundness.specs.Parts.{lowDomains}
-use borrow.Author.Tests.{lt-leb, le-leb, eq-eqb, ne-eqb}
-use native.Mathlib.Omega.{arith}
-use mathlib.Core.Path.{refl, sym, ap, _∙_}
+use borrow.Author.Tests.{lt-leb, le-leb}
+use mathlib.Core.Path.{refl}
 use borrow.Author.Needs.{needs}
 use Rattle.soundness.proofs.slot.low_domains.Statement.{statement}
 use Rattle.soundness.proofs.slot.low_domains.Tie as tie

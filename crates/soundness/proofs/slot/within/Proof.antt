@@ -2,9 +2,9 @@ use Prim.Native.Nat.{ℕ}
 use lib.Dec.{leb}
 use Rattle.soundness.proofs.Tests.{stop, pass, over, under}
 use Rattle.soundness.specs.Parts.{sized}
-use borrow.Author.Tests.{lt-leb, le-leb, eq-eqb, ne-eqb}
+use borrow.Author.Tests.{le-leb}
 use native.Mathlib.Omega.{arith}
-use mathlib.Core.Path.{refl, sym, ap, _∙_}
+use mathlib.Core.Path.{sym, ap, _∙_}
 use borrow.Author.Needs.{needs}
 use Rattle.soundness.proofs.slot.within.Statement.{statement}
 use Rattle.soundness.proofs.slot.within.Tie as tie

@@ -1,8 +1,7 @@
-use mathlib.Core.Path.{refl, sym, _∙_, ap}
-use Prim.Native.Nat.{ℕ, _+_, _*_}
+use mathlib.Core.Path.{sym, _∙_}
+use Prim.Native.Nat.{_+_, _*_}
 use native.Mathlib.Omega.{arith}
 use borrow.Author.Tests.{not-true, not-false}
-use Rattle.rules.specs.Octets.{Octets, allZero}
 use Rattle.soundness.specs.Parts.{zeroBehind}
 use Rattle.soundness.proofs.Tests.{stop, pass}
 use Rattle.soundness.proofs.SlotLaws.{sizes-of, zero-from}
