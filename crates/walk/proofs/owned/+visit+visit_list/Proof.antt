@@ -2,10 +2,13 @@ use mathlib.Core.Path.{_≡_, refl, sym, ap, _∙_}
 use Prim.Native.Nat.{ℕ, _<_, _≤_, _+_, _*_, _-_, _%_}
 use native.Mathlib.Omega.{arith}
 use borrow.Author.Needs.{needs}
-use lib.ListN.{length, length-set}
+use mathlib.Core.List.{[], _∷_}
+use lib.ListN.{length, take, length-set}
+use Rattle.rules.specs.Node.{ownedBelow}
 use Rattle.rules.specs.Layout.{tableOf}
 use Rattle.slots.proofs.Canonical.{sound-canonical}
 use Rattle.lookup.proofs.ChildrenLaws.{listed}
+use Rattle.walk.specs.Walk.{ownedAmong}
 use Rattle.walk.proofs.WalkLaws.{below-none, below-own, below-others, among-over, among-next, among-length, entered-none, entered-one, entered-as, entered-join}
 use borrow.Fn.Kinds.{In}
 use borrow.Fn.PlainCycle.{Measures, is, falls, and}
@@ -40,271 +43,126 @@ abbrev visit-list-below : ℕ → In 3 visit-list-kinds.ps
 visit-list-below t =
     and 3 visit-list-kinds.ps (falls 3 visit-list-kinds.ps _<_ μ-visit-list t) visit-list.Pre
 
--- src/owned.rt:25:9
-visit-returns : (t : ℕ) → visit-lts.Need-returns (
-  entry-at-reads.Asked,
-  entry-at-reads.Learnt,
-  children-reads.Asked,
-  children-reads.Learnt,
-  visit-list-below t,
-  visit-list.Post,
-) (visit-at t) visit.Post
+-- what a member's calls are known by
+abbrev visit-calls : ℕ → visit-lts.Claims
+visit-calls t = (entry-at-reads.Asked, entry-at-reads.Learnt, children-reads.Asked, children-reads.Learnt, visit-list-below t, visit-list.Post)
+
+abbrev visit-list-calls : ℕ → visit-list-lts.Claims
+visit-list-calls t = (visit-below t, visit.Post, visit-list-below t, visit-list.Post)
+
+-- the owner's branch, and the other
+visit-own : (t : ℕ) (c : visit-lts.Then2 (visit-calls t) (visit-at t) visit.Post) →
+    let a = c .before .before .before .before .before .before .args in ownedBelow (a .depth) (tableOf (a .t .now)) (a .domain) (a .i) ≡ a .i ∷ []
+visit-own t c =
+    let s = c .before .before .before .before .before .before in
+    below-own (s .args .t .now) (s .args .domain) (s .args .i) (s .args .depth) (s .pre .1 .0) (c .before .before .before .if1 .left) _ (c .before .before .entry-at .ensures .1) (c .if2 .taken)
+
+visit-others : (t : ℕ) (c : visit-lts.After-visit-list-arg (visit-calls t) (visit-at t) visit.Post) →
+    let a = c .before .before .before .before .before .before .before .before .before .before .before .args in
+    ownedBelow (a .depth) (tableOf (a .t .now)) (a .domain) (a .i)
+    ≡ ownedAmong (a .depth - 1) (tableOf (a .t .now)) (a .domain) (take (c .before .before .before .children .result) (c .before .before .before .children .last .1 .1 .0))
+visit-others t c =
+    let s = c .before .before .before .before .before .before .before .before .before .before .before in
+    below-others (s .args .t .now) (s .args .domain) (s .args .i) (s .args .depth) (s .pre .1 .0) (c .before .before .before .before .before .before .before .before .if1 .left) _ (c .before .before .before .before .before .before .before .entry-at .ensures .1) (c .before .before .before .before .before .if2 .left) _ _ (c .before .before .before .children .ensures)
+
+visit-returns : (t : ℕ) → visit-lts.Need-returns (visit-calls t) (visit-at t) visit.Post
 visit-returns t c =
     let s = c .before .before .before in
     entered-none (s .args .out .now) (s .args .n) _ (below-none (tableOf (s .args .t .now)) (s .args .domain) (s .args .i) (s .args .depth) (c .if1 .taken))
 
--- src/owned.rt:27:8
-visit-entry-at-requires : (t : ℕ) → visit-lts.Need-entry-at-requires (
-  entry-at-reads.Asked,
-  entry-at-reads.Learnt,
-  children-reads.Asked,
-  children-reads.Learnt,
-  visit-list-below t,
-  visit-list.Post,
-) (visit-at t) visit.Post
+visit-entry-at-requires : (t : ℕ) → visit-lts.Need-entry-at-requires (visit-calls t) (visit-at t) visit.Post
 visit-entry-at-requires t c κs =
     let a = c .before .before .before .pre .1 .0 in
     (a .below, sound-canonical _ (a .sound) .whole, search needs)
 
--- src/owned.rt:28:18
-visit-cast-out : (t : ℕ) → visit-lts.Need-cast-out (
-  entry-at-reads.Asked,
-  entry-at-reads.Learnt,
-  children-reads.Asked,
-  children-reads.Learnt,
-  visit-list-below t,
-  visit-list.Post,
-) (visit-at t) visit.Post
+visit-cast-out : (t : ℕ) → visit-lts.Need-cast-out (visit-calls t) (visit-at t) visit.Post
 visit-cast-out t c = omega arith
 
--- src/owned.rt:28:9
-visit-slice-write-out : (t : ℕ) → visit-lts.Need-slice-write-out (
-  entry-at-reads.Asked,
-  entry-at-reads.Learnt,
-  children-reads.Asked,
-  children-reads.Learnt,
-  visit-list-below t,
-  visit-list.Post,
-) (visit-at t) visit.Post
+visit-slice-write-out : (t : ℕ) → visit-lts.Need-slice-write-out (visit-calls t) (visit-at t) visit.Post
 visit-slice-write-out t c =
     let s = c .before .before .before .before .before .before in
-    omega (arith, s .pre .1 .1, ap length (below-own (s .args .t .now) (s .args .domain) (s .args .i) (s .args .depth) (s .pre .1 .0) (c .before .before .before .if1 .left) _ (c .before .before .entry-at .ensures .1) (c .if2 .taken)))
+    omega (arith, s .pre .1 .1, ap length (visit-own t c))
 
--- src/owned.rt:29:16
-visit-add-result : (t : ℕ) → visit-lts.Need-add-result (
-  entry-at-reads.Asked,
-  entry-at-reads.Learnt,
-  children-reads.Asked,
-  children-reads.Learnt,
-  visit-list-below t,
-  visit-list.Post,
-) (visit-at t) visit.Post
+visit-add-result : (t : ℕ) → visit-lts.Need-add-result (visit-calls t) (visit-at t) visit.Post
 visit-add-result t c =
     let s = c .before .before .before .before .before .before in
-    omega (arith, s .pre .1 .1, s .good, ap length (below-own (s .args .t .now) (s .args .domain) (s .args .i) (s .args .depth) (s .pre .1 .0) (c .before .before .before .if1 .left) _ (c .before .before .entry-at .ensures .1) (c .if2 .taken)))
+    omega (arith, s .pre .1 .1, s .good, ap length (visit-own t c))
 
--- src/owned.rt:29:9
-visit-same-length : (t : ℕ) → visit-lts.Need-same-length (
-  entry-at-reads.Asked,
-  entry-at-reads.Learnt,
-  children-reads.Asked,
-  children-reads.Learnt,
-  visit-list-below t,
-  visit-list.Post,
-) (visit-at t) visit.Post
+visit-same-length : (t : ℕ) → visit-lts.Need-same-length (visit-calls t) (visit-at t) visit.Post
 visit-same-length t c = simp length-set
 
--- src/owned.rt:29:9
-visit-returns-2 : (t : ℕ) → visit-lts.Need-returns-2 (
-  entry-at-reads.Asked,
-  entry-at-reads.Learnt,
-  children-reads.Asked,
-  children-reads.Learnt,
-  visit-list-below t,
-  visit-list.Post,
-) (visit-at t) visit.Post
+visit-returns-2 : (t : ℕ) → visit-lts.Need-returns-2 (visit-calls t) (visit-at t) visit.Post
 visit-returns-2 t c =
     let s = c .before .before .before .before .before .before in
-    let own = below-own (s .args .t .now) (s .args .domain) (s .args .i) (s .args .depth) (s .pre .1 .0) (c .before .before .before .if1 .left) _ (c .before .before .entry-at .ensures .1) (c .if2 .taken) in
+    let own = visit-own t c in
     entered-one (s .args .out .now) (s .args .n) (s .args .i % 256) (s .args .i) _ (omega (arith, s .pre .1 .1, ap length own)) (omega (arith, s .pre .1 .0 .below)) own
 
--- src/owned.rt:32:32
-visit-slice-aggregate-children : (t : ℕ) → visit-lts.Need-slice-aggregate-children (
-  entry-at-reads.Asked,
-  entry-at-reads.Learnt,
-  children-reads.Asked,
-  children-reads.Learnt,
-  visit-list-below t,
-  visit-list.Post,
-) (visit-at t) visit.Post
+visit-slice-aggregate-children : (t : ℕ) → visit-lts.Need-slice-aggregate-children (visit-calls t) (visit-at t) visit.Post
 visit-slice-aggregate-children t c = refl
 
--- src/owned.rt:32:9
-visit-children-requires : (t : ℕ) → visit-lts.Need-children-requires (
-  entry-at-reads.Asked,
-  entry-at-reads.Learnt,
-  children-reads.Asked,
-  children-reads.Learnt,
-  visit-list-below t,
-  visit-list.Post,
-) (visit-at t) visit.Post
+visit-children-requires : (t : ℕ) → visit-lts.Need-children-requires (visit-calls t) (visit-at t) visit.Post
 visit-children-requires t c κs = (c .before .before .before .before .before .before .before .pre .1 .0 .sound, refl)
 
--- src/owned.rt:33:27
-visit-slice-aggregate-visit-list : (t : ℕ) → visit-lts.Need-slice-aggregate-visit-list (
-  entry-at-reads.Asked,
-  entry-at-reads.Learnt,
-  children-reads.Asked,
-  children-reads.Learnt,
-  visit-list-below t,
-  visit-list.Post,
-) (visit-at t) visit.Post
+visit-slice-aggregate-visit-list : (t : ℕ) → visit-lts.Need-slice-aggregate-visit-list (visit-calls t) (visit-at t) visit.Post
 visit-slice-aggregate-visit-list t c = sym (c .before .before .children .ensures .long)
 
--- src/owned.rt:33:44
-visit-sub-visit-list : (t : ℕ) → visit-lts.Need-sub-visit-list (
-  entry-at-reads.Asked,
-  entry-at-reads.Learnt,
-  children-reads.Asked,
-  children-reads.Learnt,
-  visit-list-below t,
-  visit-list.Post,
-) (visit-at t) visit.Post
+visit-sub-visit-list : (t : ℕ) → visit-lts.Need-sub-visit-list (visit-calls t) (visit-at t) visit.Post
 visit-sub-visit-list t c = omega (arith, c .before .before .before .before .before .before .before .if1 .left)
 
--- src/owned.rt:33:5
-visit-visit-list-requires : (t : ℕ) → visit-lts.Need-visit-list-requires (
-  entry-at-reads.Asked,
-  entry-at-reads.Learnt,
-  children-reads.Asked,
-  children-reads.Learnt,
-  visit-list-below t,
-  visit-list.Post,
-) (visit-at t) visit.Post
+visit-visit-list-requires : (t : ℕ) → visit-lts.Need-visit-list-requires (visit-calls t) (visit-at t) visit.Post
 visit-visit-list-requires t c κs =
     let s = c .before .before .before .before .before .before .before .before .before .before .before in
     let l = c .before .before .before .children .ensures in (
       omega (arith, s .pre .0, l .few, c .before .before .before .before .before .before .before .before .if1 .left),
-      (omega (arith, l .few, l .long), l .asked, omega (arith, s .pre .1 .1, ap length (below-others (s .args .t .now) (s .args .domain) (s .args .i) (s .args .depth) (s .pre .1 .0) (c .before .before .before .before .before .before .before .before .if1 .left) _ (c .before .before .before .before .before .before .before .entry-at .ensures .1) (c .before .before .before .before .before .if2 .left) _ _ (c .before .before .before .children .ensures)))),
+      (omega (arith, l .few, l .long), l .asked, omega (arith, s .pre .1 .1, ap length (visit-others t c))),
     )
 
--- src/owned.rt:20:1
-visit-same-length-2 : (t : ℕ) → visit-lts.Need-same-length-2 (
-  entry-at-reads.Asked,
-  entry-at-reads.Learnt,
-  children-reads.Asked,
-  children-reads.Learnt,
-  visit-list-below t,
-  visit-list.Post,
-) (visit-at t) visit.Post
+visit-same-length-2 : (t : ℕ) → visit-lts.Need-same-length-2 (visit-calls t) (visit-at t) visit.Post
 visit-same-length-2 t c = c .before .before .visit-list .kept .1 .1 .1 .1 .1 .1 .0
 
--- src/owned.rt:20:1
-visit-returns-3 : (t : ℕ) → visit-lts.Need-returns-3 (
-  entry-at-reads.Asked,
-  entry-at-reads.Learnt,
-  children-reads.Asked,
-  children-reads.Learnt,
-  visit-list-below t,
-  visit-list.Post,
-) (visit-at t) visit.Post
+visit-returns-3 : (t : ℕ) → visit-lts.Need-returns-3 (visit-calls t) (visit-at t) visit.Post
 visit-returns-3 t c =
     let s = c .before .before .before .before .before .before .before .before .before .before .before .before .before .before in
-    entered-as (s .args .out .now) (s .args .n) _ _ _ _ (below-others (s .args .t .now) (s .args .domain) (s .args .i) (s .args .depth) (s .pre .1 .0) (c .before .before .before .before .before .before .before .before .before .before .before .if1 .left) _ (c .before .before .before .before .before .before .before .before .before .before .entry-at .ensures .1) (c .before .before .before .before .before .before .before .before .if2 .left) _ _ (c .before .before .before .before .before .before .children .ensures)) (c .before .before .visit-list .ensures)
+    entered-as (s .args .out .now) (s .args .n) _ _ _ _ (visit-others t (c .before .before .before)) (c .before .before .visit-list .ensures)
 
--- src/owned.rt:42:9
-visit-list-returns : (t : ℕ) → visit-list-lts.Need-returns (
-  visit-below t,
-  visit.Post,
-  visit-list-below t,
-  visit-list.Post,
-) (visit-list-at t) visit-list.Post
+visit-list-returns : (t : ℕ) → visit-list-lts.Need-returns (visit-list-calls t) (visit-list-at t) visit-list.Post
 visit-list-returns t c =
     let s = c .before .before .before .before in
     entered-none (s .args .out .now) (s .args .n) _ (among-over (s .args .depth) (tableOf (s .args .t .now)) (s .args .domain) (s .args .list .now) (s .args .count) (s .args .k) (s .pre .1 .0) (c .if1 .taken))
 
--- src/owned.rt:44:33
-visit-list-shared-slice-read-visit : (t : ℕ) → visit-list-lts.Need-shared-slice-read-visit (
-  visit-below t,
-  visit.Post,
-  visit-list-below t,
-  visit-list.Post,
-) (visit-list-at t) visit-list.Post
+visit-list-shared-slice-read-visit : (t : ℕ) → visit-list-lts.Need-shared-slice-read-visit (visit-list-calls t) (visit-list-at t) visit-list.Post
 visit-list-shared-slice-read-visit t c = omega arith
 
--- src/owned.rt:44:33
-visit-list-cast-visit : (t : ℕ) → visit-list-lts.Need-cast-visit (
-  visit-below t,
-  visit.Post,
-  visit-list-below t,
-  visit-list.Post,
-) (visit-list-at t) visit-list.Post
+visit-list-cast-visit : (t : ℕ) → visit-list-lts.Need-cast-visit (visit-list-calls t) (visit-list-at t) visit-list.Post
 visit-list-cast-visit t c = omega (arith, c .shared-slice-known3 .given (c .before .before .before .before .before .args .k))
 
--- src/owned.rt:44:9
-visit-list-visit-requires : (t : ℕ) → visit-list-lts.Need-visit-requires (
-  visit-below t,
-  visit.Post,
-  visit-list-below t,
-  visit-list.Post,
-) (visit-list-at t) visit-list.Post
+visit-list-visit-requires : (t : ℕ) → visit-list-lts.Need-visit-requires (visit-list-calls t) (visit-list-at t) visit-list.Post
 visit-list-visit-requires t c κs =
     let s = c .before .before .before .before .before .before in (
       omega (arith, s .pre .0, c .before .before .if1 .left),
       (listed (s .args .t .now) (s .args .list .now) (s .args .count) (s .args .k) (s .pre .1 .1) (c .before .before .if1 .left) (s .pre .1 .0), omega (arith, s .pre .1 .2, among-length (s .args .depth) (tableOf (s .args .t .now)) (s .args .domain) (s .args .list .now) (s .args .count) (s .args .k) (s .pre .1 .0) (c .before .before .if1 .left))),
     )
 
--- src/owned.rt:45:40
-visit-list-add-visit-list : (t : ℕ) → visit-list-lts.Need-add-visit-list (
-  visit-below t,
-  visit.Post,
-  visit-list-below t,
-  visit-list.Post,
-) (visit-list-at t) visit-list.Post
+visit-list-add-visit-list : (t : ℕ) → visit-list-lts.Need-add-visit-list (visit-list-calls t) (visit-list-at t) visit-list.Post
 visit-list-add-visit-list t c = omega (arith, c .before .before .before .before .before .before .before .before .before .pre .1 .0, c .before .before .before .before .before .before .before .before .before .good)
 
--- src/owned.rt:45:5
-visit-list-visit-list-requires : (t : ℕ) → visit-list-lts.Need-visit-list-requires (
-  visit-below t,
-  visit.Post,
-  visit-list-below t,
-  visit-list.Post,
-) (visit-list-at t) visit-list.Post
+visit-list-visit-list-requires : (t : ℕ) → visit-list-lts.Need-visit-list-requires (visit-list-calls t) (visit-list-at t) visit-list.Post
 visit-list-visit-list-requires t c κs =
     let s = c .before .before .before .before .before .before .before .before .before .before in (
       omega (arith, s .pre .0, c .before .before .before .before .before .before .if1 .left),
       (s .pre .1 .0, s .pre .1 .1, omega (arith, s .pre .1 .2, among-length (s .args .depth) (tableOf (s .args .t .now)) (s .args .domain) (s .args .list .now) (s .args .count) (s .args .k) (s .pre .1 .0) (c .before .before .before .before .before .before .if1 .left), c .before .before .before .visit .ensures .count, c .before .before .before .visit .kept .1 .1 .1 .1 .0)),
     )
 
--- src/owned.rt:37:1
-visit-list-same-length : (t : ℕ) → visit-list-lts.Need-same-length (
-  visit-below t,
-  visit.Post,
-  visit-list-below t,
-  visit-list.Post,
-) (visit-list-at t) visit-list.Post
+visit-list-same-length : (t : ℕ) → visit-list-lts.Need-same-length (visit-list-calls t) (visit-list-at t) visit-list.Post
 visit-list-same-length t c = c .before .before .visit-list .kept .1 .1 .1 .1 .1 .1 .0 ∙ c .before .before .before .before .before .before .visit .kept .1 .1 .1 .1 .0
 
--- src/owned.rt:37:1
-visit-list-returns-2 : (t : ℕ) → visit-list-lts.Need-returns-2 (
-  visit-below t,
-  visit.Post,
-  visit-list-below t,
-  visit-list.Post,
-) (visit-list-at t) visit-list.Post
+visit-list-returns-2 : (t : ℕ) → visit-list-lts.Need-returns-2 (visit-list-calls t) (visit-list-at t) visit-list.Post
 visit-list-returns-2 t c =
     let s = c .before .before .before .before .before .before .before .before .before .before .before .before .before in
     entered-join (s .args .out .now) (s .args .n) _ _ _ _ _ _ _ (c .before .before .before .before .before .before .visit .ensures) (c .before .before .visit-list .ensures) (among-next (s .args .depth) (tableOf (s .args .t .now)) (s .args .domain) (s .args .list .now) (s .args .count) (s .args .k) (s .pre .1 .0) (c .before .before .before .before .before .before .before .before .before .if1 .left))
 
 pub +visit+visit-list-spec : {M : Type 1} → statement M
-+visit+visit-list-spec = close μ-visit μ-visit-list (λ t. visit-lts.spec (
-  entry-at-reads.Asked,
-  entry-at-reads.Learnt,
-  children-reads.Asked,
-  children-reads.Learnt,
-  visit-list-below t,
-  visit-list.Post,
-)
++visit+visit-list-spec = close μ-visit μ-visit-list (λ t. visit-lts.spec (visit-calls t)
     (visit-at t)
     visit.Post
     (visit-returns t)
@@ -322,7 +180,7 @@ pub +visit+visit-list-spec : {M : Type 1} → statement M
     (visit-same-length-2 t)
     (visit-returns-3 t))
     λ t. visit-list-lts.spec
-    (visit-below t, visit.Post, visit-list-below t, visit-list.Post)
+    (visit-list-calls t)
     (visit-list-at t)
     visit-list.Post
     (visit-list-returns t)
