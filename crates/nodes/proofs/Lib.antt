@@ -1,0 +1,4 @@
+pub mod Outcomes
+pub mod LookingLaws
+pub mod RoomLaws
+pub mod ChangingLaws
