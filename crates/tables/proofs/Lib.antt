@@ -1,0 +1,4 @@
+pub mod Bytes
+pub mod Rows
+pub mod Search
+pub mod DomainLaws

@@ -1,0 +1,3 @@
+// Domains, watches and transactions, on lent bytes.
+pub mod domains;
+mod numbers;
