@@ -7,22 +7,22 @@ use Prim.Native.Nat.{ℕ, zero, suc, _+_, _*_, _-_, _/_, _%_, _^_, _≤_, _<_}
 use native.Mathlib.Nat.{add-zero, add-sub-cancel-left}
 use native.Mathlib.Omega.{arith}
 use lib.ListN.{length, getD, take, drop, set, replicate, length-replicate, drop-of-length-le}
-use lib.Seq.{set-getD}
 use lib.Dec.{eqb, leb}
-use borrow.Author.Tests.{le-leb, lt-leb, eq-eqb, ne-eqb, leb-true, leb-false}
+use borrow.Author.Tests.{le-leb, lt-leb, eq-eqb, ne-eqb, leb-true, leb-false, eqb-true}
 use Rattle.rules.specs.Size.{mostDomains, domainSize, domainsSize}
 use Rattle.rules.specs.Octets.{Octets, same, allZero, paste, field, bitsAt, bigEndian, pack, packFrom, _bits_}
 use Rattle.rules.specs.Path.{Domain}
 use Rattle.rules.specs.Layout.{Domains, domainIn, domainBytes, domainsBytes, domainsOf}
-use Rattle.rules.specs.Sound.{introduced, goodDomains}
+use Rattle.rules.specs.Sound.{introduced, goodDomains, soundDomains}
+use Rattle.rules.proofs.Compare.{both-true, same-eq}
 use Rattle.rules.proofs.Paste.{paste-sets}
 use Rattle.rules.proofs.Fields.{length-big, field-part, field-three}
 use Rattle.rules.proofs.EntryLayouts.{domain-read, domain-at}
 use Rattle.tables.specs.Two.{Bytes, Two}
 use Rattle.tables.specs.Entry.{taken, passes, entryOr, droppedIf}
 use Rattle.tables.proofs.Bytes.{agree, taken-cond, entry-cond}
-use Rattle.tables.proofs.Search.{free-none, taken-some, goods-next, dropped-is, dropped-not, swept, swept-next}
-use Rattle.tables.proofs.Rows.{length-table, same-first, same-zeros, part-next, keptFrom, kept-start, kept-next, kept-end, wrote, meant, length-wrote, place-again, dropped-case}
+use Rattle.tables.proofs.Search.{free-none, taken-some, goods-next, swept}
+use Rattle.tables.proofs.Rows.{length-table, same-first, same-zeros, part-listed, keptFrom, kept-start, kept-next, kept-end, Writable, wrote, wrote-kept, freed, left, dropped-kept}
 use Rattle.tables.specs.Kept.{keptAt, KeptDomains}
 use Rattle.tables.specs.Good.{goodDomain}
 
@@ -75,6 +75,9 @@ module _ (s : Octets) (bytes : Bytes s) (whole : length s ≡ domainsSize) (k : 
 abbrev wide : (r : Octets) → length (domainBytes (domainIn r)) ≡ domainSize
 wide r = domain-wide (domainIn r)
 
+empty : Writable domainBytes domainIn domainSize wide none
+empty = record { width = domain-wide none; back = domain-read none tt }
+
 -- those from place i on are
 abbrev pub keptRest : Octets → ℕ → Bool
 keptRest s i = keptFrom domainBytes domainIn domainSize wide mostDomains s i
@@ -83,7 +86,7 @@ pub rest-start : (s : Octets) → same (domainsBytes (domainsOf s)) s ≡ keptRe
 unfolding domainsBytes domainsOf
 rest-start s = kept-start domainBytes domainIn domainSize wide mostDomains s
 
-pub rest-next : (s : Octets) → length s ≡ domainsSize → (i : ℕ) → i < mostDomains → keptRest s i ≡ (keptAt domainSize domainBytes domainIn s i && keptRest s (i + 1))
+pub rest-next : (s : Octets) → length s ≡ domainsSize → (i : ℕ) → i < mostDomains → keptRest s i ≡ (keptAt mostDomains domainSize domainBytes domainIn s i && keptRest s (i + 1))
 rest-next s h i l = kept-next domainBytes domainIn domainSize wide mostDomains s h i l
 
 pub rest-end : (s : Octets) → length s ≡ domainsSize → (i : ℕ) → mostDomains ≤ i → keptRest s i ≡ true
@@ -101,15 +104,10 @@ three-bytes d h =
 
 module _ (s : Octets) (bytes : Bytes s) (whole : length s ≡ domainsSize) (k : ℕ) (h : k < mostDomains) where
   row : take 3 (drop (k * 3) s) ≡ getD s (k * 3) 0 ∷ getD s (k * 3 + 1) 0 ∷ getD s (k * 3 + 2) 0 ∷ []
-  row =
-      let one : k * 3 + 1 ≡ suc (k * 3) = omega arith in
-      let two : k * 3 + 2 ≡ suc (suc (k * 3)) = omega arith in
-      rw (one, two)
-      (part-next s (k * 3) 2 (omega arith)
-      ∙ ap (λ (l : Octets). getD s (k * 3) 0 ∷ l) (part-next s (suc (k * 3)) 1 (omega arith) ∙ ap (λ (l : Octets). getD s (suc (k * 3)) 0 ∷ l) (part-next s (suc (suc (k * 3))) 0 (omega arith))))
+  row = ap (λ (p : ℕ). take 3 (drop p s)) (sym (add-zero (k * 3))) ∙ part-listed s (k * 3) 0 3 (omega arith) ∙ rw add-zero
 
   -- a used place has nothing but its id
-  pub used-kept : 128 ≤ getD s (k * 3) 0 → eqb (getD s (k * 3) 0) 128 ≡ keptAt domainSize domainBytes domainIn s k
+  pub used-kept : 128 ≤ getD s (k * 3) 0 → eqb (getD s (k * 3) 0) 128 ≡ keptAt mostDomains domainSize domainBytes domainIn s k
   unfolding keptAt
   used-kept u =
       let x = getD s (k * 3 + 1) 0 in
@@ -123,7 +121,7 @@ module _ (s : Octets) (bytes : Bytes s) (whole : length s ≡ domainsSize) (k : 
       rw (e, three-bytes (x * 256 + y) (omega arith), row, b, d) (sym (same-first 128 (getD s (k * 3) 0) (x ∷ y ∷ [])))
 
   -- a free place is all zero
-  pub free-kept : getD s (k * 3) 0 < 128 → allZero (take (k * 3 + 3 - k * 3) (drop (k * 3) s)) ≡ keptAt domainSize domainBytes domainIn s k
+  pub free-kept : getD s (k * 3) 0 < 128 → allZero (take (k * 3 + 3 - k * 3) (drop (k * 3) s)) ≡ keptAt mostDomains domainSize domainBytes domainIn s k
   unfolding keptAt domainBytes
   free-kept u =
       let f = sym (used-byte s bytes whole k h) ∙ lt-leb 128 _ u in
@@ -177,35 +175,36 @@ module _ (s : Octets) (c : KeptDomains s) (k : ℕ) (h : k < mostDomains) where
       rw (one, two)
       (paste-sets (k * 3) (128 ∷ (d / 256 % 256) ∷ (d % 256) ∷ []) s (omega arith)
       ∙ ap (λ (r : Octets). paste (k * 3) r s) (sym (three-bytes d l))
-      ∙ sym (wrote domainBytes domainIn domainSize wide mostDomains s (c .same) k (some d) h (domain-wide (some d))))
+      ∙ sym (wrote domainBytes domainIn domainSize wide mostDomains s c k (some d) h (domain-wide (some d))))
 
   pub freed-domain : (test : Domain → Bool) → passes test (getD (domainsOf s) k none) ≡ true
       → paste (k * 3) (replicate 3 0) s ≡ domainsBytes (set (domainsOf s) k (droppedIf test (getD (domainsOf s) k none)))
   unfolding domainsOf domainsBytes domainBytes
-  freed-domain test p =
-      sym (wrote domainBytes domainIn domainSize wide mostDomains s (c .same) k none h (domain-wide none))
-      ∙ ap (λ (m : Option Domain). domainsBytes (set (domainsOf s) k m)) (sym (dropped-is test _ p))
+  freed-domain test = freed domainBytes domainIn domainSize wide mostDomains s c k h empty test
 
   pub left-domain : (test : Domain → Bool) → passes test (getD (domainsOf s) k none) ≡ false
       → s ≡ domainsBytes (set (domainsOf s) k (droppedIf test (getD (domainsOf s) k none)))
-  left-domain test p = sym (rw (dropped-not test _ p, set-getD (domainsOf s) k none) (c .same))
-
-  -- the place without its entry, if that passes a test: the bytes are kept, and mean that
-  pub dropped-domain : (test : Domain → Bool) (t : Octets) → t ≡ domainsBytes (set (domainsOf s) k (droppedIf test (getD (domainsOf s) k none)))
-      → KeptDomains t × (domainsOf t ≡ set (domainsOf s) k (droppedIf test (getD (domainsOf s) k none)))
   unfolding domainsOf domainsBytes
-  dropped-domain test t e =
-      let y = droppedIf test (getD (domainsOf s) k none) in
-      let again = place-again domainBytes domainIn domainSize wide mostDomains s (c .same) k h in
-      let w : length (domainBytes y) ≡ 3 = domain-wide y in
-      let r : domainIn (domainBytes y) ≡ y = dropped-case (λ (m : Option Domain). domainIn (domainBytes m) ≡ m) test (getD (domainsOf s) k none) (domain-read none tt) (again .1) in
-      let m : domainsOf (domainsBytes (set (domainsOf s) k y)) ≡ set (domainsOf s) k y = meant domainBytes domainIn domainSize wide mostDomains s (c .same) k y w r in
-      rw e (record { whole = length-wrote domainBytes domainIn domainSize wide mostDomains s (c .same) k y w; same = ap domainsBytes m }, m)
+  left-domain test = left domainBytes domainIn domainSize wide mostDomains s c k h empty test
 
--- a turn of a sweep
-pub swept-domain : (test : Domain → Bool) (ds : Domains) (s : Octets) → KeptDomains s → (i : ℕ) → i < mostDomains → domainsOf s ≡ swept (droppedIf test) i ds
-    → (t : Octets) → t ≡ domainsBytes (set (domainsOf s) i (droppedIf test (getD (domainsOf s) i none)))
-    → KeptDomains t × (domainsOf t ≡ swept (droppedIf test) (i + 1) ds)
-swept-domain test ds s c i h e t w =
-    let next = dropped-domain s c i h test t w in
-    (next .0, next .1 ∙ rw e (swept-next (droppedIf test) i ds))
+  pub swept-domain : (test : Domain → Bool) (ds : Domains) → domainsOf s ≡ swept (droppedIf test) k ds
+      → (t : Octets) → t ≡ domainsBytes (set (domainsOf s) k (droppedIf test (getD (domainsOf s) k none)))
+      → KeptDomains t × (domainsOf t ≡ swept (droppedIf test) (k + 1) ds)
+  unfolding domainsOf domainsBytes
+  swept-domain test = dropped-kept domainBytes domainIn domainSize wide mostDomains s c k h empty test
+
+  -- what the bytes are and mean after a domain is put in
+  pub put-kept : (d : ℕ) → d < 65536 → (t : Octets) → t ≡ domainsBytes (set (domainsOf s) k (some d)) → KeptDomains t × (domainsOf t ≡ set (domainsOf s) k (some d))
+  unfolding domainsOf domainsBytes
+  put-kept d l = wrote-kept domainBytes domainIn domainSize wide mostDomains s c k (some d) (record { width = domain-wide (some d); back = domain-read (some d) l })
+
+pub sound-kept : (s : Octets) → soundDomains s ≡ true → KeptDomains s
+unfolding soundDomains domainsOf domainsBytes
+sound-kept s h =
+    let p = both-true (eqb (length s) domainsSize) (same (domainsBytes (domainsOf s)) s && goodDomains (domainsOf s)) h in
+    let q = both-true (same (domainsBytes (domainsOf s)) s) (goodDomains (domainsOf s)) (p .1) in
+    record { whole = eqb-true (length s) domainsSize (p .0); same = same-eq (domainsBytes (domainsOf s)) s (q .0) }
+
+pub kept-domains : (s : Octets) → KeptDomains s → domainsBytes (domainsOf s) ≡ s
+unfolding domainsOf domainsBytes
+kept-domains s c = c .same

@@ -2,3 +2,4 @@ pub mod Bytes
 pub mod Rows
 pub mod Search
 pub mod DomainLaws
+pub mod WatchLaws

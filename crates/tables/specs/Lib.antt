@@ -2,3 +2,4 @@ pub mod Entry
 pub mod Kept
 pub mod Two
 pub mod Good
+pub mod Watch

@@ -103,7 +103,7 @@ pub fn lowest_free(s: &[u8]) -> usize
 // Whether the bytes of place k are those of what they mean.
 fn place_kept(s: &[u8], k: usize) -> bool
     requires { ⌜ (k < mostDomains) × (length (now s) ≡ domainsSize) ⌝ }
-    ensures { λ r. ⌜ r ≡ keptAt domainSize domainBytes domainIn (now (s .entry)) k ⌝ }
+    ensures { λ r. ⌜ r ≡ keptAt mostDomains domainSize domainBytes domainIn (now (s .entry)) k ⌝ }
 {
     let at = k * DOMAIN_SIZE;
     if 128 <= s[at] {

@@ -1,4 +1,4 @@
-use Rattle.tables.proofs.DomainLaws.{length-domainsOf, swept-domain}
+use Rattle.tables.proofs.DomainLaws.{length-domainsOf, kept-domains, swept-domain}
 use Rattle.tables.proofs.Search.{swept, without-swept}
 use Rattle.tables.specs.Kept.{KeptDomains}
 use Rattle.tables.specs.Entry.{droppedIf}
@@ -41,7 +41,7 @@ loop-again : tie.Need-loop-again Inv-loop μ-loop
 loop-again c =
     let b = c .before .before .before .before .before in
     let a = b .before .before .args in
-    let next = swept-domain (eqb (a .d)) (domainsOf (a .s .now)) (b .loop .s) (b .loop .inv .1) (b .loop .i) (c .before .before .before .before .loop-test .taken) (b .loop .inv .2) _ (c .before .before .free-if .ensures) in
+    let next = swept-domain (b .loop .s) (b .loop .inv .1) (b .loop .i) (c .before .before .before .before .loop-test .taken) (eqb (a .d)) (domainsOf (a .s .now)) (b .loop .inv .2) _ (c .before .before .free-if .ensures) in
     (omega arith, next .0, next .1)
 
 -- src/domains.rt:198:1
@@ -53,7 +53,7 @@ returns : tie.Need-returns Inv-loop μ-loop
 returns c =
     let b = c .before in
     let a = b .before .before .args in
-    sym (b .loop .inv .1 .same) ∙ ap domainsBytes (b .loop .inv .2 ∙ without-swept (eqb (a .d)) (b .loop .i) (domainsOf (a .s .now)) (rw (length-domainsOf (a .s .now)) (c .loop-test .left)))
+    sym (kept-domains (b .loop .s) (b .loop .inv .1)) ∙ ap domainsBytes (b .loop .inv .2 ∙ without-swept (eqb (a .d)) (b .loop .i) (domainsOf (a .s .now)) (rw (length-domainsOf (a .s .now)) (c .loop-test .left)))
 
 pub remove-spec : {M : Type 1} → statement M
 remove-spec =

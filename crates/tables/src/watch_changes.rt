@@ -1,0 +1,1 @@
+// Watches added and taken out.

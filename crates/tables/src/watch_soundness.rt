@@ -1,0 +1,1 @@
+// Whether the bytes of watches are sound.
