@@ -3,3 +3,4 @@ pub mod Rows
 pub mod Search
 pub mod DomainLaws
 pub mod WatchLaws
+pub mod WatchChanges

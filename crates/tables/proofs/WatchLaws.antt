@@ -31,8 +31,12 @@ use Rattle.tables.proofs.Rows.{length-table, listed, part-listed, text-
 
 -- ── a place's text ──
 
-abbrev meantBy : Bool → Given → Place
+abbrev pub meantBy : Bool → Given → Place
 meantBy r g = elim g as (λ g. Place) [ malformed ↦ event [] | absolute ns ↦ path r ns | relative ns ↦ event [] | special e ↦ event e ]
+
+pub place-given : (r : Bool) (x : Octets) (g : Given) → given x ≡ g → placeIn r x ≡ meantBy r g
+unfolding placeIn
+place-given r x g e = ap (meantBy r) e
 
 pub place-short : (r : Bool) (x : Octets) → length (placeText (placeIn r x)) ≤ length x
 unfolding placeIn placeText

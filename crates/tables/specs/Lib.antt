@@ -3,3 +3,4 @@ pub mod Kept
 pub mod Two
 pub mod Good
 pub mod Watch
+pub mod WatchKept

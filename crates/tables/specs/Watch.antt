@@ -1,6 +1,6 @@
 -- The watch in a place, by its fields.
 use mathlib.Core.Path.{_≡_}
-use mathlib.Core.Bool.{Bool, true}
+use mathlib.Core.Bool.{Bool, true, false}
 use mathlib.Core.List.{[]}
 use mathlib.Core.Option.{Option, none, some}
 use Prim.Native.Nat.{ℕ, _*_, _<_, _≤_}
@@ -8,10 +8,10 @@ use lib.Dec.{eqb}
 use lib.ListN.{length, getD}
 use Rattle.rules.specs.Size.{mostWatches, watchSize, longestPath, longestToken}
 use Rattle.rules.specs.Octets.{Octets, field, bitsAt}
-use Rattle.rules.specs.Path.{Connection}
+use Rattle.rules.specs.Path.{Connection, special, given, isFull}
 use Rattle.rules.specs.Payload.{event}
-use Rattle.rules.specs.Event.{Watch, placeText}
-use Rattle.rules.specs.Layout.{isRelative, placeIn, watchesOf}
+use Rattle.rules.specs.Event.{Watch}
+use Rattle.rules.specs.Layout.{placeIn, watchesOf}
 use Rattle.tables.specs.Entry.{taken, entryOr}
 use Rattle.tables.specs.Kept.{KeptWatches}
 use Rattle.tables.specs.declared.Depth.{Depth}
@@ -45,10 +45,10 @@ pub record TakenWatch (s : Octets) (k : ℕ) : Type 0 where
   pub kept : KeptWatches s
   pub used : taken (getD (watchesOf s) k none) ≡ true
 
--- a text that is a full path, or an event's name which is not relative
-pub record Placed (relative : Bool) (text : Octets) : Type 0 where
-  pub whole : placeText (placeIn relative text) ≡ text
-  pub mark : isRelative (placeIn relative text) ≡ relative
+-- a full path's text, or an event's name, which is never relative
+pub data Placed (relative : Bool) (text : Octets) : Type 0 where
+  full : isFull text ≡ true → Placed relative text
+  named : given text ≡ special text → relative ≡ false → Placed relative text
 
 -- a watch that a place has room for
 pub record FitWatch (c : Connection) (text : Octets) (relative : Bool) (token : Octets) : Type 0 where

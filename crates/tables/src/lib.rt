@@ -1,6 +1,7 @@
 // Domains, watches and transactions, on lent bytes.
 pub mod domains;
 mod numbers;
+mod texts;
 pub mod watch_changes;
 pub mod watch_soundness;
 pub mod watches;
