@@ -4,3 +4,5 @@ pub mod Search
 pub mod DomainLaws
 pub mod WatchLaws
 pub mod WatchChanges
+pub mod WatchKept
+pub mod WatchGood

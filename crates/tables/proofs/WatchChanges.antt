@@ -130,12 +130,16 @@ module _ (s : Octets) (c : KeptWatches s) (k : ℕ) (h : k < mostWatches) where
         wrote-kept watchBytes watchIn watchSize watch-wide mostWatches s c k (some (watchGiven o x r d t))
         (record { width = narrow-width _ (given-narrow o x r d t f below); back = given-back o x r d t f below })
 
+pub kept-of : (s : Octets) → length s ≡ watchesSize → same (watchesBytes (watchesOf s)) s ≡ true → KeptWatches s
+unfolding watchesOf watchesBytes
+kept-of s w e = record { whole = w; same = same-eq (watchesBytes (watchesOf s)) s e }
+
 pub sound-kept : (ds : Domains) (s : Octets) → soundWatches ds s ≡ true → KeptWatches s
-unfolding soundWatches watchesOf watchesBytes
+unfolding soundWatches
 sound-kept ds s h =
     let p = both-true (eqb (length s) watchesSize) (same (watchesBytes (watchesOf s)) s && goodWatches ds (watchesOf s)) h in
     let q = both-true (same (watchesBytes (watchesOf s)) s) (goodWatches ds (watchesOf s)) (p .1) in
-    record { whole = eqb-true (length s) watchesSize (p .0); same = same-eq (watchesBytes (watchesOf s)) s (q .0) }
+    kept-of s (eqb-true (length s) watchesSize (p .0)) (q .0)
 
 pub kept-watches : (s : Octets) → KeptWatches s → watchesBytes (watchesOf s) ≡ s
 unfolding watchesOf watchesBytes

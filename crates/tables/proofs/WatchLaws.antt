@@ -1,6 +1,6 @@
 -- Watches as bytes: what the bytes of a place say of its watch.
 use mathlib.Core.Path.{_≡_, refl, sym, ap, ap₂, _∙_}
-use mathlib.Core.Bool.{Bool, true, false, cond, not, _&&_}
+use mathlib.Core.Bool.{Bool, true, false, cond, not, _&&_, _||_}
 use mathlib.Core.List.{List, [], _∷_, _++_, map}
 use mathlib.Core.Option.{Option, none, some}
 use Prim.Native.Nat.{ℕ, zero, suc, _+_, _*_, _-_, _/_, _%_, _^_, _≤_, _<_, zero-le}
@@ -25,6 +25,7 @@ use Rattle.tables.specs.Entry.{taken, passes, entryOr}
 use Rattle.tables.specs.Two.{Bytes, Two}
 use Rattle.tables.specs.Kept.{KeptWatches}
 use Rattle.tables.specs.Watch.{nobody, ownedBy, watchOf, pathLength, tokenLength, TakenWatch}
+use Rattle.tables.specs.WatchKept.{depthSame, fieldsSame}
 use Rattle.tables.proofs.Bytes.{agree, taken-cond, entry-cond}
 use Rattle.tables.proofs.Search.{taken-some}
 use Rattle.tables.proofs.Rows.{length-table, listed, part-listed, text-part, length-padded, place-bytes}
@@ -48,7 +49,7 @@ place-short r x = go (given x) (means x)
     go (relative ns) m = zero-le
     go (special e) m = omega (arith, ap length (m .text))
 
-empty-is : (x : Octets) → 0 ≡ length x → [] ≡ x
+pub empty-is : (x : Octets) → 0 ≡ length x → [] ≡ x
 empty-is [] h = refl
 empty-is (c ∷ x) h = absurd (omega arith)
 
@@ -155,8 +156,8 @@ pub length-watchesOf : (s : Octets) → length (watchesOf s) ≡ mostWatches
 unfolding watchesOf
 length-watchesOf s = length-table watchBytes watchIn watchSize watch-wide mostWatches s
 
-marks-back : (b r g : ℕ) → b ≡ 128 + 64 * r + 32 * g → r < 2 → g < 2 → (b / 64 % 2 ≡ r) × (b % 32 ≡ 0)
-marks-back b r g e hr hg = (omega arith, omega arith)
+marks-back : (b r g : ℕ) → b ≡ 128 + 64 * r + 32 * g → r < 2 → g < 2 → (b / 64 % 2 ≡ r) × (b % 32 ≡ 0) × (b / 32 % 2 ≡ g)
+marks-back b r g e hr hg = (omega arith, omega arith, omega arith)
 
 packed-back : (n l t : ℕ) → n ≡ l * 128 + t → t ≤ 32 → (n / 128 ≡ l) × (n % 64 ≡ t)
 packed-back n l t e h = (omega arith, omega arith)
@@ -223,6 +224,10 @@ module _ (s : Octets) (k : ℕ) (h : k < mostWatches) where
         rw (place-is, taken-cond)
         (agree (λ p. eq-eqb (bitsAt head 47 1) 1 (omega (arith, leb-true 128 b p))) (λ p. ne-eqb (bitsAt head 47 1) 1 (λ q. omega (arith, leb-false 128 b p, q))))
 
+    pub owner-is : getD s (k * 302 + 2) 0 * 256 + getD s (k * 302 + 3) 0 ≡ bitsAt head 16 16
+    unfolding bitsAt
+    owner-is = omega (arith, head-bytes)
+
     pub owner-two : (r : ℕ) → Two s (k * 302 + 2) r → r ≡ bitsAt head 16 16
     unfolding bitsAt
     owner-two r w =
@@ -230,7 +235,7 @@ module _ (s : Octets) (k : ℕ) (h : k < mostWatches) where
         let v = rw e at (w .value) in
         omega (arith, head-bytes)
 
-    lengths : ((getD s (k * 302 + 4) 0 * 256 + getD s (k * 302 + 5) 0) / 128 ≡ pathLength s k) × ((getD s (k * 302 + 4) 0 * 256 + getD s (k * 302 + 5) 0) % 64 ≡ tokenLength s k)
+    pub lengths : ((getD s (k * 302 + 4) 0 * 256 + getD s (k * 302 + 5) 0) / 128 ≡ pathLength s k) × ((getD s (k * 302 + 4) 0 * 256 + getD s (k * 302 + 5) 0) % 64 ≡ tokenLength s k)
     unfolding bitsAt pathLength tokenLength
     lengths = let f = head-bytes in (omega arith, omega arith)
 
@@ -280,6 +285,7 @@ module _ (s : Octets) (k : ℕ) (h : k < mostWatches) where
       relative : bitsAt head 46 1 ≡ bit (isRelative (v .place))
       zeros : (getD s (k * 302) 0 % 32 ≡ 0) × (getD s (k * 302 + 5) 0 / 64 % 2 ≡ 0)
       depth : getD s (k * 302 + 1) 0 ≡ entryOr 0 (v .depth)
+      given : getD s (k * 302) 0 / 32 % 2 ≡ bit (taken (v .depth))
 
     said : Said
     said =
@@ -292,7 +298,16 @@ module _ (s : Octets) (k : ℕ) (h : k < mostWatches) where
         let m = marks-back _ _ _ b0 (bit-small (isRelative (v .place))) (bit-small (taken (v .depth))) in
         let l = lengths-back _ _ _ _ b4 b5 (n .path) (n .token) in
         let f = lengths bytes whole in
-        record { path = sym (f .0) ∙ l .0; token = sym (f .1) ∙ l .1; relative = sym (marks bytes whole .0) ∙ m .0; zeros = (m .1, l .2); depth = b1 }
+        record { path = sym (f .0) ∙ l .0; token = sym (f .1) ∙ l .1; relative = sym (marks bytes whole .0) ∙ m .0; zeros = (m .1, l .2); depth = b1; given = m .2 }
+
+    pub fields-said : fieldsSame s k ≡ true
+    unfolding fieldsSame depthSame taken entryOr
+    fields-said = rw (said .zeros .0, said .zeros .1, le-leb (tokenLength s k) 32 (rw (said .token) (read-narrow row head .token))) (go (v .depth) (said .given) (said .depth))
+      where
+        go : (m : Option ℕ) → getD s (k * 302) 0 / 32 % 2 ≡ bit (taken m) → getD s (k * 302 + 1) 0 ≡ entryOr 0 m
+            → (eqb (getD s (k * 302) 0 / 32 % 2) 1 || eqb (getD s (k * 302 + 1) 0) 0) ≡ true
+        go none p q = rw (p, q)
+        go (some d) p q = rw p
 
     pub path-within : pathLength s k ≤ 264
     path-within = rw (said .path) (read-narrow row head .path)
@@ -323,6 +338,11 @@ module _ (s : Octets) (k : ℕ) (h : k < mostWatches) where
 
     pub relative-read : eqb (getD s (k * 302) 0 / 64 % 2) 1 ≡ isRelative (watchOf s k .place)
     relative-read = rw (is-read u, marks bytes (c .whole) .0) (relative-said bytes (c .whole) own)
+
+    -- the place that its own text and mark mean
+    pub place-again : placeIn (isRelative (watchOf s k .place)) (placeText (watchOf s k .place)) ≡ watchOf s k .place
+    unfolding watchAt pathLength
+    place-again = rw (is-read u, ← relative-said bytes (c .whole) own, path-text bytes (c .whole) own)
 
     pub path-part : take (k * 302 + 6 + pathLength s k - (k * 302 + 6)) (drop (k * 302 + 6) s) ≡ placeText (watchOf s k .place)
     path-part = text-part s (k * 302) 302 6 264 (pathLength s k) path-length-within (lit≤ tt) ∙ sym (rw (is-read u) (path-text bytes (c .whole) own))
