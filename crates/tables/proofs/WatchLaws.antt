@@ -1,0 +1,387 @@
+-- Watches as bytes: what the bytes of a place say of its watch.
+use mathlib.Core.Path.{_≡_, refl, sym, ap, ap₂, _∙_}
+use mathlib.Core.Bool.{Bool, true, false, cond, not, _&&_, _||_}
+use mathlib.Core.List.{List, [], _∷_, _++_, map}
+use mathlib.Core.Option.{Option, none, some}
+use Prim.Native.Nat.{ℕ, zero, suc, _+_, _*_, _-_, _/_, _%_, _^_, _≤_, _<_, zero-le}
+use native.Mathlib.Nat.{add-zero, mod-lt, div-add-mod', min-le-left, min-le-right}
+use native.Mathlib.Omega.{arith}
+use lib.ListN.{length, getD, take, drop, set, replicate, length-replicate, length-append, length-take, length-drop}
+use lib.Seq.{take-at, take-take}
+use lib.Dec.{eqb, leb, lit<, lit≤}
+use borrow.Author.Tests.{le-leb, lt-leb, eq-eqb, ne-eqb, leb-true, leb-false}
+use Rattle.rules.specs.Size.{mostWatches, watchSize, watchesSize, longestPath, longestToken}
+use Rattle.rules.specs.Octets.{Octets, same, field, bitsAt, bigEndian, bit, padded, pack, packFrom, _bits_}
+use Rattle.rules.specs.Path.{Connection, Given, malformed, absolute, relative, special, given}
+use Rattle.rules.specs.Payload.{Place, path, event}
+use Rattle.rules.specs.Event.{Watch, Watches, placeText}
+use Rattle.rules.specs.Layout.{textAt, isRelative, depthBits, watchBits, watchBytes, watchIn, watchAt, placeIn, watchesOf}
+use Rattle.rules.specs.Sound.{twin}
+use Rattle.rules.proofs.PathLaws.{Means, means}
+use Rattle.rules.proofs.Fields.{length-big, field-part, field-three, field-split}
+use Rattle.rules.proofs.Cases.{cond-case}
+use Rattle.rules.proofs.EntryLayouts.{watch-at}
+use Rattle.tables.specs.Entry.{taken, passes, entryOr}
+use Rattle.tables.specs.Two.{Bytes, Two}
+use Rattle.tables.specs.Kept.{KeptWatches}
+use Rattle.tables.specs.Watch.{nobody, ownedBy, watchOf, pathLength, tokenLength, TakenWatch}
+use Rattle.tables.specs.WatchKept.{depthSame, fieldsSame}
+use Rattle.tables.proofs.Bytes.{agree, taken-cond, entry-cond}
+use Rattle.tables.proofs.Search.{taken-some}
+use Rattle.tables.proofs.Rows.{length-table, listed, part-listed, text-part, length-padded, place-bytes}
+
+-- ── a place's text ──
+
+abbrev pub meantBy : Bool → Given → Place
+meantBy r g = elim g as (λ g. Place) [ malformed ↦ event [] | absolute ns ↦ path r ns | relative ns ↦ event [] | special e ↦ event e ]
+
+pub place-given : (r : Bool) (x : Octets) (g : Given) → given x ≡ g → placeIn r x ≡ meantBy r g
+unfolding placeIn
+place-given r x g e = ap (meantBy r) e
+
+pub place-short : (r : Bool) (x : Octets) → length (placeText (placeIn r x)) ≤ length x
+unfolding placeIn placeText
+place-short r x = go (given x) (means x)
+  where
+    go : (g : Given) → Means x g → length (placeText (meantBy r g)) ≤ length x
+    go malformed m = zero-le
+    go (absolute ns) m = omega (arith, ap length (m .text))
+    go (relative ns) m = zero-le
+    go (special e) m = omega (arith, ap length (m .text))
+
+pub empty-is : (x : Octets) → 0 ≡ length x → [] ≡ x
+empty-is [] h = refl
+empty-is (c ∷ x) h = absurd (omega arith)
+
+-- a text as long as its place's is that text
+pub place-whole : (r : Bool) (x : Octets) → length (placeText (placeIn r x)) ≡ length x → placeText (placeIn r x) ≡ x
+unfolding placeIn placeText
+place-whole r x = go (given x) (means x)
+  where
+    go : (g : Given) → Means x g → length (placeText (meantBy r g)) ≡ length x → placeText (meantBy r g) ≡ x
+    go malformed m h = empty-is x h
+    go (absolute ns) m h = sym (m .text)
+    go (relative ns) m h = empty-is x h
+    go (special e) m h = m .text
+
+-- ── the bytes of a watch ──
+
+pub bit-small : (b : Bool) → bit b < 2
+bit-small true = lit< tt
+bit-small false = lit< tt
+
+pub bit-back : (b : Bool) → eqb (bit b) 1 ≡ b
+bit-back true = refl
+bit-back false = refl
+
+depth-bits : (m : Option ℕ) → depthBits m ≡ 1 bits bit (taken m) ∷ 5 bits 0 ∷ 8 bits entryOr 0 m ∷ []
+unfolding depthBits taken entryOr
+depth-bits none = refl
+depth-bits (some k) = refl
+
+-- the six bytes of the fields: relative, depth given, depth, owner, path length, token length
+abbrev pub sixBytes : ℕ → ℕ → ℕ → ℕ → ℕ → ℕ → Octets
+sixBytes r g d o l t = (128 + 64 * r + 32 * g) ∷ d ∷ (o / 256 % 256) ∷ (o % 256) ∷ (l / 2 % 256) ∷ (l % 2 * 128 + t) ∷ []
+
+six : (r g d o l t : ℕ) → r < 2 → g < 2 → d < 256 → o < 65536 → l < 512 → t < 64
+    → bigEndian 6 (pack (1 bits 1 ∷ 1 bits r ∷ 1 bits g ∷ 5 bits 0 ∷ 8 bits d ∷ 16 bits o ∷ 9 bits l ∷ 1 bits 0 ∷ 6 bits t ∷ [])) ≡ sixBytes r g d o l t
+unfolding bigEndian pack packFrom
+six r g d o l t hr hg hd ho hl ht =
+    let n = pack (1 bits 1 ∷ 1 bits r ∷ 1 bits g ∷ 5 bits 0 ∷ 8 bits d ∷ 16 bits o ∷ 9 bits l ∷ 1 bits 0 ∷ 6 bits t ∷ []) in
+    let a : n / 256 / 256 / 256 / 256 / 256 % 256 ≡ 128 + 64 * r + 32 * g = omega arith in
+    let b : n / 256 / 256 / 256 / 256 % 256 ≡ d = omega arith in
+    let c : n / 256 / 256 / 256 % 256 ≡ o / 256 % 256 = omega arith in
+    let e : n / 256 / 256 % 256 ≡ o % 256 = omega arith in
+    let f : n / 256 % 256 ≡ l / 2 % 256 = omega arith in
+    let h : n % 256 ≡ l % 2 * 128 + t = omega arith in
+    λ i. a i ∷ b i ∷ c i ∷ e i ∷ f i ∷ h i ∷ []
+
+pub record Narrow (w : Watch) : Type 0 where
+  pub owner : w .owner < 65536
+  pub depth : entryOr 0 (w .depth) < 256
+  pub path : length (placeText (w .place)) ≤ 264
+  pub token : length (w .token) ≤ 32
+
+abbrev pub sixOf : Watch → Octets
+sixOf w = sixBytes (bit (isRelative (w .place))) (bit (taken (w .depth))) (entryOr 0 (w .depth)) (w .owner) (length (placeText (w .place))) (length (w .token))
+
+pub watch-parts : (w : Watch) → Narrow w → watchBytes (some w) ≡ sixOf w ++ (padded 264 (placeText (w .place)) ++ padded 32 (w .token))
+unfolding watchBytes watchBits
+watch-parts w f =
+    rw depth-bits
+    (ap (λ (a : Octets). a ++ (padded 264 (placeText (w .place)) ++ padded 32 (w .token)))
+    (six _ _ _ _ _ _ (bit-small (isRelative (w .place))) (bit-small (taken (w .depth))) (f .depth) (f .owner) (omega (arith, f .path)) (omega (arith, f .token))))
+
+pub narrow-width : (w : Watch) → Narrow w → length (watchBytes (some w)) ≡ watchSize
+narrow-width w f =
+    let p = length-padded 264 (placeText (w .place)) (f .path) in
+    let t = length-padded 32 (w .token) (f .token) in
+    ap length (watch-parts w f)
+    ∙ length-append (sixOf w) (padded 264 (placeText (w .place)) ++ padded 32 (w .token))
+    ∙ ap (λ (n : ℕ). 6 + n) (length-append (padded 264 (placeText (w .place))) (padded 32 (w .token)) ∙ ap₂ _+_ p t)
+
+-- ── a watch that was read ──
+
+text-short : (s : Octets) (i k n : ℕ) → length (textAt s i k n) ≤ k
+unfolding textAt
+text-short s i k n = simp length-take (omega arith)
+
+pub text-few : (s : Octets) (i k n : ℕ) → length (textAt s i k n) ≤ n
+unfolding textAt
+text-few s i k n = simp length-take (omega arith)
+
+abbrev DepthBelow : Option ℕ → Type 0
+DepthBelow m = entryOr 0 m < 256
+
+pub read-narrow : (r : Octets) (head : ℕ) → Narrow (watchAt r head)
+unfolding watchAt bitsAt entryOr
+read-narrow r head =
+    record {
+      owner = mod-lt _ (lit< tt);
+      depth = cond-case DepthBelow (eqb (bitsAt head 45 1) 1) (some (bitsAt head 32 8)) none (mod-lt _ (lit< tt)) (lit< tt);
+      path = omega (arith, place-short (eqb (bitsAt head 46 1) 1) (textAt r 6 264 (bitsAt head 7 9)), text-short r 6 264 (bitsAt head 7 9));
+      token = text-short r 270 32 (bitsAt head 0 6);
+    }
+
+pub watch-wide : (r : Octets) → length (watchBytes (watchIn r)) ≡ watchSize
+unfolding watchIn watchBytes
+watch-wide r =
+    cond-case (λ (m : Option Watch). length (watchBytes m) ≡ watchSize) (eqb (bitsAt (field r 0 6) 47 1) 1) (some (watchAt r (field r 0 6))) none
+    (narrow-width _ (read-narrow r (field r 0 6))) none-width
+  where
+    none-width : length (watchBytes none) ≡ watchSize
+    none-width = length-replicate {A = ℕ} watchSize 0
+
+pub length-watchesOf : (s : Octets) → length (watchesOf s) ≡ mostWatches
+unfolding watchesOf
+length-watchesOf s = length-table watchBytes watchIn watchSize watch-wide mostWatches s
+
+marks-back : (b r g : ℕ) → b ≡ 128 + 64 * r + 32 * g → r < 2 → g < 2 → (b / 64 % 2 ≡ r) × (b % 32 ≡ 0) × (b / 32 % 2 ≡ g)
+marks-back b r g e hr hg = (omega arith, omega arith, omega arith)
+
+packed-back : (n l t : ℕ) → n ≡ l * 128 + t → t ≤ 32 → (n / 128 ≡ l) × (n % 64 ≡ t)
+packed-back n l t e h = (omega arith, omega arith)
+
+lengths-back : (x y l t : ℕ) → x ≡ l / 2 % 256 → y ≡ l % 2 * 128 + t → l ≤ 264 → t ≤ 32
+    → ((x * 256 + y) / 128 ≡ l) × ((x * 256 + y) % 64 ≡ t) × (y / 64 % 2 ≡ 0)
+lengths-back x y l t hx hy hl ht =
+    let half : x ≡ l / 2 = omega arith in
+    let n : x * 256 + y ≡ l * 128 + t = omega (arith, div-add-mod' l 2) in
+    (packed-back _ l t n ht .0, packed-back _ l t n ht .1, omega arith)
+
+-- ── place k of a table ──
+
+pub six-listed : (s : Octets) (p : ℕ) → p + 6 ≤ length s
+    → take 6 (drop p s) ≡ getD s p 0 ∷ getD s (p + 1) 0 ∷ getD s (p + 2) 0 ∷ getD s (p + 3) 0 ∷ getD s (p + 4) 0 ∷ getD s (p + 5) 0 ∷ []
+six-listed s p h = ap (λ (q : ℕ). take 6 (drop q s)) (sym (add-zero p)) ∙ part-listed s p 0 6 (omega arith) ∙ rw add-zero
+
+module _ (s : Octets) (k : ℕ) (h : k < mostWatches) where
+  abbrev row : Octets
+  row = take watchSize (drop (k * watchSize) s)
+
+  abbrev head : ℕ
+  head = field s (k * watchSize) 6
+
+  place-is : getD (watchesOf s) k none ≡ cond (eqb (bitsAt head 47 1) 1) (some (watchAt row head)) none
+  unfolding watchIn
+  place-is = watch-at s k h ∙ rw (field-part s (k * watchSize) watchSize 0 6 (omega arith), add-zero)
+
+  pub is-read : taken (getD (watchesOf s) k none) ≡ true → watchOf s k ≡ watchAt row head
+  is-read u =
+      ap (entryOr nobody) place-is ∙ entry-cond (eqb (bitsAt head 47 1) 1) (watchAt row head) nobody (sym (taken-cond _ (watchAt row head)) ∙ ap taken (sym place-is) ∙ u)
+
+  module _ (bytes : Bytes s) (whole : length s ≡ watchesSize) where
+    record HeadBytes : Type 0 where
+      first : getD s (k * 302) 0 < 256
+      second : getD s (k * 302 + 1) 0 < 256
+      third : getD s (k * 302 + 2) 0 < 256
+      fourth : getD s (k * 302 + 3) 0 < 256
+      fifth : getD s (k * 302 + 4) 0 < 256
+      sixth : getD s (k * 302 + 5) 0 < 256
+      sum : head ≡ ((getD s (k * 302) 0 * 256 + getD s (k * 302 + 1) 0) * 256 + getD s (k * 302 + 2) 0) * 16777216 + ((getD s (k * 302 + 3) 0 * 256 + getD s (k * 302 + 4) 0) * 256 + getD s (k * 302 + 5) 0)
+
+    head-bytes : HeadBytes
+    head-bytes =
+        let at = k * 302 in
+        let four : at + 3 + 1 ≡ at + 4 = omega arith in
+        let five : at + 3 + 2 ≡ at + 5 = omega arith in
+        let low = field-three s (at + 3) (omega arith) in
+        record {
+          first = bytes at;
+          second = bytes (at + 1);
+          third = bytes (at + 2);
+          fourth = bytes (at + 3);
+          fifth = bytes (at + 4);
+          sixth = bytes (at + 5);
+          sum = field-split s at 3 3 (omega arith) ∙ ap₂ (λ (a b : ℕ). a * 16777216 + b) (field-three s at (omega arith)) (rw (four, five) at low);
+        }
+
+    pub used-byte : leb 128 (getD s (k * 302) 0) ≡ taken (getD (watchesOf s) k none)
+    unfolding bitsAt
+    used-byte =
+        let b = getD s (k * 302) 0 in
+        let f = head-bytes in
+        rw (place-is, taken-cond)
+        (agree (λ p. eq-eqb (bitsAt head 47 1) 1 (omega (arith, leb-true 128 b p))) (λ p. ne-eqb (bitsAt head 47 1) 1 (λ q. omega (arith, leb-false 128 b p, q))))
+
+    pub owner-is : getD s (k * 302 + 2) 0 * 256 + getD s (k * 302 + 3) 0 ≡ bitsAt head 16 16
+    unfolding bitsAt
+    owner-is = omega (arith, head-bytes)
+
+    pub owner-two : (r : ℕ) → Two s (k * 302 + 2) r → r ≡ bitsAt head 16 16
+    unfolding bitsAt
+    owner-two r w =
+        let e : k * 302 + 2 + 1 ≡ k * 302 + 3 = omega arith in
+        let v = rw e at (w .value) in
+        omega (arith, head-bytes)
+
+    pub lengths : ((getD s (k * 302 + 4) 0 * 256 + getD s (k * 302 + 5) 0) / 128 ≡ pathLength s k) × ((getD s (k * 302 + 4) 0 * 256 + getD s (k * 302 + 5) 0) % 64 ≡ tokenLength s k)
+    unfolding bitsAt pathLength tokenLength
+    lengths = let f = head-bytes in (omega arith, omega arith)
+
+    pub lengths-two : (r : ℕ) → Two s (k * 302 + 4) r → (r / 128 ≡ pathLength s k) × (r % 64 ≡ tokenLength s k)
+    lengths-two r w =
+        let e : k * 302 + 4 + 1 ≡ k * 302 + 5 = omega arith in
+        let v = rw e at (w .value) in
+        rw v lengths
+
+    -- the marks and the depth
+    pub marks : (getD s (k * 302) 0 / 64 % 2 ≡ bitsAt head 46 1) × (getD s (k * 302) 0 / 32 % 2 ≡ bitsAt head 45 1) × (getD s (k * 302 + 1) 0 ≡ bitsAt head 32 8)
+    unfolding bitsAt
+    marks = let f = head-bytes in (omega arith, omega arith, omega arith)
+
+    pub owner-read : taken (getD (watchesOf s) k none) ≡ true → (r : ℕ) → Two s (k * 302 + 2) r → r ≡ watchOf s k .owner
+    unfolding watchAt
+    owner-read u r w = owner-two r w ∙ sym (ap Watch.owner (is-read u))
+
+    pub depth-read : taken (getD (watchesOf s) k none) ≡ true → watchOf s k .depth ≡ cond (eqb (getD s (k * 302) 0 / 32 % 2) 1) (some (getD s (k * 302 + 1) 0)) none
+    unfolding watchAt
+    depth-read u = ap Watch.depth (is-read u) ∙ rw (marks .1, marks .2)
+
+  -- ── a taken place whose bytes are those of its watch ──
+
+  abbrev pub OwnBytes : Type 0
+  OwnBytes = row ≡ watchBytes (some (watchAt row head))
+
+  pub own-bytes : KeptWatches s → taken (getD (watchesOf s) k none) ≡ true → OwnBytes
+  unfolding watchesOf
+  own-bytes c u =
+      place-bytes watchBytes watchIn watchSize watch-wide mostWatches s c k h ∙ ap watchBytes (taken-some nobody (getD (watchesOf s) k none) u ∙ ap some (is-read u))
+
+  module _ (bytes : Bytes s) (whole : length s ≡ watchesSize) (own : OwnBytes) where
+    abbrev v : Watch
+    v = watchAt row head
+
+    first-six : getD s (k * 302) 0 ∷ getD s (k * 302 + 1) 0 ∷ getD s (k * 302 + 2) 0 ∷ getD s (k * 302 + 3) 0 ∷ getD s (k * 302 + 4) 0 ∷ getD s (k * 302 + 5) 0 ∷ [] ≡ sixOf v
+    first-six =
+        sym (six-listed s (k * 302) (omega arith))
+        ∙ sym (take-take 6 watchSize (drop (k * 302) s) (lit≤ tt))
+        ∙ ap (take 6) (own ∙ watch-parts v (read-narrow row head))
+        ∙ take-at (sixOf v) (padded 264 (placeText (v .place)) ++ padded 32 (v .token)) 6 refl
+
+    record Said : Type 0 where
+      path : pathLength s k ≡ length (placeText (v .place))
+      token : tokenLength s k ≡ length (v .token)
+      relative : bitsAt head 46 1 ≡ bit (isRelative (v .place))
+      zeros : (getD s (k * 302) 0 % 32 ≡ 0) × (getD s (k * 302 + 5) 0 / 64 % 2 ≡ 0)
+      depth : getD s (k * 302 + 1) 0 ≡ entryOr 0 (v .depth)
+      given : getD s (k * 302) 0 / 32 % 2 ≡ bit (taken (v .depth))
+
+    said : Said
+    said =
+        let e = first-six in
+        let b0 : getD s (k * 302) 0 ≡ 128 + 64 * bit (isRelative (v .place)) + 32 * bit (taken (v .depth)) = cc in
+        let b1 : getD s (k * 302 + 1) 0 ≡ entryOr 0 (v .depth) = cc in
+        let b4 : getD s (k * 302 + 4) 0 ≡ length (placeText (v .place)) / 2 % 256 = cc in
+        let b5 : getD s (k * 302 + 5) 0 ≡ length (placeText (v .place)) % 2 * 128 + length (v .token) = cc in
+        let n = read-narrow row head in
+        let m = marks-back _ _ _ b0 (bit-small (isRelative (v .place))) (bit-small (taken (v .depth))) in
+        let l = lengths-back _ _ _ _ b4 b5 (n .path) (n .token) in
+        let f = lengths bytes whole in
+        record { path = sym (f .0) ∙ l .0; token = sym (f .1) ∙ l .1; relative = sym (marks bytes whole .0) ∙ m .0; zeros = (m .1, l .2); depth = b1; given = m .2 }
+
+    pub fields-said : fieldsSame s k ≡ true
+    unfolding fieldsSame depthSame taken entryOr
+    fields-said = rw (said .zeros .0, said .zeros .1, le-leb (tokenLength s k) 32 (rw (said .token) (read-narrow row head .token))) (go (v .depth) (said .given) (said .depth))
+      where
+        go : (m : Option ℕ) → getD s (k * 302) 0 / 32 % 2 ≡ bit (taken m) → getD s (k * 302 + 1) 0 ≡ entryOr 0 m
+            → (eqb (getD s (k * 302) 0 / 32 % 2) 1 || eqb (getD s (k * 302 + 1) 0) 0) ≡ true
+        go none p q = rw (p, q)
+        go (some d) p q = rw p
+
+    pub path-within : pathLength s k ≤ 264
+    path-within = rw (said .path) (read-narrow row head .path)
+
+    pub token-within : tokenLength s k ≤ 32
+    token-within = rw (said .token) (read-narrow row head .token)
+
+    pub path-text : placeText (v .place) ≡ textAt row 6 264 (pathLength s k)
+    unfolding watchAt pathLength
+    path-text =
+        let x = textAt row 6 264 (bitsAt head 7 9) in
+        let r = eqb (bitsAt head 46 1) 1 in
+        let q : bitsAt head 7 9 ≡ length (placeText (placeIn r x)) = said .path in
+        place-whole r x (omega (arith, place-short r x, text-few row 6 264 (bitsAt head 7 9)))
+
+    pub relative-said : eqb (bitsAt head 46 1) 1 ≡ isRelative (v .place)
+    relative-said = rw (said .relative) (bit-back (isRelative (v .place)))
+
+  module _ (bytes : Bytes s) (c : KeptWatches s) (u : taken (getD (watchesOf s) k none) ≡ true) where
+    own : OwnBytes
+    own = own-bytes c u
+
+    pub path-length-within : pathLength s k ≤ 264
+    path-length-within = path-within bytes (c .whole) own
+
+    pub token-length-within : tokenLength s k ≤ 32
+    token-length-within = token-within bytes (c .whole) own
+
+    pub relative-read : eqb (getD s (k * 302) 0 / 64 % 2) 1 ≡ isRelative (watchOf s k .place)
+    relative-read = rw (is-read u, marks bytes (c .whole) .0) (relative-said bytes (c .whole) own)
+
+    -- the place that its own text and mark mean
+    pub place-again : placeIn (isRelative (watchOf s k .place)) (placeText (watchOf s k .place)) ≡ watchOf s k .place
+    unfolding watchAt pathLength
+    place-again = rw (is-read u, ← relative-said bytes (c .whole) own, path-text bytes (c .whole) own)
+
+    pub path-part : take (k * 302 + 6 + pathLength s k - (k * 302 + 6)) (drop (k * 302 + 6) s) ≡ placeText (watchOf s k .place)
+    path-part = text-part s (k * 302) 302 6 264 (pathLength s k) path-length-within (lit≤ tt) ∙ sym (rw (is-read u) (path-text bytes (c .whole) own))
+
+    pub token-part : take (k * 302 + 270 + tokenLength s k - (k * 302 + 270)) (drop (k * 302 + 270) s) ≡ watchOf s k .token
+    unfolding watchAt tokenLength
+    token-part = text-part s (k * 302) 302 270 32 (tokenLength s k) token-length-within (lit≤ tt) ∙ sym (ap Watch.token (is-read u))
+
+-- ── finding ──
+
+module _ (c : Connection) (x : Option Watch) where
+  pub owned-taken : passes (ownedBy c) x ≡ true → taken x ≡ true
+  unfolding passes taken
+  owned-taken = go x
+    where
+      go : (x : Option Watch) → passes (ownedBy c) x ≡ true → taken x ≡ true
+      go none e = e
+      go (some w) e = refl
+
+module _ (c : Connection) (p t : Octets) (x : Option Watch) where
+  pub twin-other : passes (ownedBy c) x ≡ false → passes (twin c p t) x ≡ false
+  unfolding passes ownedBy twin
+  twin-other = go x
+    where
+      go : (x : Option Watch) → passes (ownedBy c) x ≡ false → passes (twin c p t) x ≡ false
+      go none e = refl
+      go (some w) e = rw e
+
+  module _ (o : passes (ownedBy c) x ≡ true) where
+    twin-is : passes (twin c p t) x ≡ (same p (placeText (entryOr nobody x .place)) && same t (entryOr nobody x .token))
+    unfolding passes ownedBy twin entryOr
+    twin-is = go x o
+      where
+        go : (x : Option Watch) → passes (ownedBy c) x ≡ true → passes (twin c p t) x ≡ (same p (placeText (entryOr nobody x .place)) && same t (entryOr nobody x .token))
+        go none e = let z : _≡_ {A = ℕ} 0 1 = cc in absurd (omega arith)
+        go (some w) e = rw e
+
+    pub twin-path : same p (placeText (entryOr nobody x .place)) ≡ false → passes (twin c p t) x ≡ false
+    twin-path e = twin-is ∙ rw e
+
+    pub twin-token : same p (placeText (entryOr nobody x .place)) ≡ true → passes (twin c p t) x ≡ same t (entryOr nobody x .token)
+    twin-token e = twin-is ∙ rw e

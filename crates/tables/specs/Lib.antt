@@ -1,0 +1,6 @@
+pub mod Entry
+pub mod Kept
+pub mod Two
+pub mod Good
+pub mod Watch
+pub mod WatchKept

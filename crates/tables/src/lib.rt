@@ -1,0 +1,13 @@
+// Domains, watches and transactions, on lent bytes.
+pub mod domains;
+mod numbers;
+mod texts;
+pub mod watch_changes;
+pub mod watch_soundness;
+pub mod watches;
+
+// How deep below its path a watch hears.
+pub enum Depth {
+    To(u8),
+    Any,
+}
