@@ -1,16 +1,16 @@
 -- WRITE, MKDIR, RM and SET_PERMS: what each answers where its tests came out so.
-use mathlib.Core.Path.{_≡_, refl, sym, ap, ap₂, subst, _∙_}
-use mathlib.Core.Bool.{Bool, true, false, cond, _&&_, _||_}
+use mathlib.Core.Path.{_≡_, sym, ap, ap₂, subst, _∙_}
+use mathlib.Core.Bool.{Bool, true, false, cond}
 use mathlib.Core.List.{List, [], _∷_}
 use Prim.Native.Nat.{ℕ, suc, _≤_, _<_}
 use native.Mathlib.Omega.{arith}
-use lib.ListN.{length, getD, drop}
+use lib.ListN.{length, getD}
 use lib.Dec.{eqb}
 use borrow.Author.Tests.{eq-eqb, ne-eqb, le-leb, lt-leb}
 use Rattle.rules.specs.Size.{longestValue, mostEntries}
 use Rattle.rules.specs.Octets.{Octets}
 use Rattle.rules.specs.Path.{Domain, Name, Names, namesIn}
-use Rattle.rules.specs.Node.{Entry, Node, Table, Reached, nodeAt, reach, made, withValue, withEntries, removed}
+use Rattle.rules.specs.Node.{Entry, Node, Table, nodeAt, reach, made, withValue, withEntries, removed}
 use Rattle.rules.specs.Rights.{mayRead, mayWrite, mayOwn}
 use Rattle.rules.specs.Payload as P
 use Rattle.rules.specs.Answer as A

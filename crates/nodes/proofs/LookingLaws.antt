@@ -1,7 +1,6 @@
 -- READ, DIRECTORY and GET_PERMS: what they give of the slot that they see.
-use mathlib.Core.Path.{_≡_, refl, sym, ap, subst, _∙_}
-use mathlib.Core.Bool.{true}
-use mathlib.Core.List.{List, _∷_, flatMap}
+use mathlib.Core.Path.{_≡_, refl, ap, subst, _∙_}
+use mathlib.Core.List.{List}
 use Prim.Native.Nat.{ℕ, _≤_, _<_}
 use lib.ListN.{length}
 use borrow.Author.Tests.{le-leb, lt-leb}
@@ -11,7 +10,7 @@ use Rattle.rules.specs.Path.{Domain, namesIn}
 use Rattle.rules.specs.Node.{Table, nodeAt, children}
 use Rattle.rules.specs.Payload as P
 use Rattle.rules.specs.Answer as A
-use Rattle.rules.specs.Answer.{done, refused, E2BIG, listed, listing, nameList, entryText, permissions, answer, answered}
+use Rattle.rules.specs.Answer.{done, refused, E2BIG, listed, listing, nameList, permissions, answer, answered}
 use Rattle.rules.specs.Layout.{tableOf}
 use Rattle.slots.proofs.Canonical.{sound-canonical}
 use Rattle.lookup.specs.Rights.{Asked}

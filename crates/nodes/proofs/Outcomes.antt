@@ -1,15 +1,15 @@
 -- The ways out of a request: what it answers where the tests came out so.
 use mathlib.Core.Path.{_≡_, refl, sym, ap, ap₂, _∙_}
-use mathlib.Core.Bool.{Bool, true, false, cond}
-use mathlib.Core.List.{List, [], _∷_}
-use mathlib.Core.Option.{Option, none, some}
-use Prim.Native.Nat.{ℕ, suc, _+_, _≤_, _<_}
+use mathlib.Core.Bool.{Bool, true, false}
+use mathlib.Core.List.{[], _∷_}
+use mathlib.Core.Option.{some}
+use Prim.Native.Nat.{ℕ, _≤_, _<_}
 use lib.ListN.{length, drop}
 use borrow.Author.Tests.{lt-leb}
 use Rattle.rules.specs.Octets.{Octets, text, paste}
 use Rattle.rules.specs.Path.{Domain, Name, Names, namesIn}
 use Rattle.rules.specs.Node.{Table, Reached, nodeAt, reach}
-use Rattle.rules.specs.Rights.{mayRead, mayWrite}
+use Rattle.rules.specs.Rights.{mayRead}
 use Rattle.rules.specs.Answer as A
 use Rattle.rules.specs.Answer.{done, refused, OK, unchanged, changed, looked, absent, EACCES, ENOENT}
 use Rattle.rules.specs.Layout.{tableOf, tableBytes}
@@ -25,7 +25,7 @@ use Rattle.nodes.specs.Answers.{errnoMeant, effectMeant, okay, Answers}
 use Rattle.nodes.specs.declared.kinds.Errno.{Errno}
 use Rattle.nodes.specs.declared.kinds.Reply.the-variants.{Done, Refused}
 use Rattle.nodes.specs.declared.kinds.Effect.{Effect}
-use Rattle.nodes.specs.declared.kinds.Effect.the-variants.{Nothing, Wrote, Removed}
+use Rattle.nodes.specs.declared.kinds.Effect.the-variants.{Nothing}
 use Rattle.nodes.specs.declared.kinds.Answer.{Answer}
 
 -- ── answers that change nothing ──

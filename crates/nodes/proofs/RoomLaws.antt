@@ -1,20 +1,19 @@
 -- What is left of a path: how many names, and whether there is room for them.
-use mathlib.Core.Path.{_≡_, refl, sym, ap, ap₂, _∙_}
-use mathlib.Core.Bool.{Bool, true, false, cond, _&&_}
-use mathlib.Core.List.{List, [], _∷_}
+use mathlib.Core.Path.{_≡_, refl, ap₂}
+use mathlib.Core.Bool.{true, false, _&&_}
+use mathlib.Core.List.{[], _∷_}
 use mathlib.Core.Option.{Option, none, some}
 use Prim.Native.Nat.{ℕ, suc, _+_, _≤_, _<_}
 use native.Mathlib.Numerals.{add-one}
-use native.Mathlib.Omega.{arith}
 use lib.ListN.{length, getD, drop, drop-of-length-le}
 use lib.Seq.{drop-cons}
-use lib.Dec.{eqb, leb}
+use lib.Dec.{leb}
 use borrow.Author.Tests.{eq-eqb, ne-eqb, le-leb, lt-leb, leb-true}
 use Rattle.rules.specs.Size.{longestName, longestValue, deepest}
 use Rattle.rules.specs.Octets.{Octets}
 use Rattle.rules.specs.Entries.{freeCount}
 use Rattle.rules.specs.Path.{Domain, Names, split, glued, shortNames, fits, namesIn}
-use Rattle.rules.specs.Node.{Table, Reached, childFrom, child, reach, reachFrom}
+use Rattle.rules.specs.Node.{Table, Reached, child, reach, reachFrom}
 use Rattle.rules.specs.Answer.{room}
 use Rattle.rules.specs.Layout.{tableOf}
 use Rattle.rules.proofs.Compare.{both-true}

@@ -1,49 +1,35 @@
-// The requests that change: WRITE, MKDIR, RM and SET_PERMS.
+// The requests that give a path a node: WRITE and MKDIR.
 ghost use mathlib.Core.Path.{_≡_};
-ghost use mathlib.Core.Bool.{true};
-ghost use mathlib.Core.List.{[]};
 ghost use Prim.Native.Nat.{_<_};
 ghost use lib.ListN.{length};
 ghost use Rattle.rules.specs.Size.{headerSize, replySize};
 ghost use Rattle.rules.specs.Octets.{paste};
-ghost use Rattle.rules.specs.Path.{Domain, Names, isFull, namesIn};
-ghost use Rattle.rules.specs.Node.{Entry, nodeAt, reach};
-ghost use Rattle.rules.specs.Payload.{write, mkdir, rm};
-ghost use Rattle.rules.specs.Answer.{room, created, maySet};
+ghost use Rattle.rules.specs.Path.{Domain, namesIn};
+ghost use Rattle.rules.specs.Node.{reach};
+ghost use Rattle.rules.specs.Payload.{write, mkdir};
+ghost use Rattle.rules.specs.Answer.{room, created};
 ghost use Rattle.rules.specs.Layout.{tableOf};
-ghost use Rattle.slots.specs.Slot.{Canonical};
 ghost use Rattle.slots.specs.Left.{leftAt};
-ghost use Rattle.slots.specs.Written.{entryIn};
 ghost use Rattle.lookup.specs.Reach.{Reaches};
-ghost use Rattle.lookup.specs.Rights.{Asked};
-ghost use Rattle.nodes.specs.Answers.{okay, Standing, Ready, Stored, Answers, Answered, Permitted};
+ghost use Rattle.nodes.specs.Answers.{okay, Standing, Ready, Answers, Answered};
 use crate::kinds::Answer;
 use crate::kinds::Effect;
 use crate::kinds::Errno;
+use crate::kinds::HEADER_SIZE;
 use crate::kinds::Reply;
-use crate::looking::absent;
 use crate::looking::refusal;
 use lookup::reach::reach;
-use lookup::rights::may_own;
-use lookup::rights::may_read;
 use lookup::rights::may_write;
 use making::free::free_count;
 use making::making::make;
-use making::removing::remove;
 use octets::parts::copy;
 use paths::names::fits;
-use slots::fields::entry_at;
-use slots::writing::put_entries;
 use slots::writing::put_value;
-
-const HEADER_SIZE: usize = 16;
 
 const LONGEST_VALUE: usize = 64;
 
-const MOST_ENTRIES: usize = 4;
-
 // Success with nothing to tell: `OK` and a nul.
-fn success(reply: &mut [u8], effect: Effect) -> Answer
+pub fn success(reply: &mut [u8], effect: Effect) -> Answer
     requires { ⌜ length (now reply) ≡ replySize ⌝ }
     ensures { λ r. ⌜ (r ≡ record { reply = Reply.Done 3; effect = effect }) × (now (reply .exit) ≡ paste headerSize okay (now (reply .entry))) ⌝ }
 {
@@ -55,7 +41,7 @@ fn success(reply: &mut [u8], effect: Effect) -> Answer
 }
 
 // How many names a path's text has from one on that begins at an index.
-fn names_left(path: &[u8], at: usize) -> usize
+pub fn names_left(path: &[u8], at: usize) -> usize
     requires { ⌜ at < length (now path) ⌝ }
     ensures { λ r. ⌜ r ≡ length (leftAt (now (path .entry)) at) ⌝ }
 {
@@ -141,84 +127,4 @@ pub fn mkdir(t: &mut [u8], domain: u32, path: &[u8], reply: &mut [u8]) -> Answer
         return success(reply, Effect::Nothing);
     }
     refusal(Errno::Access)
-}
-
-// RM of an absent path, of which the names from `at` on are left.
-fn remove_absent(
-    t: &[u8],
-    domain: u32,
-    i: usize,
-    path: &[u8],
-    at: usize,
-    reply: &mut [u8],
-) -> Answer
-    requires { ⌜ Ready (now t) (now path) (now reply) domain × Reaches (now t) (now path) i at × (at < length (now path)) ⌝ }
-    ensures { λ r. ⌜ Answered domain rm (now (path .entry)) (now (t .entry)) (now (t .entry)) (now (reply .entry)) (now (reply .exit)) r ⌝ }
-{
-    if 1 < names_left(path, at) {
-        return refusal(absent(t, i, domain));
-    }
-    if may_read(t, i, domain) {
-        return success(reply, Effect::Nothing);
-    }
-    refusal(Errno::Access)
-}
-
-pub fn rm(t: &mut [u8], domain: u32, path: &[u8], reply: &mut [u8]) -> Answer
-    requires { ⌜ Ready (now t) (now path) (now reply) domain ⌝ }
-    ensures { λ r. ⌜ Answered domain rm (now (path .entry)) (now (t .entry)) (now (t .exit)) (now (reply .entry)) (now (reply .exit)) r ⌝ }
-{
-    let reached = reach(t, path);
-    let slot = reached.slot;
-    let at = reached.at;
-    if at < path.len() {
-        return remove_absent(t, domain, slot, path, at, reply);
-    }
-    if !may_write(t, slot, domain) {
-        return refusal(Errno::Access);
-    }
-    remove(t, slot);
-    success(reply, Effect::Removed)
-}
-
-// Whether a domain may give slot i entries whose first names an owner.
-fn may_set(t: &[u8], i: usize, domain: u32, owner: u32) -> bool
-    requires { ⌜ Asked (now t) i ⌝ }
-    ensures { λ r. ⌜ ((ns : Names) (o : Entry) → o .domain ≡ owner → r ≡ maySet domain ns (tableOf (now (t .entry))) (nodeAt (tableOf (now (t .entry))) i) o) ⌝ }
-{
-    if !may_own(t, i, domain) {
-        return false;
-    }
-    if domain == 0 {
-        return true;
-    }
-    owner == entry_at(t, i, 0).domain
-}
-
-// The entries are the first `count` of two arrays, the owner's first.
-pub fn set_perms(
-    t: &mut [u8],
-    domain: u32,
-    path: &[u8],
-    count: usize,
-    access: &[u32],
-    domains: &[u32],
-    reply: &mut [u8],
-) -> Answer
-    requires { ⌜ Ready (now t) (now path) (now reply) domain × Stored count (now access) (now domains) ⌝ }
-    ensures { λ r. ⌜ Permitted domain count (now (access .entry)) (now (domains .entry)) (now (path .entry)) (now (t .entry)) (now (t .exit)) (now (reply .entry)) (now (reply .exit)) r ⌝ }
-{
-    let reached = reach(t, path);
-    let slot = reached.slot;
-    if reached.at < path.len() {
-        return refusal(absent(t, slot, domain));
-    }
-    if !may_set(t, slot, domain, domains[0]) {
-        return refusal(Errno::Access);
-    }
-    if MOST_ENTRIES < count {
-        return refusal(Errno::NoSpace);
-    }
-    put_entries(t, slot, count, access, domains);
-    success(reply, Effect::Wrote)
 }

@@ -1,5 +1,8 @@
 // What a node request asks, and what it answers.
 
+// The payload of a reply stands behind its header.
+pub const HEADER_SIZE: usize = 16;
+
 // EACCES, ENOENT, ENOSPC and E2BIG.
 pub enum Errno {
     Access,

@@ -2,4 +2,6 @@
 pub mod changing;
 pub mod kinds;
 pub mod looking;
+pub mod permitting;
+pub mod removing;
 pub mod requests;

@@ -10,6 +10,7 @@ ghost use Rattle.nodes.specs.Sights.{Sees};
 use crate::kinds::Answer;
 use crate::kinds::Effect;
 use crate::kinds::Errno;
+use crate::kinds::HEADER_SIZE;
 use crate::kinds::Reply;
 use lookup::children::children;
 use lookup::listing::names_length;
@@ -19,8 +20,6 @@ use lookup::reach::reach;
 use lookup::rights::may_read;
 use octets::parts::copy;
 use slots::fields::value;
-
-const HEADER_SIZE: usize = 16;
 
 const LONGEST_PAYLOAD: usize = 4096;
 

@@ -1,14 +1,14 @@
 // A node request of any of the seven kinds.
 ghost use Rattle.nodes.specs.Answers.{Ready, Askable, AnsweredAs};
 use crate::changing::mkdir;
-use crate::changing::rm;
-use crate::changing::set_perms;
 use crate::changing::write;
 use crate::kinds::Answer;
 use crate::kinds::Ask;
 use crate::looking::directory;
 use crate::looking::get_perms;
 use crate::looking::read;
+use crate::permitting::set_perms;
+use crate::removing::rm;
 
 // Answers what a domain asks for a full path, on a sound table: WRITE with the value, SET_PERMS with the first `count` entries of two arrays.
 pub fn answer(

@@ -1,78 +1,58 @@
-use mathlib.Core.Path.{_≡_, refl, sym, ap, _∙_}
+use mathlib.Core.Path.{refl, sym, _∙_}
 use Rattle.slots.proofs.Canonical.{sound-canonical}
 use borrow.Author.Tests.{not-true, not-false}
-use Rattle.nodes.proofs.Outcomes.{asked, refused-so, changed-so}
+use Rattle.nodes.proofs.Outcomes.{refused-so, changed-so}
 use Rattle.nodes.proofs.ChangingLaws.{created-denied, created-full, created-done}
 use Rattle.nodes.proofs.RoomLaws.{roomy, left-short}
 use borrow.Author.Needs.{needs}
 use Rattle.nodes.proofs.changing.create.Statement.{statement}
 use Rattle.nodes.proofs.changing.create.Tie as tie
-use Rattle.nodes.proofs.changing.create.Reads as reads
-use Rattle.nodes.proofs.changing.create.Lts as lts
-use Rattle.lookup.proofs.rights.may_write.Reads as may-write-reads
-use Rattle.making.proofs.making.make.Reads as make-reads
-use Rattle.nodes.proofs.changing.has_room.Reads as has-room-reads
-use Rattle.nodes.proofs.changing.success.Reads as success-reads
-use Rattle.nodes.proofs.looking.refusal.Reads as refusal-reads
 
--- src/changing.rt:92:9
 may-write-requires : tie.Need-may-write-requires
 may-write-requires c κs = search needs
 
--- src/changing.rt:93:9
 refusal-requires : tie.Need-refusal-requires
 refusal-requires c κs = search needs
 
--- src/changing.rt:93:9
 same-length : tie.Need-same-length
 same-length c = search needs
 
--- src/changing.rt:93:9
 returns : tie.Need-returns
 returns c =
     let a = c .before .before .before .before .before .before .before .before in
     refused-so (a .args .domain) _ (a .args .t .now) (sound-canonical _ (a .pre .0 .standing .sound)) _ (a .args .reply .now) _ _ (c .refusal .ensures)
     (created-denied _ _ _ _ _ (a .pre .1) _ (sym (c .before .before .may-write .ensures) ∙ not-true _ (c .before .if1 .taken)))
 
--- src/changing.rt:95:9
 has-room-requires : tie.Need-has-room-requires
 has-room-requires c κs = search needs
 
--- src/changing.rt:96:9
 refusal-requires-2 : tie.Need-refusal-requires-2
 refusal-requires-2 c κs = search needs
 
--- src/changing.rt:96:9
 same-length-2 : tie.Need-same-length-2
 same-length-2 c = search needs
 
--- src/changing.rt:96:9
 returns-2 : tie.Need-returns-2
 returns-2 c =
     let a = c .before .before .before .before .before .before .before .before .before .before .before in
     refused-so (a .args .domain) _ (a .args .t .now) (sound-canonical _ (a .pre .0 .standing .sound)) _ (a .args .reply .now) _ _ (c .refusal2 .ensures)
     (created-full _ _ _ _ _ (a .pre .1) _ (sym (c .before .before .before .before .before .may-write .ensures) ∙ not-false _ (c .before .before .before .before .if1 .left)) (sym (c .before .before .has-room .ensures (a .args .domain)) ∙ not-true _ (c .before .if2 .taken)))
 
--- src/changing.rt:98:5
 make-requires : tie.Need-make-requires
 make-requires c κs =
     let a = c .before .before .before .before .before .before .before .before .before .before .before in
     let m = roomy (a .args .domain) _ _ _ _ (sym (c .before .before .has-room .ensures (a .args .domain)) ∙ not-false _ (c .before .if2 .left)) in
     ((a .pre .1 .below, sound-canonical _ (a .pre .0 .standing .sound), a .pre .1 .used), (left-short _ _ _ _ (a .pre .1) (m .1), (m .2, (m .0, a .pre .0 .domain))))
 
--- src/changing.rt:99:5
 success-requires : tie.Need-success-requires
 success-requires c κs = search needs
 
--- src/changing.rt:88:1
 same-length-3 : tie.Need-same-length-3
 same-length-3 c = search needs
 
--- src/changing.rt:88:1
 same-length-4 : tie.Need-same-length-4
 same-length-4 c = search needs
 
--- src/changing.rt:88:1
 returns-3 : tie.Need-returns-3
 returns-3 c =
     let a = c .before .before .before .before .before .before .before .before .before .before .before .before .before .before .before .before .before .before in

@@ -1,37 +1,26 @@
-use mathlib.Core.Path.{_≡_, refl, sym, ap, _∙_}
+use mathlib.Core.Path.{sym, _∙_}
 use Rattle.slots.proofs.Canonical.{sound-canonical}
 use borrow.Author.Tests.{not-true, not-false}
 use Rattle.nodes.proofs.RoomLaws.{value-long, path-unfit, slots-decide}
 use borrow.Author.Needs.{needs}
 use Rattle.nodes.proofs.changing.has_room.Statement.{statement}
 use Rattle.nodes.proofs.changing.has_room.Tie as tie
-use Rattle.nodes.proofs.changing.has_room.Reads as reads
-use Rattle.nodes.proofs.changing.has_room.Lts as lts
-use Rattle.making.proofs.free.free_count.Reads as free-count-reads
-use Rattle.nodes.proofs.changing.names_left.Reads as names-left-reads
-use Rattle.paths.proofs.names.fits.Reads as fits-reads
 
--- src/changing.rt:79:9
 returns : tie.Need-returns
 returns c = λ d. value-long d _ _ _ _ (c .if1 .taken)
 
--- src/changing.rt:81:9
 fits-requires : tie.Need-fits-requires
 fits-requires c κs = search needs
 
--- src/changing.rt:82:9
 returns-2 : tie.Need-returns-2
 returns-2 c = λ d. path-unfit d _ _ _ _ (c .before .before .if1 .left) (sym (c .before .fits2 .ensures) ∙ not-true _ (c .if2 .taken))
 
--- src/changing.rt:84:5
 names-left-requires : tie.Need-names-left-requires
 names-left-requires c κs = search needs
 
--- src/changing.rt:84:29
 free-count-requires : tie.Need-free-count-requires
 free-count-requires c κs = sound-canonical _ (c .before .before .before .before .before .before .before .pre .0 .sound) .whole
 
--- src/changing.rt:74:1
 returns-3 : tie.Need-returns-3
 returns-3 c = λ d. slots-decide d _ _ _ _ (c .before .before .before .before .if1 .left) (sym (c .before .before .before .fits2 .ensures) ∙ not-false _ (c .before .before .if2 .left)) _ _ (c .before .names-left .ensures) (c .free-count .ensures)
 

@@ -1,74 +1,53 @@
-use mathlib.Core.Path.{_≡_, refl, sym, ap, _∙_}
+use mathlib.Core.Path.{sym, _∙_}
 use Rattle.slots.proofs.Canonical.{sound-canonical}
-use Rattle.nodes.proofs.Outcomes.{asked, refused-so, okay-so}
+use Rattle.nodes.proofs.Outcomes.{refused-so, okay-so}
 use Rattle.nodes.proofs.ChangingLaws.{mkdir-absent, mkdir-there}
 use borrow.Author.Needs.{needs}
 use Rattle.nodes.proofs.changing.mkdir.Statement.{statement}
 use Rattle.nodes.proofs.changing.mkdir.Tie as tie
-use Rattle.nodes.proofs.changing.mkdir.Reads as reads
-use Rattle.nodes.proofs.changing.mkdir.Lts as lts
-use Rattle.lookup.proofs.reach.reach.Reads as reach-reads
-use Rattle.lookup.proofs.rights.may_write.Reads as may-write-reads
-use Rattle.nodes.proofs.changing.create.Reads as create-reads
-use Rattle.nodes.proofs.changing.success.Reads as success-reads
-use Rattle.nodes.proofs.looking.refusal.Reads as refusal-reads
 
--- src/changing.rt:126:9
 reach-requires : tie.Need-reach-requires
 reach-requires c κs = search needs
 
--- src/changing.rt:130:50
 slice-aggregate-create : tie.Need-slice-aggregate-create
 slice-aggregate-create c = search needs
 
--- src/changing.rt:130:9
 create-requires : tie.Need-create-requires
 create-requires c κs = search needs
 
--- src/changing.rt:130:9
 same-length : tie.Need-same-length
 same-length c = search needs
 
--- src/changing.rt:130:9
 same-length-2 : tie.Need-same-length-2
 same-length-2 c = search needs
 
--- src/changing.rt:130:9
 returns : tie.Need-returns
 returns c = rw (mkdir-absent _ _ _ _ _ (c .before .before .before .before .before .before .before .before .before .reach .ensures) (c .before .before .before .before .before .before .before .before .if1 .taken)) (c .before .before .before .before .create .ensures)
 
--- src/changing.rt:132:8
 may-write-requires : tie.Need-may-write-requires
 may-write-requires c κs = search needs
 
--- src/changing.rt:133:9
 success-requires : tie.Need-success-requires
 success-requires c κs = search needs
 
--- src/changing.rt:133:9
 same-length-3 : tie.Need-same-length-3
 same-length-3 c = search needs
 
--- src/changing.rt:133:9
 same-length-4 : tie.Need-same-length-4
 same-length-4 c = search needs
 
--- src/changing.rt:133:9
 returns-2 : tie.Need-returns-2
 returns-2 c =
     let a = c .before .before .before .before .before .before .before .before .before .before .before .before .before in
     okay-so (a .args .domain) _ (a .args .t .now) (sound-canonical _ (a .pre .standing .sound)) _ (a .args .reply .now) _ _ (c .before .before .success .ensures .0)
     (mkdir-there _ _ _ _ _ (c .before .before .before .before .before .before .before .before .reach .ensures) (c .before .before .before .before .before .before .before .if1 .left) _ (sym (c .before .before .before .before .before .may-write .ensures) ∙ c .before .before .before .before .if2 .taken)) (c .before .before .success .ensures .1)
 
--- src/changing.rt:135:5
 refusal-requires : tie.Need-refusal-requires
 refusal-requires c κs = search needs
 
--- src/changing.rt:122:1
 same-length-5 : tie.Need-same-length-5
 same-length-5 c = search needs
 
--- src/changing.rt:122:1
 returns-3 : tie.Need-returns-3
 returns-3 c =
     let a = c .before .before .before .before .before .before .before .before .before .before in

@@ -1,4 +1,4 @@
-use mathlib.Core.Path.{_≡_, refl, sym, ap, _∙_}
+use mathlib.Core.Path.{_≡_}
 use native.Mathlib.Omega.{arith}
 use mathlib.Core.Logic.{⊎-elim}
 use Prim.Native.Nat.{_+_, _-_, _≤_, _<_}
@@ -7,8 +7,6 @@ use Rattle.rules.specs.Path.{split}
 use Rattle.nodes.proofs.RoomLaws.{name-more, name-same, name-last, left-length}
 use Rattle.nodes.proofs.changing.names_left.Statement.{statement}
 use Rattle.nodes.proofs.changing.names_left.Tie as tie
-use Rattle.nodes.proofs.changing.names_left.Reads as reads
-use Rattle.nodes.proofs.changing.names_left.Lts as lts
 
 abbrev Inv-loop : tie.InvT-loop
 Inv-loop path at n₀ i₀ n i = (i ≤ length path) × (n ≤ i + 1) × (n + length (split (drop i path)) ≡ length (split (drop at path)) + 1)
@@ -16,27 +14,21 @@ Inv-loop path at n₀ i₀ n i = (i ≤ length path) × (n ≤ i + 1) × (n + le
 abbrev μ-loop : tie.MeasureT-loop
 μ-loop path at n₀ i₀ n i = length path - i
 
--- src/changing.rt:64:5
 loop-holds : tie.Need-loop-holds Inv-loop μ-loop
 loop-holds c = omega (arith, c .pre)
 
--- src/changing.rt:65:12
 shared-slice-read-if1 : tie.Need-shared-slice-read-if1 Inv-loop μ-loop
 shared-slice-read-if1 c = omega arith
 
--- src/changing.rt:66:13
 add-n : tie.Need-add-n Inv-loop μ-loop
 add-n c = omega arith
 
--- src/changing.rt:68:9
 add-i : tie.Need-add-i Inv-loop μ-loop
 add-i c = omega arith
 
--- src/changing.rt:64:5
 loop-less : tie.Need-loop-less Inv-loop μ-loop
 loop-less c = omega arith
 
--- src/changing.rt:64:5
 loop-again : tie.Need-loop-again Inv-loop μ-loop
 loop-again c =
     let p = c .before .before .before .before .args .path .now in
@@ -47,7 +39,6 @@ loop-again c =
     (λ w. omega (arith, b .loop .inv, w .1, name-same p (b .loop .i) h (w .0 .left)))
     (c .if1 .came)
 
--- src/changing.rt:58:1
 returns : tie.Need-returns Inv-loop μ-loop
 returns c =
     let a = c .before .before in

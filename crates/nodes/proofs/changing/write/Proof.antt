@@ -1,93 +1,66 @@
-use mathlib.Core.Path.{_≡_, refl, sym, ap, _∙_}
+use mathlib.Core.Path.{refl, sym, _∙_}
 use Rattle.slots.proofs.Canonical.{sound-canonical}
 use borrow.Author.Tests.{not-true, not-false}
-use Rattle.nodes.proofs.Outcomes.{asked, refused-so, changed-so}
-use Rattle.nodes.specs.Answers.{Answers}
-use Rattle.rules.specs.Answer as A
+use Rattle.nodes.proofs.Outcomes.{refused-so, changed-so}
 use Rattle.nodes.proofs.ChangingLaws.{write-absent, write-denied, write-long, write-done}
 use borrow.Author.Needs.{needs}
 use Rattle.nodes.proofs.changing.write.Statement.{statement}
 use Rattle.nodes.proofs.changing.write.Tie as tie
-use Rattle.nodes.proofs.changing.write.Reads as reads
-use Rattle.nodes.proofs.changing.write.Lts as lts
-use Rattle.lookup.proofs.reach.reach.Reads as reach-reads
-use Rattle.lookup.proofs.rights.may_write.Reads as may-write-reads
-use Rattle.nodes.proofs.changing.create.Reads as create-reads
-use Rattle.nodes.proofs.changing.success.Reads as success-reads
-use Rattle.nodes.proofs.looking.refusal.Reads as refusal-reads
-use Rattle.slots.proofs.writing.put_value.Reads as put-value-reads
 
--- src/changing.rt:106:9
 reach-requires : tie.Need-reach-requires
 reach-requires c κs = search needs
 
--- src/changing.rt:110:9
 create-requires : tie.Need-create-requires
 create-requires c κs = search needs
 
--- src/changing.rt:110:9
 same-length : tie.Need-same-length
 same-length c = search needs
 
--- src/changing.rt:110:9
 same-length-2 : tie.Need-same-length-2
 same-length-2 c = search needs
 
--- src/changing.rt:110:9
 returns : tie.Need-returns
 returns c = rw (write-absent _ _ _ _ _ (c .before .before .before .before .before .before .before .before .reach .ensures) (c .before .before .before .before .before .before .before .if1 .taken) _) (c .before .before .before .before .create .ensures)
 
--- src/changing.rt:112:9
 may-write-requires : tie.Need-may-write-requires
 may-write-requires c κs = search needs
 
--- src/changing.rt:113:9
 refusal-requires : tie.Need-refusal-requires
 refusal-requires c κs = search needs
 
--- src/changing.rt:113:9
 same-length-3 : tie.Need-same-length-3
 same-length-3 c = search needs
 
--- src/changing.rt:113:9
 returns-2 : tie.Need-returns-2
 returns-2 c =
     let a = c .before .before .before .before .before .before .before .before .before .before .before in
     refused-so (a .args .domain) _ (a .args .t .now) (sound-canonical _ (a .pre .standing .sound)) _ (a .args .reply .now) _ _ (c .refusal .ensures)
     (write-denied _ _ _ _ _ (c .before .before .before .before .before .reach .ensures) (c .before .before .before .before .if1 .left) _ (sym (c .before .before .may-write .ensures) ∙ not-true _ (c .before .if2 .taken)))
 
--- src/changing.rt:116:9
 refusal-requires-2 : tie.Need-refusal-requires-2
 refusal-requires-2 c κs = search needs
 
--- src/changing.rt:116:9
 same-length-4 : tie.Need-same-length-4
 same-length-4 c = search needs
 
--- src/changing.rt:116:9
 returns-3 : tie.Need-returns-3
 returns-3 c =
     let a = c .before .before .before .before .before .before .before .before .before .before .before .before in
     refused-so (a .args .domain) _ (a .args .t .now) (sound-canonical _ (a .pre .standing .sound)) _ (a .args .reply .now) _ _ (c .refusal2 .ensures)
     (write-long _ _ _ _ _ (c .before .before .before .before .before .before .reach .ensures) (c .before .before .before .before .before .if1 .left) _ (sym (c .before .before .before .may-write .ensures) ∙ not-false _ (c .before .before .if2 .left)) (c .before .if3 .taken))
 
--- src/changing.rt:118:5
 put-value-requires : tie.Need-put-value-requires
 put-value-requires c κs = (c .before .before .before .before .before .before .reach .ensures .below, sound-canonical _ (c .before .before .before .before .before .before .before .before .before .before .before .before .pre .standing .sound), c .before .before .before .before .before .before .reach .ensures .used, c .before .if3 .left)
 
--- src/changing.rt:119:5
 success-requires : tie.Need-success-requires
 success-requires c κs = search needs
 
--- src/changing.rt:102:1
 same-length-5 : tie.Need-same-length-5
 same-length-5 c = search needs
 
--- src/changing.rt:102:1
 same-length-6 : tie.Need-same-length-6
 same-length-6 c = search needs
 
--- src/changing.rt:102:1
 returns-4 : tie.Need-returns-4
 returns-4 c =
     let a = c .before .before .before .before .before .before .before .before .before .before .before .before .before .before .before .before .before .before .before in

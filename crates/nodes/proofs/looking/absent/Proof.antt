@@ -1,21 +1,15 @@
-use mathlib.Core.Path.{_≡_, refl, sym, ap, _∙_}
+use mathlib.Core.Path.{sym, _∙_}
 use Rattle.nodes.proofs.Outcomes.{known-absent, hidden-absent}
 use borrow.Author.Needs.{needs}
 use Rattle.nodes.proofs.looking.absent.Statement.{statement}
 use Rattle.nodes.proofs.looking.absent.Tie as tie
-use Rattle.nodes.proofs.looking.absent.Reads as reads
-use Rattle.nodes.proofs.looking.absent.Lts as lts
-use Rattle.lookup.proofs.rights.may_read.Reads as may-read-reads
 
--- src/looking.rt:58:8
 may-read-requires : tie.Need-may-read-requires
 may-read-requires c κs = search needs
 
--- src/looking.rt:59:9
 returns : tie.Need-returns
 returns c = λ ns. known-absent _ ns _ _ (sym (c .before .may-read .ensures) ∙ c .if1 .taken)
 
--- src/looking.rt:54:1
 returns-2 : tie.Need-returns-2
 returns-2 c = λ ns. hidden-absent _ ns _ _ (sym (c .before .may-read .ensures) ∙ c .if1 .left)
 

@@ -1,4 +1,4 @@
-use mathlib.Core.Path.{_≡_, refl, sym, ap, _∙_}
+use mathlib.Core.Path.{refl}
 use native.Mathlib.Omega.{arith}
 use Rattle.rules.specs.Layout.{tableOf}
 use Rattle.rules.specs.Node.{nodeAt}
@@ -8,52 +8,36 @@ use Rattle.nodes.proofs.LookingLaws.{get-perms-gives, asked-seen, not-s
 use borrow.Author.Needs.{needs}
 use Rattle.nodes.proofs.looking.get_perms.Statement.{statement}
 use Rattle.nodes.proofs.looking.get_perms.Tie as tie
-use Rattle.nodes.proofs.looking.get_perms.Reads as reads
-use Rattle.nodes.proofs.looking.get_perms.Lts as lts
-use Rattle.lookup.proofs.listing.put_entries.Reads as put-entries-reads
-use Rattle.nodes.proofs.looking.given.Reads as given-reads
-use Rattle.nodes.proofs.looking.look.Reads as look-reads
-use Rattle.nodes.proofs.looking.refusal.Reads as refusal-reads
 
--- src/looking.rt:98:11
 look-requires : tie.Need-look-requires
 look-requires c κs = search needs
 
--- src/looking.rt:99:19
 enum-known-e : tie.Need-enum-known-e
 enum-known-e c = search needs
 
--- src/looking.rt:99:25
 refusal-requires : tie.Need-refusal-requires
 refusal-requires c κs = search needs
 
--- src/looking.rt:100:18
 enum-known-slot : tie.Need-enum-known-slot
 enum-known-slot c = search needs
 
--- src/looking.rt:101:17
 put-entries-requires : tie.Need-put-entries-requires
 put-entries-requires c κs = (asked-seen _ (c .before .before .before .before .before .before .before .before .args .t .now) _ _ (c .before .before .before .before .look .ensures) _ (c .before .before .slot .given .1), omega (arith, c .before .before .before .before .before .before .before .before .pre .long))
 
--- src/looking.rt:102:19
 sub-given : tie.Need-sub-given
 sub-given c = search needs
 
--- src/looking.rt:102:13
 given-requires : tie.Need-given-requires
 given-requires c κs = search needs
 
--- src/looking.rt:94:1
 returns : tie.Need-returns
 returns c =
     let a = c .before .before .before .before .before .before .before .before in
     not-seen (a .args .domain) (a .args .t .now) (a .args .path .now) (a .pre .standing) _ _ (get-perms-gives (a .args .domain) (a .args .t .now) (a .args .path .now)) _ (c .before .before .before .before .look .ensures) _ _ (c .before .before .e .given .1) _ (c .refusal .ensures)
 
--- src/looking.rt:94:1
 same-length : tie.Need-same-length
 same-length c = search needs
 
--- src/looking.rt:94:1
 returns-2 : tie.Need-returns-2
 unfolding permissions
 returns-2 c =

@@ -1,68 +1,49 @@
-use mathlib.Core.Path.{_≡_, refl, sym, ap, _∙_}
+use mathlib.Core.Path.{refl, ap, _∙_}
 use native.Mathlib.Omega.{arith}
 use Rattle.slots.proofs.Canonical.{sound-canonical}
 use Rattle.rules.specs.Layout.{tableOf}
 use Rattle.rules.specs.Node.{nodeAt}
 use lib.ListN.{length}
-use Prim.Native.Nat.{ℕ}
 use Rattle.rules.specs.Octets.{Octets, paste}
-use Rattle.rules.specs.Answer.{done}
 use Rattle.rules.proofs.Fitting.{nodeAt-fits, decoded-fits}
 use Rattle.slots.proofs.Canonical.{value-short}
 use Rattle.nodes.proofs.LookingLaws.{read-gives, asked-seen, not-seen, seen}
 use borrow.Author.Needs.{needs}
 use Rattle.nodes.proofs.looking.read.Statement.{statement}
 use Rattle.nodes.proofs.looking.read.Tie as tie
-use Rattle.nodes.proofs.looking.read.Reads as reads
-use Rattle.nodes.proofs.looking.read.Lts as lts
-use Rattle.nodes.proofs.looking.given.Reads as given-reads
-use Rattle.nodes.proofs.looking.look.Reads as look-reads
-use Rattle.nodes.proofs.looking.refusal.Reads as refusal-reads
-use Rattle.octets.proofs.parts.copy.Reads as copy-reads
-use Rattle.slots.proofs.fields.value.Reads as value-reads
 
--- src/looking.rt:84:11
 look-requires : tie.Need-look-requires
 look-requires c κs = search needs
 
--- src/looking.rt:85:19
 enum-known-e : tie.Need-enum-known-e
 enum-known-e c = search needs
 
--- src/looking.rt:85:25
 refusal-requires : tie.Need-refusal-requires
 refusal-requires c κs = search needs
 
--- src/looking.rt:86:18
 enum-known-slot : tie.Need-enum-known-slot
 enum-known-slot c = search needs
 
--- src/looking.rt:87:17
 value-requires : tie.Need-value-requires
 value-requires c κs =
     let a = asked-seen _ (c .before .before .before .before .before .before .before .args .t .now) _ _ (c .before .before .before .look .ensures) _ (c .before .slot .given .1) in
     (a .below, sound-canonical _ (a .sound) .whole, a .used, value-short (c .before .before .before .before .before .before .before .args .t .now) (a .sound) _ (a .below) (a .used))
 
--- src/looking.rt:88:13
 copy-requires : tie.Need-copy-requires
 copy-requires c κs =
     omega (arith, ap length (c .before .value .ensures), nodeAt-fits (tableOf (c .before .before .before .before .before .before .before .before .before .args .t .now)) (c .before .before .before .slot .given .0 .0) (decoded-fits (c .before .before .before .before .before .before .before .before .before .args .t .now) .all) .value, c .before .before .before .before .before .before .before .before .before .pre .long)
 
--- src/looking.rt:89:13
 given-requires : tie.Need-given-requires
 given-requires c κs = search needs
 
--- src/looking.rt:80:1
 returns : tie.Need-returns
 returns c =
     let a = c .before .before .before .before .before .before .before .before in
     not-seen (a .args .domain) (a .args .t .now) (a .args .path .now) (a .pre .standing) _ _ (read-gives (a .args .domain) (a .args .t .now) (a .args .path .now)) _ (c .before .before .before .before .look .ensures) _ _ (c .before .before .e .given .1) _ (c .refusal .ensures)
 
--- src/looking.rt:80:1
 same-length : tie.Need-same-length
 same-length c = search needs
 
--- src/looking.rt:80:1
 returns-2 : tie.Need-returns-2
 returns-2 c =
     let a = c .before .before .before .before .before .before .before .before .before .before .before .before .before in

@@ -6,153 +6,109 @@ use Rattle.nodes.proofs.ChangingLaws.{answered-as, answered-one}
 use borrow.Author.Needs.{needs}
 use Rattle.nodes.proofs.requests.answer.Statement.{statement}
 use Rattle.nodes.proofs.requests.answer.Tie as tie
-use Rattle.nodes.proofs.requests.answer.Reads as reads
-use Rattle.nodes.proofs.requests.answer.Lts as lts
-use Rattle.nodes.proofs.changing.mkdir.Reads as mkdir-reads
-use Rattle.nodes.proofs.changing.rm.Reads as rm-reads
-use Rattle.nodes.proofs.changing.set_perms.Reads as set-perms-reads
-use Rattle.nodes.proofs.changing.write.Reads as write-reads
-use Rattle.nodes.proofs.looking.directory.Reads as directory-reads
-use Rattle.nodes.proofs.looking.get_perms.Reads as get-perms-reads
-use Rattle.nodes.proofs.looking.read.Reads as read-reads
 
--- src/requests.rt:19:37
 enum-told : tie.Need-enum-told
 enum-told c = search needs
 
--- src/requests.rt:19:27
 directory-requires : tie.Need-directory-requires
 directory-requires c κs = search needs
 
--- src/requests.rt:20:27
 enum-told-2 : tie.Need-enum-told-2
 enum-told-2 c = search needs
 
--- src/requests.rt:20:22
 read-requires : tie.Need-read-requires
 read-requires c κs = search needs
 
--- src/requests.rt:21:36
 enum-told-3 : tie.Need-enum-told-3
 enum-told-3 c = search needs
 
--- src/requests.rt:21:26
 get-perms-requires : tie.Need-get-perms-requires
 get-perms-requires c κs = search needs
 
--- src/requests.rt:22:29
 enum-told-4 : tie.Need-enum-told-4
 enum-told-4 c = search needs
 
--- src/requests.rt:22:23
 write-requires : tie.Need-write-requires
 write-requires c κs = search needs
 
--- src/requests.rt:23:29
 enum-told-5 : tie.Need-enum-told-5
 enum-told-5 c = search needs
 
--- src/requests.rt:23:23
 mkdir-requires : tie.Need-mkdir-requires
 mkdir-requires c κs = search needs
 
--- src/requests.rt:24:23
 enum-told-6 : tie.Need-enum-told-6
 enum-told-6 c = search needs
 
--- src/requests.rt:24:20
 rm-requires : tie.Need-rm-requires
 rm-requires c κs = search needs
 
--- src/requests.rt:25:36
 enum-told-7 : tie.Need-enum-told-7
 enum-told-7 c = search needs
 
--- src/requests.rt:25:26
 set-perms-requires : tie.Need-set-perms-requires
 set-perms-requires c κs = (c .before .before .before .before .before .before .before .before .before .before .pre .0, subst (λ (k : Ask). Askable k (c .before .before .before .before .before .before .before .before .before .before .args .count) (c .before .before .before .before .before .before .before .before .before .before .args .access .now) (c .before .before .before .before .before .before .before .before .before .before .args .domains .now)) (c .before .before .enum-told7 .given .1) (c .before .before .before .before .before .before .before .before .before .before .pre .1))
 
--- src/requests.rt:14:1
 same-length : tie.Need-same-length
 same-length c = search needs
 
--- src/requests.rt:14:1
 same-length-2 : tie.Need-same-length-2
 same-length-2 c = search needs
 
--- src/requests.rt:14:1
 returns : tie.Need-returns
 returns c = answered-as _ _ _ _ _ _ _ _ _ _ _ _ Directory (c .before .before .before .before .before .enum-told .given .1) (λ a q. answered-one _ _ _ _ _ _ _ a _ q (c .before .before .directory .ensures))
 
--- src/requests.rt:14:1
 same-length-3 : tie.Need-same-length-3
 same-length-3 c = search needs
 
--- src/requests.rt:14:1
 same-length-4 : tie.Need-same-length-4
 same-length-4 c = search needs
 
--- src/requests.rt:14:1
 returns-2 : tie.Need-returns-2
 returns-2 c = answered-as _ _ _ _ _ _ _ _ _ _ _ _ Read (c .before .before .before .before .before .enum-told2 .given .1) (λ a q. answered-one _ _ _ _ _ _ _ a _ q (c .before .before .read .ensures))
 
--- src/requests.rt:14:1
 same-length-5 : tie.Need-same-length-5
 same-length-5 c = search needs
 
--- src/requests.rt:14:1
 same-length-6 : tie.Need-same-length-6
 same-length-6 c = search needs
 
--- src/requests.rt:14:1
 returns-3 : tie.Need-returns-3
 returns-3 c = answered-as _ _ _ _ _ _ _ _ _ _ _ _ GetPerms (c .before .before .before .before .before .enum-told3 .given .1) (λ a q. answered-one _ _ _ _ _ _ _ a _ q (c .before .before .get-perms .ensures))
 
--- src/requests.rt:14:1
 same-length-7 : tie.Need-same-length-7
 same-length-7 c = search needs
 
--- src/requests.rt:14:1
 same-length-8 : tie.Need-same-length-8
 same-length-8 c = search needs
 
--- src/requests.rt:14:1
 returns-4 : tie.Need-returns-4
 returns-4 c = answered-as _ _ _ _ _ _ _ _ _ _ _ _ Write (c .before .before .before .before .before .before .before .enum-told4 .given .1) (λ a q. answered-one _ _ _ _ _ _ _ a _ q (c .before .before .before .before .write .ensures))
 
--- src/requests.rt:14:1
 same-length-9 : tie.Need-same-length-9
 same-length-9 c = search needs
 
--- src/requests.rt:14:1
 same-length-10 : tie.Need-same-length-10
 same-length-10 c = search needs
 
--- src/requests.rt:14:1
 returns-5 : tie.Need-returns-5
 returns-5 c = answered-as _ _ _ _ _ _ _ _ _ _ _ _ Mkdir (c .before .before .before .before .before .before .before .enum-told5 .given .1) (λ a q. answered-one _ _ _ _ _ _ _ a _ q (c .before .before .before .before .mkdir .ensures))
 
--- src/requests.rt:14:1
 same-length-11 : tie.Need-same-length-11
 same-length-11 c = search needs
 
--- src/requests.rt:14:1
 same-length-12 : tie.Need-same-length-12
 same-length-12 c = search needs
 
--- src/requests.rt:14:1
 returns-6 : tie.Need-returns-6
 returns-6 c = answered-as _ _ _ _ _ _ _ _ _ _ _ _ Rm (c .before .before .before .before .before .before .before .enum-told6 .given .1) (λ a q. answered-one _ _ _ _ _ _ _ a _ q (c .before .before .before .before .rm .ensures))
 
--- src/requests.rt:14:1
 same-length-13 : tie.Need-same-length-13
 same-length-13 c = search needs
 
--- src/requests.rt:14:1
 same-length-14 : tie.Need-same-length-14
 same-length-14 c = search needs
 
--- src/requests.rt:14:1
 returns-7 : tie.Need-returns-7
 returns-7 c = answered-as _ _ _ _ _ _ _ _ _ _ _ _ SetPerms (c .before .before .before .before .before .before .before .enum-told7 .given .1) (λ a q. answered-one _ _ _ _ _ _ _ a _ (q .3) (c .before .before .before .before .set-perms .ensures (q .0) (q .1) (q .2)))
 

@@ -1,34 +1,25 @@
-use mathlib.Core.Path.{_≡_, refl, sym, ap, _∙_}
+use mathlib.Core.Path.{sym, ap, _∙_}
 use Rattle.slots.proofs.Canonical.{sound-canonical}
 use borrow.Author.Tests.{not-true, not-false}
 use Rattle.rules.specs.Node.{Entry}
 use Rattle.lookup.proofs.RightsLaws.{owner-is}
 use Rattle.nodes.proofs.ChangingLaws.{set-denied, set-control, set-owner}
 use borrow.Author.Needs.{needs}
-use Rattle.nodes.proofs.changing.may_set.Statement.{statement}
-use Rattle.nodes.proofs.changing.may_set.Tie as tie
-use Rattle.nodes.proofs.changing.may_set.Reads as reads
-use Rattle.nodes.proofs.changing.may_set.Lts as lts
-use Rattle.lookup.proofs.rights.may_own.Reads as may-own-reads
-use Rattle.slots.proofs.fields.entry_at.Reads as entry-at-reads
+use Rattle.nodes.proofs.permitting.may_set.Statement.{statement}
+use Rattle.nodes.proofs.permitting.may_set.Tie as tie
 
--- src/changing.rt:174:9
 may-own-requires : tie.Need-may-own-requires
 may-own-requires c κs = search needs
 
--- src/changing.rt:175:9
 returns : tie.Need-returns
 returns c = λ ns o e. set-denied _ ns _ _ o (sym (c .before .may-own .ensures) ∙ not-true _ (c .if1 .taken))
 
--- src/changing.rt:178:9
 returns-2 : tie.Need-returns-2
 returns-2 c = λ ns o e. set-control _ ns _ _ o (sym (c .before .before .may-own .ensures) ∙ not-false _ (c .before .if1 .left)) (c .if2 .taken)
 
--- src/changing.rt:180:14
 entry-at-requires : tie.Need-entry-at-requires
 entry-at-requires c κs = (c .before .before .before .before .pre .below, sound-canonical _ (c .before .before .before .before .pre .sound) .whole, search needs)
 
--- src/changing.rt:170:1
 returns-3 : tie.Need-returns-3
 returns-3 c =
     λ ns o e.

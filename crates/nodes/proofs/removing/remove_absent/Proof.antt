@@ -1,61 +1,44 @@
-use mathlib.Core.Path.{_≡_, refl, sym, ap, _∙_}
+use mathlib.Core.Path.{sym, _∙_}
 use Rattle.slots.proofs.Canonical.{sound-canonical}
-use Rattle.nodes.proofs.Outcomes.{asked, refused-so, okay-so}
+use Rattle.nodes.proofs.Outcomes.{refused-so, okay-so}
 use Rattle.nodes.proofs.ChangingLaws.{rm-far, rm-near}
 use borrow.Author.Needs.{needs}
-use Rattle.nodes.proofs.changing.remove_absent.Statement.{statement}
-use Rattle.nodes.proofs.changing.remove_absent.Tie as tie
-use Rattle.nodes.proofs.changing.remove_absent.Reads as reads
-use Rattle.nodes.proofs.changing.remove_absent.Lts as lts
-use Rattle.lookup.proofs.rights.may_read.Reads as may-read-reads
-use Rattle.nodes.proofs.changing.names_left.Reads as names-left-reads
-use Rattle.nodes.proofs.changing.success.Reads as success-reads
-use Rattle.nodes.proofs.looking.absent.Reads as absent-reads
-use Rattle.nodes.proofs.looking.refusal.Reads as refusal-reads
+use Rattle.nodes.proofs.removing.remove_absent.Statement.{statement}
+use Rattle.nodes.proofs.removing.remove_absent.Tie as tie
 
--- src/changing.rt:143:12
 names-left-requires : tie.Need-names-left-requires
 names-left-requires c κs = search needs
 
--- src/changing.rt:144:24
 absent-requires : tie.Need-absent-requires
 absent-requires c κs = search needs
 
--- src/changing.rt:144:9
 refusal-requires : tie.Need-refusal-requires
 refusal-requires c κs = search needs
 
--- src/changing.rt:144:9
 returns : tie.Need-returns
 returns c =
     let a = c .before .before .before .before .before .before .before in
     refused-so (a .args .domain) _ (a .args .t .now) (sound-canonical _ (a .pre .0 .standing .sound)) _ (a .args .reply .now) _ _ (c .refusal .ensures)
     (rm-far _ _ _ _ _ (a .pre .1) (a .pre .2) _ (c .before .before .before .names-left .ensures) (c .before .before .if1 .taken) _ (c .before .absent .ensures _))
 
--- src/changing.rt:146:8
 may-read-requires : tie.Need-may-read-requires
 may-read-requires c κs = search needs
 
--- src/changing.rt:147:9
 success-requires : tie.Need-success-requires
 success-requires c κs = search needs
 
--- src/changing.rt:147:9
 same-length : tie.Need-same-length
 same-length c = search needs
 
--- src/changing.rt:147:9
 returns-2 : tie.Need-returns-2
 returns-2 c =
     let a = c .before .before .before .before .before .before .before .before .before .before .before in
     okay-so (a .args .domain) _ (a .args .t .now) (sound-canonical _ (a .pre .0 .standing .sound)) _ (a .args .reply .now) _ _ (c .before .before .success .ensures .0)
     (rm-near _ _ _ _ _ (a .pre .1) (a .pre .2) _ (c .before .before .before .before .before .before .before .names-left .ensures) (c .before .before .before .before .before .before .if1 .left) _ (sym (c .before .before .before .before .before .may-read .ensures) ∙ c .before .before .before .before .if2 .taken)) (c .before .before .success .ensures .1)
 
--- src/changing.rt:149:5
 refusal-requires-2 : tie.Need-refusal-requires-2
 refusal-requires-2 c κs = search needs
 
--- src/changing.rt:139:1
 returns-3 : tie.Need-returns-3
 returns-3 c =
     let a = c .before .before .before .before .before .before .before .before in

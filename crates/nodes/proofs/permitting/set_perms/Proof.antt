@@ -1,38 +1,25 @@
-use mathlib.Core.Path.{_≡_, refl, sym, ap, _∙_}
+use mathlib.Core.Path.{refl, sym, _∙_}
 use native.Mathlib.Omega.{arith}
 use Rattle.slots.proofs.Canonical.{sound-canonical}
 use borrow.Author.Tests.{not-true, not-false}
-use Rattle.nodes.proofs.Outcomes.{asked, refused-so, changed-so}
+use Rattle.nodes.proofs.Outcomes.{refused-so, changed-so}
 use Rattle.nodes.proofs.ChangingLaws.{perms-absent, perms-denied, perms-many, perms-done, owner-first, entries-put}
 use borrow.Author.Needs.{needs}
-use Rattle.nodes.proofs.changing.set_perms.Statement.{statement}
-use Rattle.nodes.proofs.changing.set_perms.Tie as tie
-use Rattle.nodes.proofs.changing.set_perms.Reads as reads
-use Rattle.nodes.proofs.changing.set_perms.Lts as lts
-use Rattle.lookup.proofs.reach.reach.Reads as reach-reads
-use Rattle.nodes.proofs.changing.may_set.Reads as may-set-reads
-use Rattle.nodes.proofs.changing.success.Reads as success-reads
-use Rattle.nodes.proofs.looking.absent.Reads as absent-reads
-use Rattle.nodes.proofs.looking.refusal.Reads as refusal-reads
-use Rattle.slots.proofs.writing.put_entries.Reads as put-entries-reads
+use Rattle.nodes.proofs.permitting.set_perms.Statement.{statement}
+use Rattle.nodes.proofs.permitting.set_perms.Tie as tie
 
--- src/changing.rt:188:9
 reach-requires : tie.Need-reach-requires
 reach-requires c κs = search needs
 
--- src/changing.rt:191:24
 absent-requires : tie.Need-absent-requires
 absent-requires c κs = search needs
 
--- src/changing.rt:191:9
 refusal-requires : tie.Need-refusal-requires
 refusal-requires c κs = search needs
 
--- src/changing.rt:191:9
 same-length : tie.Need-same-length
 same-length c = search needs
 
--- src/changing.rt:191:9
 returns : tie.Need-returns
 returns c =
     let a = c .before .before .before .before .before .before .before .before .before .before .before .before in
@@ -40,23 +27,18 @@ returns c =
     refused-so (a .args .domain) _ (a .args .t .now) (sound-canonical _ (a .pre .0 .standing .sound)) _ (a .args .reply .now) _ _ (c .refusal .ensures)
     (perms-absent _ _ _ _ _ (c .before .before .before .before .before .reach .ensures) (c .before .before .before .if1 .taken) o es _ (c .before .absent .ensures _))
 
--- src/changing.rt:193:34
 shared-slice-read-may-set : tie.Need-shared-slice-read-may-set
 shared-slice-read-may-set c = search needs
 
--- src/changing.rt:193:9
 may-set-requires : tie.Need-may-set-requires
 may-set-requires c κs = search needs
 
--- src/changing.rt:194:9
 refusal-requires-2 : tie.Need-refusal-requires-2
 refusal-requires-2 c κs = search needs
 
--- src/changing.rt:194:9
 same-length-2 : tie.Need-same-length-2
 same-length-2 c = search needs
 
--- src/changing.rt:194:9
 returns-2 : tie.Need-returns-2
 returns-2 c =
     let a = c .before .before .before .before .before .before .before .before .before .before .before .before .before .before in
@@ -64,15 +46,12 @@ returns-2 c =
     refused-so (a .args .domain) _ (a .args .t .now) (sound-canonical _ (a .pre .0 .standing .sound)) _ (a .args .reply .now) _ _ (c .refusal2 .ensures)
     (perms-denied _ _ _ _ _ (c .before .before .before .before .before .before .before .reach .ensures) (c .before .before .before .before .before .if1 .left) o es (sym (c .before .before .may-set .ensures _ o (owner-first _ _ _ o es g)) ∙ not-true _ (c .before .if2 .taken)))
 
--- src/changing.rt:197:9
 refusal-requires-3 : tie.Need-refusal-requires-3
 refusal-requires-3 c κs = search needs
 
--- src/changing.rt:197:9
 same-length-3 : tie.Need-same-length-3
 same-length-3 c = search needs
 
--- src/changing.rt:197:9
 returns-3 : tie.Need-returns-3
 returns-3 c =
     let a = c .before .before .before .before .before .before .before .before .before .before .before .before .before .before .before in
@@ -80,23 +59,18 @@ returns-3 c =
     refused-so (a .args .domain) _ (a .args .t .now) (sound-canonical _ (a .pre .0 .standing .sound)) _ (a .args .reply .now) _ _ (c .refusal3 .ensures)
     (perms-many _ _ _ _ _ (c .before .before .before .before .before .before .before .before .reach .ensures) (c .before .before .before .before .before .before .if1 .left) o es (sym (c .before .before .before .may-set .ensures _ o (owner-first _ _ _ o es g)) ∙ not-false _ (c .before .before .if2 .left)) (omega (arith, g .many, c .before .if3 .taken)))
 
--- src/changing.rt:199:5
 put-entries-requires : tie.Need-put-entries-requires
 put-entries-requires c κs = (c .before .before .before .before .before .before .before .before .reach .ensures .below, sound-canonical _ (c .before .before .before .before .before .before .before .before .before .before .before .before .before .before .before .pre .0 .standing .sound), c .before .before .before .before .before .before .before .before .reach .ensures .used, c .before .before .before .before .before .before .before .before .before .before .before .before .before .before .before .pre .1 .all (c .before .if3 .left))
 
--- src/changing.rt:200:5
 success-requires : tie.Need-success-requires
 success-requires c κs = search needs
 
--- src/changing.rt:184:1
 same-length-4 : tie.Need-same-length-4
 same-length-4 c = search needs
 
--- src/changing.rt:184:1
 same-length-5 : tie.Need-same-length-5
 same-length-5 c = search needs
 
--- src/changing.rt:184:1
 returns-4 : tie.Need-returns-4
 returns-4 c =
     let a = c .before .before .before .before .before .before .before .before .before .before .before .before .before .before .before .before .before .before .before .before .before .before in

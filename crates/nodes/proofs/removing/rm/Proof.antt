@@ -1,76 +1,54 @@
-use mathlib.Core.Path.{_≡_, refl, sym, ap, _∙_}
+use mathlib.Core.Path.{refl, sym, _∙_}
 use Rattle.slots.proofs.Canonical.{sound-canonical}
 use borrow.Author.Tests.{not-true, not-false}
-use Rattle.nodes.proofs.Outcomes.{asked, refused-so, changed-so}
+use Rattle.nodes.proofs.Outcomes.{refused-so, changed-so}
 use Rattle.nodes.proofs.ChangingLaws.{rm-denied, rm-done}
 use borrow.Author.Needs.{needs}
-use Rattle.nodes.proofs.changing.rm.Statement.{statement}
-use Rattle.nodes.proofs.changing.rm.Tie as tie
-use Rattle.nodes.proofs.changing.rm.Reads as reads
-use Rattle.nodes.proofs.changing.rm.Lts as lts
-use Rattle.lookup.proofs.reach.reach.Reads as reach-reads
-use Rattle.lookup.proofs.rights.may_write.Reads as may-write-reads
-use Rattle.making.proofs.removing.remove.Reads as remove-reads
-use Rattle.nodes.proofs.changing.remove_absent.Reads as remove-absent-reads
-use Rattle.nodes.proofs.changing.success.Reads as success-reads
-use Rattle.nodes.proofs.looking.refusal.Reads as refusal-reads
+use Rattle.nodes.proofs.removing.rm.Statement.{statement}
+use Rattle.nodes.proofs.removing.rm.Tie as tie
 
--- src/changing.rt:156:9
 reach-requires : tie.Need-reach-requires
 reach-requires c κs = search needs
 
--- src/changing.rt:160:9
 remove-absent-requires : tie.Need-remove-absent-requires
 remove-absent-requires c κs = search needs
 
--- src/changing.rt:160:9
 same-length : tie.Need-same-length
 same-length c = search needs
 
--- src/changing.rt:160:9
 same-length-2 : tie.Need-same-length-2
 same-length-2 c = search needs
 
--- src/changing.rt:160:9
 returns : tie.Need-returns
 returns c = search needs
 
--- src/changing.rt:162:9
 may-write-requires : tie.Need-may-write-requires
 may-write-requires c κs = search needs
 
--- src/changing.rt:163:9
 refusal-requires : tie.Need-refusal-requires
 refusal-requires c κs = search needs
 
--- src/changing.rt:163:9
 same-length-3 : tie.Need-same-length-3
 same-length-3 c = search needs
 
--- src/changing.rt:163:9
 returns-2 : tie.Need-returns-2
 returns-2 c =
     let a = c .before .before .before .before .before .before .before .before .before .before in
     refused-so (a .args .domain) _ (a .args .t .now) (sound-canonical _ (a .pre .standing .sound)) _ (a .args .reply .now) _ _ (c .refusal .ensures)
     (rm-denied _ _ _ _ _ (c .before .before .before .before .before .reach .ensures) (c .before .before .before .before .if1 .left) (sym (c .before .before .may-write .ensures) ∙ not-true _ (c .before .if2 .taken)))
 
--- src/changing.rt:165:5
 remove-requires : tie.Need-remove-requires
 remove-requires c κs = sound-canonical _ (c .before .before .before .before .before .before .before .before .before .before .pre .standing .sound)
 
--- src/changing.rt:166:5
 success-requires : tie.Need-success-requires
 success-requires c κs = search needs
 
--- src/changing.rt:152:1
 same-length-4 : tie.Need-same-length-4
 same-length-4 c = search needs
 
--- src/changing.rt:152:1
 same-length-5 : tie.Need-same-length-5
 same-length-5 c = search needs
 
--- src/changing.rt:152:1
 returns-3 : tie.Need-returns-3
 returns-3 c =
     let a = c .before .before .before .before .before .before .before .before .before .before .before .before .before .before .before .before .before in
