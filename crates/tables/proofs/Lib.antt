@@ -9,4 +9,5 @@ pub mod WatchGood
 pub mod Parts
 pub mod TransactionLaws
 pub mod ChangeLaws
+pub mod ChangeAdded
 pub mod TransactionChanges

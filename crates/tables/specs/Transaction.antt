@@ -47,9 +47,13 @@ unfoldable pub staleOf : Option Transaction → Option Transaction
 staleOf none = none
 staleOf (some x) = some (record { holder = x .holder; stale = true; changes = x .changes })
 
--- a transaction with one more change, on the path of a text
+-- a change on the path of a text
+unfoldable pub changeGiven : Bool → Octets → Change
+changeGiven removed text = record { removal = removed; names = namesIn text }
+
+-- a transaction with one more
 unfoldable pub changedBy : Transaction → Bool → Octets → Transaction
-changedBy x removed text = record { holder = x .holder; stale = x .stale; changes = x .changes ++ (record { removal = removed; names = namesIn text } ∷ []) }
+changedBy x removed text = record { holder = x .holder; stale = x .stale; changes = x .changes ++ (changeGiven removed text ∷ []) }
 
 -- a place with room for one more change on a full path
 pub record Room (s : Octets) (k : ℕ) (text : Octets) : Type 0 where
