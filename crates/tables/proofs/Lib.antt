@@ -6,3 +6,8 @@ pub mod WatchLaws
 pub mod WatchChanges
 pub mod WatchKept
 pub mod WatchGood
+pub mod Parts
+pub mod TransactionLaws
+pub mod ChangeLaws
+pub mod ChangeAdded
+pub mod TransactionChanges

@@ -123,7 +123,7 @@ module _ {A : Type 0} where
     pub swept-next : (i : ℕ) (xs : List (Option A)) → set (swept f i xs) i (f (getD (swept f i xs) i none)) ≡ swept f (i + 1) xs
     swept-next i xs = rw (swept-at i xs, add-one) (swept-set i xs)
 
-    swept-all : (i : ℕ) (xs : List (Option A)) → length xs ≤ i → swept f i xs ≡ map f xs
+    pub swept-all : (i : ℕ) (xs : List (Option A)) → length xs ≤ i → swept f i xs ≡ map f xs
     swept-all zero [] h = refl
     swept-all zero (x ∷ xs) h = absurd (not-suc-le-zero h)
     swept-all (suc i) [] h = refl

@@ -4,3 +4,4 @@ pub mod Two
 pub mod Good
 pub mod Watch
 pub mod WatchKept
+pub mod Transaction

@@ -2,6 +2,8 @@
 pub mod domains;
 mod numbers;
 mod texts;
+pub mod transaction_changes;
+pub mod transactions;
 pub mod watch_changes;
 pub mod watch_soundness;
 pub mod watches;

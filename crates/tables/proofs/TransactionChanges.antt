@@ -1,0 +1,147 @@
+-- Transactions opened, closed, made stale and extended: what a written place leaves.
+use mathlib.Core.Path.{_≡_, refl, sym, ap, ap₂, _∙_}
+use mathlib.Core.Bool.{Bool, true, false, _&&_}
+use mathlib.Core.List.{[], _∷_, _++_, map, flatMap}
+use mathlib.Core.Option.{Option, none, some}
+use Prim.Native.Nat.{ℕ, suc, _+_, _*_, _/_, _%_, _≤_, _<_}
+use native.Mathlib.Nat.{add-zero, zero-add}
+use native.Mathlib.Omega.{arith}
+use lib.Dec.{eqb, lit≤}
+use lib.ListN.{length, getD, set, take, drop, replicate, length-replicate}
+use lib.Seq.{set-getD}
+use borrow.Author.Tests.{eqb-true}
+use Rattle.rules.specs.Size.{mostTransactions, transactionSize, transactionsSize}
+use Rattle.rules.specs.Octets.{Octets, same, paste, padded, bit}
+use Rattle.rules.specs.Path.{Connection}
+use Rattle.rules.specs.Layout.{Transaction, Transactions, changeBytes, transactionBytes, transactionIn, transactionsBytes, transactionsOf}
+use Rattle.rules.specs.World.{staled}
+use Rattle.rules.proofs.Paste.{paste-sets, paste-append, length-paste}
+use Rattle.rules.proofs.Tables.{each-at}
+use Rattle.rules.proofs.EntryLayouts.{TransactionFits, MaybeTransaction, transaction-width, transaction-read, decoded-transactions-fit}
+use Rattle.tables.specs.Entry.{taken, passes, droppedIf, entryOr}
+use Rattle.tables.specs.Kept.{KeptTransactions}
+use Rattle.tables.specs.Transaction.{opened, transactionOf, heldBy, staleOf}
+use Rattle.tables.proofs.Search.{free-none, taken-some, swept, swept-all}
+use Rattle.tables.proofs.Rows.{Writable, wrote, wrote-kept, swept-kept, freed, left, dropped-kept}
+use Rattle.tables.proofs.Parts.{paste-row, set-paste}
+use Rattle.tables.proofs.TransactionLaws.{threeOf, transaction-parts, transaction-wide, length-transactionsOf, row-parts, changes-read, open-fits}
+
+abbrev CanWrite : Option Transaction → Type 0
+CanWrite = Writable transactionBytes transactionIn transactionSize transaction-wide
+
+writable : (m : Option Transaction) → MaybeTransaction m → CanWrite m
+writable m f = record { width = transaction-width m f; back = transaction-read m f }
+
+stale-fits : (x : Transaction) → TransactionFits x → MaybeTransaction (staleOf (some x))
+unfolding staleOf
+stale-fits x f = record { holder = f .holder; few = f .few; changes = f .changes }
+
+stale-writable : (m : Option Transaction) → MaybeTransaction m → CanWrite (staleOf m)
+unfolding staleOf
+stale-writable none f = writable none tt
+stale-writable (some x) f = writable (staleOf (some x)) (stale-fits x f)
+
+-- a stale transaction's bytes, but for the first as before
+stale-bytes : (x : Transaction) → TransactionFits x → (b : ℕ) → b ≡ 192 + length (x .changes)
+    → paste 0 (b ∷ []) (threeOf x ++ padded 2128 (flatMap changeBytes (x .changes))) ≡ transactionBytes (staleOf (some x))
+unfolding paste staleOf
+stale-bytes x f b e =
+    ap (λ (n : ℕ). n ∷ (x .holder / 256 % 256) ∷ (x .holder % 256) ∷ padded 2128 (flatMap changeBytes (x .changes))) e
+    ∙ sym (transaction-parts (record { holder = x .holder; stale = true; changes = x .changes }) (f .holder) (f .few))
+
+opened-fits : (o : ℕ) → o < 65536 → MaybeTransaction (some (opened o))
+unfolding opened
+opened-fits o h = record { holder = h; few = lit≤ tt; changes = tt }
+
+opened-bytes : (o : ℕ) → o < 65536 → transactionBytes (some (opened o)) ≡ (128 ∷ (o / 256 % 256) ∷ (o % 256) ∷ []) ++ replicate 2128 0
+unfolding opened padded flatMap
+opened-bytes o h = transaction-parts (opened o) h (lit≤ tt)
+
+pub staled-swept : (i : ℕ) (xs : Transactions) → length xs ≤ i → swept staleOf i xs ≡ staled xs
+unfolding staleOf staled
+staled-swept i xs h = swept-all staleOf i xs h ∙ go xs
+  where
+    go : (xs : Transactions) → map staleOf xs ≡ staled xs
+    go [] = refl
+    go (none ∷ xs) = ap (_∷_ none) (go xs)
+    go (some x ∷ xs) = ap (_∷_ (some (record { holder = x .holder; stale = true; changes = x .changes }))) (go xs)
+
+pub kept-transactions : (s : Octets) → KeptTransactions s → transactionsBytes (transactionsOf s) ≡ s
+unfolding transactionsOf transactionsBytes
+kept-transactions s c = c .same
+
+module _ (s : Octets) (c : KeptTransactions s) (k : ℕ) (h : k < mostTransactions) where
+  pub closed : paste (k * 2131) (replicate 2131 0) s ≡ transactionsBytes (set (transactionsOf s) k none)
+  unfolding transactionsOf transactionsBytes transactionBytes
+  closed = sym (wrote transactionBytes transactionIn transactionSize transaction-wide mostTransactions s c k none h (transaction-width none tt))
+
+  pub freed-transaction : (test : Transaction → Bool) → passes test (getD (transactionsOf s) k none) ≡ true
+      → paste (k * 2131) (replicate 2131 0) s ≡ transactionsBytes (set (transactionsOf s) k (droppedIf test (getD (transactionsOf s) k none)))
+  unfolding transactionsOf transactionsBytes transactionBytes
+  freed-transaction test = freed transactionBytes transactionIn transactionSize transaction-wide mostTransactions s c k h (writable none tt) test
+
+  pub left-transaction : (test : Transaction → Bool) → passes test (getD (transactionsOf s) k none) ≡ false
+      → s ≡ transactionsBytes (set (transactionsOf s) k (droppedIf test (getD (transactionsOf s) k none)))
+  unfolding transactionsOf transactionsBytes
+  left-transaction test = left transactionBytes transactionIn transactionSize transaction-wide mostTransactions s c k h (writable none tt) test
+
+  pub swept-transaction : (test : Transaction → Bool) (xs : Transactions) → transactionsOf s ≡ swept (droppedIf test) k xs
+      → (t : Octets) → t ≡ transactionsBytes (set (transactionsOf s) k (droppedIf test (getD (transactionsOf s) k none)))
+      → KeptTransactions t × (transactionsOf t ≡ swept (droppedIf test) (k + 1) xs)
+  unfolding transactionsOf transactionsBytes
+  swept-transaction test = dropped-kept transactionBytes transactionIn transactionSize transaction-wide mostTransactions s c k h (writable none tt) test
+
+  -- ── an open place ──
+
+  pub put-open : (o : ℕ) → o < 65536
+      → set (set (set (paste (k * 2131 + 3) (replicate 2128 0) s) (k * 2131) 128) (k * 2131 + 1) (o / 256 % 256)) (k * 2131 + 2) (o % 256)
+      ≡ transactionsBytes (set (transactionsOf s) k (some (opened o)))
+  unfolding transactionsOf transactionsBytes
+  put-open o ho =
+      let at = k * 2131 in
+      let whole = c .whole in
+      let zeros : Octets = replicate 2128 0 in
+      let x = paste (at + 3) zeros s in
+      let head : Octets = 128 ∷ (o / 256 % 256) ∷ (o % 256) ∷ [] in
+      let l : length x ≡ length s = length-paste (at + 3) zeros s (rw length-replicate (omega arith)) in
+      let one : at + 1 ≡ suc at = omega arith in
+      let two : at + 2 ≡ suc (suc at) = omega arith in
+      let sets : set (set (set x at 128) (at + 1) (o / 256 % 256)) (at + 2) (o % 256) ≡ paste at head x = rw (one, two) (paste-sets at head x (rw l (omega arith))) in
+      sets
+      ∙ sym (paste-append at head zeros s (omega arith))
+      ∙ ap (λ (b : Octets). paste at b s) (sym (opened-bytes o ho))
+      ∙ sym (wrote transactionBytes transactionIn transactionSize transaction-wide mostTransactions s c k (some (opened o)) h (transaction-width (some (opened o)) (opened-fits o ho)))
+
+  -- ── stale ──
+
+  pub left-stale : taken (getD (transactionsOf s) k none) ≡ false → s ≡ transactionsBytes (set (transactionsOf s) k (staleOf (getD (transactionsOf s) k none)))
+  unfolding staleOf
+  left-stale f =
+      let e = free-none (getD (transactionsOf s) k none) f in
+      sym (rw (ap staleOf e ∙ sym e, set-getD (transactionsOf s) k none) (kept-transactions s c))
+
+  pub put-stale : taken (getD (transactionsOf s) k none) ≡ true
+      → set s (k * 2131) (192 + getD s (k * 2131) 0 % 16) ≡ transactionsBytes (set (transactionsOf s) k (staleOf (getD (transactionsOf s) k none)))
+  unfolding transactionsOf transactionsBytes
+  put-stale u =
+      let at = k * 2131 in
+      let whole = c .whole in
+      let b = 192 + getD s at 0 % 16 in
+      let x = transactionOf s k in
+      let e : getD (transactionsOf s) k none ≡ some x = taken-some (opened 0) (getD (transactionsOf s) k none) u in
+      let w = transaction-width (staleOf (some x)) (stale-fits x (open-fits s k h u)) in
+      set-paste s at b (omega arith)
+      ∙ ap (λ (p : ℕ). paste p (b ∷ []) s) (sym (add-zero at))
+      ∙ sym (paste-row s at 2131 0 (b ∷ []) (omega arith) (lit≤ tt))
+      ∙ ap (λ (r : Octets). paste at r s) (ap (paste 0 (b ∷ [])) (row-parts s k h c u) ∙ stale-bytes x (open-fits s k h u) b (ap (λ (n : ℕ). 192 + n) (changes-read s k h c u)))
+      ∙ sym (wrote transactionBytes transactionIn transactionSize transaction-wide mostTransactions s c k (staleOf (some x)) h w)
+      ∙ ap (λ (m : Option Transaction). transactionsBytes (set (transactionsOf s) k (staleOf m))) (sym e)
+
+  place-fits : MaybeTransaction (getD (transactionsOf s) k none)
+  place-fits = each-at MaybeTransaction (transactionsOf s) k none (decoded-transactions-fit s) (rw (length-transactionsOf s) h)
+
+  pub swept-stale : (xs : Transactions) → transactionsOf s ≡ swept staleOf k xs
+      → (t : Octets) → t ≡ transactionsBytes (set (transactionsOf s) k (staleOf (getD (transactionsOf s) k none)))
+      → KeptTransactions t × (transactionsOf t ≡ swept staleOf (k + 1) xs)
+  unfolding transactionsOf transactionsBytes
+  swept-stale xs = swept-kept transactionBytes transactionIn transactionSize transaction-wide mostTransactions s c k _ (stale-writable (getD (transactionsOf s) k none) place-fits) staleOf xs refl
