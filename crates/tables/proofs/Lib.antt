@@ -11,3 +11,5 @@ pub mod TransactionLaws
 pub mod ChangeLaws
 pub mod ChangeAdded
 pub mod TransactionChanges
+pub mod EntriesKept
+pub mod EntriesGood

@@ -48,7 +48,7 @@ rest-end s h i l = kept-end watchBytes watchIn watchSize watch-wide mostWatches 
 
 -- ── a place ──
 
-drop-take : (n k : ℕ) (l : Octets) → drop n (take k l) ≡ take (k - n) (drop n l)
+pub drop-take : (n k : ℕ) (l : Octets) → drop n (take k l) ≡ take (k - n) (drop n l)
 drop-take zero k l = rw sub-zero
 drop-take (suc n) zero l = rw zero-sub
 drop-take (suc n) (suc k) [] = sym (take-nil (suc k - suc n))
@@ -126,7 +126,7 @@ special-long x e = given-long x λ q. special-not x (sym e ∙ q)
 
 -- ── numbers in the fields ──
 
-bit-of : (x : ℕ) → x < 2 → bit (eqb x 1) ≡ x
+pub bit-of : (x : ℕ) → x < 2 → bit (eqb x 1) ≡ x
 bit-of zero h = refl
 bit-of (suc zero) h = refl
 bit-of (suc (suc x)) h = absurd (omega arith)
@@ -152,7 +152,7 @@ lengths-forward x y hx hy z =
     let d = twice-forward x (y / 128) hx q in
     (ap (λ (m : ℕ). m / 2 % 256) a ∙ d .0, ap₂ (λ (m r : ℕ). m % 2 * 128 + r) a b ∙ ap (λ (m : ℕ). m * 128 + y % 64) (d .1) ∙ gap-forward y hy z)
 
-pair-forward : (x y : ℕ) → x < 256 → y < 256 → ((x * 256 + y) / 256 % 256 ≡ x) × ((x * 256 + y) % 256 ≡ y)
+pub pair-forward : (x y : ℕ) → x < 256 → y < 256 → ((x * 256 + y) / 256 % 256 ≡ x) × ((x * 256 + y) % 256 ≡ y)
 pair-forward x y hx hy = (omega arith, omega arith)
 
 pub fields-few : (s : Octets) (k : ℕ) → fieldsSame s k ≡ true → tokenLength s k ≤ 32

@@ -5,3 +5,4 @@ pub mod Good
 pub mod Watch
 pub mod WatchKept
 pub mod Transaction
+pub mod Entries

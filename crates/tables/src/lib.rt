@@ -3,6 +3,7 @@ pub mod domains;
 mod numbers;
 mod texts;
 pub mod transaction_changes;
+pub mod transaction_soundness;
 pub mod transactions;
 pub mod watch_changes;
 pub mod watch_soundness;

@@ -12,9 +12,10 @@ ghost use Rattle.rules.specs.Sound.{noNul, strictlyBelow, goodPlace, goodWatche
 ghost use Rattle.tables.specs.Kept.{keptAt, KeptWatches};
 ghost use Rattle.tables.specs.Good.{goodWatchAt};
 ghost use Rattle.tables.specs.Watch.{depthMeant, pathLength, tokenLength};
-ghost use Rattle.tables.specs.WatchKept.{placeSame, depthSame, fieldsSame, restZero};
+ghost use Rattle.tables.specs.WatchKept.{placeSame, depthSame, fieldsSame};
 use crate::Depth;
 use crate::domains::known;
+use crate::texts::rest_zero;
 use crate::watches::PATH_AT;
 use crate::watches::TOKEN_AT;
 use crate::watches::WATCH_SIZE;
@@ -86,14 +87,6 @@ fn fields_same(s: &[u8], k: usize) -> bool
         return false;
     }
     depth_same(s, k)
-}
-
-// Whether what stands behind a text of n bytes in a field of `size` bytes is zero.
-fn rest_zero(s: &[u8], at: usize, n: usize, size: usize) -> bool
-    requires { ⌜ (n ≤ size) × (at + size ≤ length (now s)) ⌝ }
-    ensures { λ r. ⌜ r ≡ restZero (now (s .entry)) at n size ⌝ }
-{
-    all_zero(&s[at + n..at + size])
 }
 
 // Whether the bytes of place k are those of what they mean.

@@ -16,7 +16,7 @@ use Rattle.tables.proofs.watch_soundness.place_kept.Lts as lts
 use Rattle.octets.proofs.compare.all_zero.Reads as all-zero-reads
 use Rattle.tables.proofs.watch_soundness.fields_same.Reads as fields-same-reads
 use Rattle.tables.proofs.watch_soundness.place_same.Reads as place-same-reads
-use Rattle.tables.proofs.watch_soundness.rest_zero.Reads as rest-zero-reads
+use Rattle.tables.proofs.texts.rest_zero.Reads as rest-zero-reads
 use Rattle.tables.proofs.watches.path_length.Reads as path-length-reads
 use Rattle.tables.proofs.watches.token_length.Reads as token-length-reads
 

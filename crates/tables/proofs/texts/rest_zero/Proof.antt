@@ -2,10 +2,10 @@ use Rattle.tables.proofs.WatchKept.{rest-part}
 use mathlib.Core.Path.{_≡_, refl, sym, ap, _∙_}
 use native.Mathlib.Omega.{arith}
 use borrow.Author.Needs.{needs}
-use Rattle.tables.proofs.watch_soundness.rest_zero.Statement.{statement}
-use Rattle.tables.proofs.watch_soundness.rest_zero.Tie as tie
-use Rattle.tables.proofs.watch_soundness.rest_zero.Reads as reads
-use Rattle.tables.proofs.watch_soundness.rest_zero.Lts as lts
+use Rattle.tables.proofs.texts.rest_zero.Statement.{statement}
+use Rattle.tables.proofs.texts.rest_zero.Tie as tie
+use Rattle.tables.proofs.texts.rest_zero.Reads as reads
+use Rattle.tables.proofs.texts.rest_zero.Lts as lts
 use Rattle.octets.proofs.compare.all_zero.Reads as all-zero-reads
 
 -- src/watch_soundness.rt:96:17
