@@ -1,9 +1,9 @@
 -- Domains as bytes: what the bytes of a place say, and what a written place leaves.
 use mathlib.Core.Path.{_≡_, refl, sym, ap, _∙_}
 use mathlib.Core.Bool.{Bool, true, false, cond, not, _&&_, and-assoc}
-use mathlib.Core.List.{List, [], _∷_, map}
+use mathlib.Core.List.{[], _∷_}
 use mathlib.Core.Option.{Option, none, some}
-use Prim.Native.Nat.{ℕ, zero, suc, _+_, _*_, _-_, _/_, _%_, _^_, _≤_, _<_}
+use Prim.Native.Nat.{ℕ, suc, _+_, _*_, _-_, _/_, _%_, _≤_, _<_}
 use native.Mathlib.Nat.{add-zero, add-sub-cancel-left}
 use native.Mathlib.Omega.{arith}
 use lib.ListN.{length, getD, take, drop, set, replicate, length-replicate, drop-of-length-le}
@@ -18,13 +18,13 @@ use Rattle.rules.proofs.Compare.{both-true, same-eq}
 use Rattle.rules.proofs.Paste.{paste-sets}
 use Rattle.rules.proofs.Fields.{length-big, field-part, field-three}
 use Rattle.rules.proofs.EntryLayouts.{domain-read, domain-at}
-use Rattle.tables.specs.Two.{Bytes, Two}
 use Rattle.tables.specs.Entry.{taken, passes, entryOr, droppedIf}
+use Rattle.tables.specs.Two.{Bytes, Two}
+use Rattle.tables.specs.Kept.{keptAt, KeptDomains}
+use Rattle.tables.specs.Good.{goodDomain}
 use Rattle.tables.proofs.Bytes.{agree, taken-cond, entry-cond}
 use Rattle.tables.proofs.Search.{free-none, taken-some, goods-next, swept}
 use Rattle.tables.proofs.Rows.{length-table, same-first, same-zeros, part-listed, keptFrom, kept-start, kept-next, kept-end, Writable, wrote, wrote-kept, freed, left, dropped-kept}
-use Rattle.tables.specs.Kept.{keptAt, KeptDomains}
-use Rattle.tables.specs.Good.{goodDomain}
 
 pub domain-wide : (m : Option Domain) → length (domainBytes m) ≡ domainSize
 unfolding domainBytes

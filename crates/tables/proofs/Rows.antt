@@ -1,10 +1,10 @@
 -- Tables of places of one width: whether the bytes re-encode to themselves, place by place, and what a written place leaves of bytes that do.
-use mathlib.Core.Path.{_≡_, refl, sym, ap, ap₂, _∙_}
+use mathlib.Core.Path.{_≡_, refl, sym, ap, _∙_}
 use mathlib.Core.Bool.{Bool, true, false, _&&_, and-assoc, and-true}
 use mathlib.Core.List.{List, [], _∷_, _++_, map, flatMap}
 use mathlib.Core.Option.{Option, none, some}
 use Prim.Native.Nat.{ℕ, zero, suc, _+_, _*_, _-_, _≤_, _<_, zero-le, suc-le-suc}
-use native.Mathlib.Nat.{suc-mul, zero-mul, sub-zero, add-comm, add-suc, add-sub-cancel-left, mul-le-mul-right, le-of-suc-le-suc}
+use native.Mathlib.Nat.{suc-mul, zero-mul, sub-zero, add-suc, add-sub-cancel-left, mul-le-mul-right}
 use native.Mathlib.Numerals.{add-one}
 use native.Mathlib.Omega.{arith}
 use lib.ListN.{length, getD, take, drop, set, length-map, length-drop, length-set, length-take, take-append-drop, drop-of-length-le, replicate, length-append, length-replicate}
@@ -14,13 +14,13 @@ use borrow.Author.Tests.{eq-eqb, ne-eqb, eqb-true, eqb-false}
 use Rattle.rules.specs.Octets.{Octets, same, allZero, padded, chunks, paste}
 use Rattle.rules.specs.Layout.{textAt}
 use Rattle.rules.proofs.Fields.{take-drop-take}
-use Rattle.tables.specs.Kept.{Kept, keptAt}
-use Rattle.tables.specs.Entry.{passes, droppedIf}
-use Rattle.tables.proofs.Bytes.{agree}
-use Rattle.tables.proofs.Search.{dropped-is, dropped-not, swept, swept-next}
 use Rattle.rules.proofs.Cases.{cond-case}
 use Rattle.rules.proofs.Compare.{same-refl}
 use Rattle.rules.proofs.Tables.{Each, Wide, each-at, each-set, length-chunks, decoded-at, encoded-at, length-encoded, written, decoded}
+use Rattle.tables.specs.Entry.{passes, droppedIf}
+use Rattle.tables.specs.Kept.{Kept, keptAt}
+use Rattle.tables.proofs.Bytes.{agree}
+use Rattle.tables.proofs.Search.{dropped-is, dropped-not, swept, swept-next}
 
 pub eqb-swap : (x y : ℕ) → eqb x y ≡ eqb y x
 eqb-swap x y = agree (λ p. eq-eqb y x (sym (eqb-true x y p))) (λ p. ne-eqb y x (λ q. eqb-false x y p (sym q)))

@@ -1,28 +1,26 @@
 -- Transactions opened, closed, made stale and extended: what a written place leaves.
-use mathlib.Core.Path.{_≡_, refl, sym, ap, ap₂, _∙_}
-use mathlib.Core.Bool.{Bool, true, false, _&&_}
+use mathlib.Core.Path.{_≡_, refl, sym, ap, _∙_}
+use mathlib.Core.Bool.{Bool, true, false}
 use mathlib.Core.List.{[], _∷_, _++_, map, flatMap}
 use mathlib.Core.Option.{Option, none, some}
 use Prim.Native.Nat.{ℕ, suc, _+_, _*_, _/_, _%_, _≤_, _<_}
-use native.Mathlib.Nat.{add-zero, zero-add}
+use native.Mathlib.Nat.{add-zero}
 use native.Mathlib.Omega.{arith}
-use lib.Dec.{eqb, lit≤}
-use lib.ListN.{length, getD, set, take, drop, replicate, length-replicate}
+use lib.Dec.{lit≤}
+use lib.ListN.{length, getD, set, replicate, length-replicate}
 use lib.Seq.{set-getD}
-use borrow.Author.Tests.{eqb-true}
-use Rattle.rules.specs.Size.{mostTransactions, transactionSize, transactionsSize}
-use Rattle.rules.specs.Octets.{Octets, same, paste, padded, bit}
-use Rattle.rules.specs.Path.{Connection}
+use Rattle.rules.specs.Size.{mostTransactions, transactionSize}
+use Rattle.rules.specs.Octets.{Octets, paste, padded}
 use Rattle.rules.specs.Layout.{Transaction, Transactions, changeBytes, transactionBytes, transactionIn, transactionsBytes, transactionsOf}
 use Rattle.rules.specs.World.{staled}
 use Rattle.rules.proofs.Paste.{paste-sets, paste-append, length-paste}
 use Rattle.rules.proofs.Tables.{each-at}
 use Rattle.rules.proofs.EntryLayouts.{TransactionFits, MaybeTransaction, transaction-width, transaction-read, decoded-transactions-fit}
-use Rattle.tables.specs.Entry.{taken, passes, droppedIf, entryOr}
+use Rattle.tables.specs.Entry.{taken, passes, droppedIf}
 use Rattle.tables.specs.Kept.{KeptTransactions}
-use Rattle.tables.specs.Transaction.{opened, transactionOf, heldBy, staleOf}
+use Rattle.tables.specs.Transaction.{opened, transactionOf, staleOf}
 use Rattle.tables.proofs.Search.{free-none, taken-some, swept, swept-all}
-use Rattle.tables.proofs.Rows.{Writable, wrote, wrote-kept, swept-kept, freed, left, dropped-kept}
+use Rattle.tables.proofs.Rows.{Writable, wrote, swept-kept, freed, left, dropped-kept}
 use Rattle.tables.proofs.Parts.{paste-row, set-paste}
 use Rattle.tables.proofs.TransactionLaws.{threeOf, transaction-parts, transaction-wide, length-transactionsOf, row-parts, changes-read, open-fits}
 
