@@ -20,7 +20,7 @@ loop-holds : tie.Need-loop-holds Inv-loop μ-loop
 loop-holds c = (omega arith, c .before .pre, refl)
 
 make-stale-requires : tie.Need-make-stale-requires Inv-loop μ-loop
-make-stale-requires c κs = (c .before .loop-test .taken, c .before .before .loop .inv .1)
+make-stale-requires c κs = (omega arith, c .before .before .loop .inv .1)
 
 add-i : tie.Need-add-i Inv-loop μ-loop
 add-i c = omega arith
