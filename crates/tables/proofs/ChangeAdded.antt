@@ -16,9 +16,10 @@ use Rattle.rules.specs.Layout.{Transaction, changeBytes, transactionBytes, tran
 use Rattle.rules.proofs.PathLaws.{full}
 use Rattle.rules.proofs.Tables.{Each, each-map, length-encoded, paste-past}
 use Rattle.rules.proofs.Paste.{paste-sets, paste-append, length-paste}
-use Rattle.rules.proofs.EntryLayouts.{ChangeFits, TransactionFits, transaction-width}
+use Rattle.rules.proofs.EntryLayouts.{ChangeFits, TransactionFits, transaction-width, transaction-read}
+use Rattle.tables.specs.Kept.{KeptTransactions}
 use Rattle.tables.specs.Transaction.{transactionOf, changeGiven, changedBy, Room}
-use Rattle.tables.proofs.Rows.{length-padded, wrote}
+use Rattle.tables.proofs.Rows.{length-padded, wrote, wrote-kept}
 use Rattle.tables.proofs.Parts.{paste-row, set-paste, paste-twice, row-pasted, padded-more}
 use Rattle.tables.proofs.TransactionLaws.{threeOf, transaction-parts, transaction-wide, row-parts, first-is, open-fits}
 use Rattle.tables.proofs.WatchLaws.{bit-small}
@@ -143,3 +144,11 @@ module _ (s : Octets) (k : ℕ) (p : Octets) (room : Room s k p) (r : Bool) wher
       ∙ paste-twice s at R (paste 0 (b ∷ []) R) (omega arith) (length-paste 0 (b ∷ []) R (rw lR (lit≤ tt)))
       ∙ ap (λ (q : Octets). paste at q s) bytes
       ∙ sym (wrote transactionBytes transactionIn transactionSize transaction-wide mostTransactions s (room .place .kept) k (some (changedBy x r p)) (room .place .below) (transaction-width (some (changedBy x r p)) (changed-fits x fits few r p (room .full) (room .short))))
+
+  -- what the bytes are and mean after a change is added
+  pub changed-kept : (t : Octets) → t ≡ transactionsBytes (set (transactionsOf s) k (some (changedBy x r p)))
+      → KeptTransactions t × (transactionsOf t ≡ set (transactionsOf s) k (some (changedBy x r p)))
+  unfolding transactionsOf transactionsBytes
+  changed-kept =
+      let f = changed-fits x fits (room .few) r p (room .full) (room .short) in
+      wrote-kept transactionBytes transactionIn transactionSize transaction-wide mostTransactions s (room .place .kept) k (some (changedBy x r p)) (record { width = transaction-width (some (changedBy x r p)) f; back = transaction-read (some (changedBy x r p)) f })

@@ -10,6 +10,7 @@ use lib.ListN.{length, getD, set, replicate, length-replicate}
 use borrow.Author.Tests.{eqb-true}
 use Rattle.rules.specs.Size.{longestPath, mostWatches, watchSize, watchesSize}
 use Rattle.rules.specs.Octets.{Octets, same, paste, padded, bit}
+use Rattle.rules.specs.Entries.{without}
 use Rattle.rules.specs.Path.{Connection, absolute, special, namesIn}
 use Rattle.rules.specs.Event.{Watch, Watches, placeText}
 use Rattle.rules.specs.Layout.{Domains, isRelative, placeIn, watchBytes, watchIn, watchesBytes, watchesOf}
@@ -25,7 +26,7 @@ use Rattle.tables.specs.Watch.{depthMeant, Placed, full, named, FitWatch
 use Rattle.tables.specs.declared.Depth.{Depth}
 use Rattle.tables.specs.declared.Depth.the-variants.{To, Any}
 use Rattle.tables.proofs.Search.{swept}
-use Rattle.tables.proofs.Rows.{length-padded, Writable, wrote, wrote-kept, freed, left, dropped-kept}
+use Rattle.tables.proofs.Rows.{length-padded, Writable, wrote, wrote-kept, freed, left, dropped-kept, without-kept}
 use Rattle.tables.proofs.WatchLaws.{place-given, Narrow, watch-parts, narrow-width, watch-wide}
 
 -- ── what a place can hold ──
@@ -144,3 +145,9 @@ sound-kept ds s h =
 pub kept-watches : (s : Octets) → KeptWatches s → watchesBytes (watchesOf s) ≡ s
 unfolding watchesOf watchesBytes
 kept-watches s c = c .same
+
+-- what the bytes are and mean after entries are taken out
+pub without-watches : (s : Octets) → KeptWatches s → (test : Watch → Bool) (t : Octets) → t ≡ watchesBytes (without test (watchesOf s))
+    → KeptWatches t × (watchesOf t ≡ without test (watchesOf s))
+unfolding watchesOf watchesBytes
+without-watches s c = without-kept watchBytes watchIn watchSize watch-wide mostWatches s c empty
