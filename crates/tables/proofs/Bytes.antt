@@ -1,15 +1,15 @@
 -- Bytes and places: what a slice's numbers are, and what a choice between an entry and none says.
-use mathlib.Core.Path.{_≡_, refl, sym, _∙_}
+use mathlib.Core.Path.{_≡_, refl, sym}
 use mathlib.Core.Bool.{Bool, true, false, cond, _&&_}
-use mathlib.Core.Option.{Option, none, some}
-use Prim.Native.Nat.{ℕ, _<_}
+use mathlib.Core.Option.{none, some}
+use Prim.Native.Nat.{ℕ}
 use native.Mathlib.Omega.{arith}
 use lib.ListN.{getD}
 use mir.Val.{Fits}
 use mir.Syntax.{w8}
 use Rattle.rules.specs.Octets.{Octets}
-use Rattle.tables.specs.Two.{Bytes}
 use Rattle.tables.specs.Entry.{taken, entryOr}
+use Rattle.tables.specs.Two.{Bytes}
 
 pub bytes-known : (s : Octets) → ((j : ℕ) → Fits w8 (getD s j 0)) → Bytes s
 bytes-known s f j = omega (arith, f j)

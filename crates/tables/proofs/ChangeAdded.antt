@@ -2,29 +2,28 @@
 use mathlib.Core.Path.{_≡_, refl, sym, ap, ap₂, _∙_}
 use mathlib.Core.Bool.{Bool, true, false}
 use mathlib.Core.List.{List, [], _∷_, _++_, flatMap, append-assoc, append-nil}
-use mathlib.Core.Option.{Option, none, some}
+use mathlib.Core.Option.{some}
 use Prim.Native.Nat.{ℕ, suc, _+_, _*_, _/_, _%_, _≤_, _<_}
 use native.Mathlib.Nat.{add-zero, add-assoc}
 use native.Mathlib.Omega.{arith}
 use lib.ListN.{length, getD, set, take, drop, length-append, length-drop}
 use lib.Seq.{length-take-le}
 use lib.Dec.{lit≤}
-use Rattle.rules.specs.Size.{mostTransactions, transactionSize, changeSize}
+use Rattle.rules.specs.Size.{mostTransactions, transactionSize}
 use Rattle.rules.specs.Octets.{Octets, padded, paste, bit}
 use Rattle.rules.specs.Path.{pathText, namesIn, isFull}
-use Rattle.rules.specs.Answer.{Change}
 use Rattle.rules.specs.Layout.{Transaction, changeBytes, transactionBytes, transactionIn, transactionsBytes, transactionsOf}
 use Rattle.rules.proofs.PathLaws.{full}
-use Rattle.rules.proofs.Tables.{Each, each-map, Wide, length-encoded, paste-past}
+use Rattle.rules.proofs.Tables.{Each, each-map, length-encoded, paste-past}
 use Rattle.rules.proofs.Paste.{paste-sets, paste-append, length-paste}
-use Rattle.rules.proofs.EntryLayouts.{ChangeFits, TransactionFits, MaybeTransaction, transaction-width, transaction-read}
+use Rattle.rules.proofs.EntryLayouts.{ChangeFits, TransactionFits, transaction-width, transaction-read}
 use Rattle.tables.specs.Kept.{KeptTransactions}
-use Rattle.tables.specs.Transaction.{transactionOf, OpenTransaction, changeGiven, changedBy, Room}
+use Rattle.tables.specs.Transaction.{transactionOf, changeGiven, changedBy, Room}
 use Rattle.tables.proofs.Rows.{length-padded, wrote, wrote-kept}
 use Rattle.tables.proofs.Parts.{paste-row, set-paste, paste-twice, row-pasted, padded-more}
 use Rattle.tables.proofs.TransactionLaws.{threeOf, transaction-parts, transaction-wide, row-parts, first-is, open-fits}
 use Rattle.tables.proofs.WatchLaws.{bit-small}
-use Rattle.tables.proofs.ChangeLaws.{twoOf, change-parts, change-wide}
+use Rattle.tables.proofs.ChangeLaws.{change-parts, change-wide}
 
 -- ── the change's own bytes ──
 
@@ -145,3 +144,11 @@ module _ (s : Octets) (k : ℕ) (p : Octets) (room : Room s k p) (r : Bool) wher
       ∙ paste-twice s at R (paste 0 (b ∷ []) R) (omega arith) (length-paste 0 (b ∷ []) R (rw lR (lit≤ tt)))
       ∙ ap (λ (q : Octets). paste at q s) bytes
       ∙ sym (wrote transactionBytes transactionIn transactionSize transaction-wide mostTransactions s (room .place .kept) k (some (changedBy x r p)) (room .place .below) (transaction-width (some (changedBy x r p)) (changed-fits x fits few r p (room .full) (room .short))))
+
+  -- what the bytes are and mean after a change is added
+  pub changed-kept : (t : Octets) → t ≡ transactionsBytes (set (transactionsOf s) k (some (changedBy x r p)))
+      → KeptTransactions t × (transactionsOf t ≡ set (transactionsOf s) k (some (changedBy x r p)))
+  unfolding transactionsOf transactionsBytes
+  changed-kept =
+      let f = changed-fits x fits (room .few) r p (room .full) (room .short) in
+      wrote-kept transactionBytes transactionIn transactionSize transaction-wide mostTransactions s (room .place .kept) k (some (changedBy x r p)) (record { width = transaction-width (some (changedBy x r p)) f; back = transaction-read (some (changedBy x r p)) f })

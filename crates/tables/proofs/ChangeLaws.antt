@@ -1,27 +1,23 @@
 -- The changes of an open transaction, as bytes.
-use mathlib.Core.Path.{_≡_, refl, sym, ap, ap₂, _∙_}
+use mathlib.Core.Path.{_≡_, refl, sym, ap, _∙_}
 use mathlib.Core.Bool.{Bool, true, false}
-use mathlib.Core.List.{List, [], _∷_, _++_, map, flatMap, append-assoc, append-nil}
-use mathlib.Core.Option.{Option, none, some}
-use Prim.Native.Nat.{ℕ, zero, suc, _+_, _*_, _-_, _/_, _%_, _≤_, _<_}
+use mathlib.Core.List.{[], _∷_, _++_, flatMap}
+use Prim.Native.Nat.{ℕ, _+_, _*_, _-_, _/_, _%_, _≤_, _<_}
 use native.Mathlib.Nat.{add-zero, add-assoc, add-sub-cancel-left}
 use native.Mathlib.Omega.{arith}
-use lib.ListN.{length, getD, take, drop, set, replicate, length-append, length-replicate, length-drop}
-use lib.Seq.{take-at, drop-at, take-take, take-append-le, drop-append-le, drop-drop, take-append-seam, length-take-le, drop-append-seam}
-use lib.Dec.{eqb, leb, lit≤, lit<}
+use lib.ListN.{length, getD, take, drop, replicate, length-append, length-drop}
+use lib.Seq.{take-at, drop-at, take-take, take-append-le, drop-append-le, drop-drop, take-append-seam}
+use lib.Dec.{leb, lit≤}
 use borrow.Author.Tests.{le-leb, lt-leb}
-use Rattle.rules.specs.Size.{mostTransactions, transactionSize, transactionsSize, changeSize, mostChanges, longestPath}
-use Rattle.rules.specs.Octets.{Octets, padded, paste, bigEndian, bit, pack, packFrom, _bits_}
+use Rattle.rules.specs.Octets.{Octets, padded, bigEndian, bit, pack, packFrom, _bits_}
 use Rattle.rules.specs.Path.{pathText}
 use Rattle.rules.specs.Answer.{Change}
-use Rattle.rules.specs.Layout.{Transaction, changeBytes, transactionBytes, transactionsOf}
+use Rattle.rules.specs.Layout.{Transaction, changeBytes}
 use Rattle.rules.proofs.Fields.{take-drop-take}
 use Rattle.rules.proofs.Tables.{Each, each-at, each-map, Wide, encoded-at, length-encoded}
 use Rattle.rules.proofs.EntryLayouts.{ChangeFits, TransactionFits}
-use Rattle.tables.specs.Entry.{taken}
-use Rattle.tables.specs.Two.{Bytes, Two}
-use Rattle.tables.specs.Kept.{KeptTransactions}
-use Rattle.tables.specs.Transaction.{noChange, transactionOf, changeOf, OpenTransaction, HasChange}
+use Rattle.tables.specs.Two.{Two}
+use Rattle.tables.specs.Transaction.{noChange, transactionOf, changeOf, HasChange}
 use Rattle.tables.proofs.Rows.{part-listed, length-padded}
 use Rattle.tables.proofs.WatchLaws.{bit-small}
 use Rattle.tables.proofs.TransactionLaws.{threeOf, row-parts, open-fits}

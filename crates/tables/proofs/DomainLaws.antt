@@ -1,9 +1,9 @@
 -- Domains as bytes: what the bytes of a place say, and what a written place leaves.
 use mathlib.Core.Path.{_≡_, refl, sym, ap, _∙_}
 use mathlib.Core.Bool.{Bool, true, false, cond, not, _&&_, and-assoc}
-use mathlib.Core.List.{List, [], _∷_, map}
+use mathlib.Core.List.{[], _∷_}
 use mathlib.Core.Option.{Option, none, some}
-use Prim.Native.Nat.{ℕ, zero, suc, _+_, _*_, _-_, _/_, _%_, _^_, _≤_, _<_}
+use Prim.Native.Nat.{ℕ, suc, _+_, _*_, _-_, _/_, _%_, _≤_, _<_}
 use native.Mathlib.Nat.{add-zero, add-sub-cancel-left}
 use native.Mathlib.Omega.{arith}
 use lib.ListN.{length, getD, take, drop, set, replicate, length-replicate, drop-of-length-le}
@@ -11,6 +11,7 @@ use lib.Dec.{eqb, leb}
 use borrow.Author.Tests.{le-leb, lt-leb, eq-eqb, ne-eqb, leb-true, leb-false, eqb-true}
 use Rattle.rules.specs.Size.{mostDomains, domainSize, domainsSize}
 use Rattle.rules.specs.Octets.{Octets, same, allZero, paste, field, bitsAt, bigEndian, pack, packFrom, _bits_}
+use Rattle.rules.specs.Entries.{without}
 use Rattle.rules.specs.Path.{Domain}
 use Rattle.rules.specs.Layout.{Domains, domainIn, domainBytes, domainsBytes, domainsOf}
 use Rattle.rules.specs.Sound.{introduced, goodDomains, soundDomains}
@@ -18,13 +19,13 @@ use Rattle.rules.proofs.Compare.{both-true, same-eq}
 use Rattle.rules.proofs.Paste.{paste-sets}
 use Rattle.rules.proofs.Fields.{length-big, field-part, field-three}
 use Rattle.rules.proofs.EntryLayouts.{domain-read, domain-at}
-use Rattle.tables.specs.Two.{Bytes, Two}
 use Rattle.tables.specs.Entry.{taken, passes, entryOr, droppedIf}
-use Rattle.tables.proofs.Bytes.{agree, taken-cond, entry-cond}
-use Rattle.tables.proofs.Search.{free-none, taken-some, goods-next, swept}
-use Rattle.tables.proofs.Rows.{length-table, same-first, same-zeros, part-listed, keptFrom, kept-start, kept-next, kept-end, Writable, wrote, wrote-kept, freed, left, dropped-kept}
+use Rattle.tables.specs.Two.{Bytes, Two}
 use Rattle.tables.specs.Kept.{keptAt, KeptDomains}
 use Rattle.tables.specs.Good.{goodDomain}
+use Rattle.tables.proofs.Bytes.{agree, taken-cond, entry-cond}
+use Rattle.tables.proofs.Search.{free-none, taken-some, goods-next, swept}
+use Rattle.tables.proofs.Rows.{length-table, same-first, same-zeros, part-listed, keptFrom, kept-start, kept-next, kept-end, Writable, wrote, wrote-kept, freed, left, dropped-kept, without-kept}
 
 pub domain-wide : (m : Option Domain) → length (domainBytes m) ≡ domainSize
 unfolding domainBytes
@@ -208,3 +209,9 @@ sound-kept s h =
 pub kept-domains : (s : Octets) → KeptDomains s → domainsBytes (domainsOf s) ≡ s
 unfolding domainsOf domainsBytes
 kept-domains s c = c .same
+
+-- what the bytes are and mean after entries are taken out
+pub without-domains : (s : Octets) → KeptDomains s → (test : Domain → Bool) (t : Octets) → t ≡ domainsBytes (without test (domainsOf s))
+    → KeptDomains t × (domainsOf t ≡ without test (domainsOf s))
+unfolding domainsOf domainsBytes
+without-domains s c = without-kept domainBytes domainIn domainSize wide mostDomains s c empty

@@ -1,15 +1,15 @@
 -- What is asked of transactions, and that it is what soundTransactions asks but for the copies.
-use mathlib.Core.Path.{_≡_, refl, sym, ap, ap₂, _∙_}
-use mathlib.Core.Bool.{Bool, true, false, not, _&&_, and-assoc, and-comm}
-use mathlib.Core.List.{List, [], _∷_, _++_, map, flatMap}
+use mathlib.Core.Path.{_≡_, refl, sym, ap, _∙_}
+use mathlib.Core.Bool.{Bool, true, false, not, _&&_}
+use mathlib.Core.List.{List, [], _∷_}
 use mathlib.Core.Option.{Option, none, some}
-use Prim.Native.Nat.{ℕ, zero, suc, _+_, _≤_, _<_}
+use Prim.Native.Nat.{ℕ, _+_, _≤_, _<_}
 use native.Mathlib.Numerals.{add-one}
 use native.Mathlib.Omega.{arith}
-use lib.ListN.{length, getD, take, drop, drop-of-length-le}
+use lib.ListN.{length, getD, drop, drop-of-length-le}
 use lib.Seq.{drop-cons}
 use lib.Dec.{eqb}
-use borrow.Author.Tests.{eqb-true, eq-eqb, ne-eqb}
+use borrow.Author.Tests.{eqb-true}
 use Rattle.rules.specs.Size.{transactionsSize}
 use Rattle.rules.specs.Octets.{Octets, same}
 use Rattle.rules.specs.Path.{domainOf, fits, pathText, namesIn, isFull}
@@ -23,7 +23,7 @@ use Rattle.tables.specs.Entry.{taken, entryOr}
 use Rattle.tables.specs.Kept.{KeptTransactions}
 use Rattle.tables.specs.Transaction.{opened, noChange}
 use Rattle.tables.specs.Entries.{goodOpen, goodEntries, soundEntries, soundCopies}
-use Rattle.tables.proofs.Search.{free-none, taken-some, goods-next}
+use Rattle.tables.proofs.Search.{free-none, taken-some}
 
 -- ── a change ──
 

@@ -1,16 +1,16 @@
 -- Whether the bytes of transactions are those of what they mean, by tests of their parts.
 use mathlib.Core.Path.{_≡_, refl, sym, ap, ap₂, _∙_}
-use mathlib.Core.Bool.{Bool, true, false, not, _&&_, true≢false}
+use mathlib.Core.Bool.{Bool, true, false, _&&_, true≢false}
 use mathlib.Core.List.{List, [], _∷_, _++_, map, flatMap}
 use mathlib.Core.Option.{Option, none, some}
-use Prim.Native.Nat.{ℕ, zero, suc, _+_, _*_, _-_, _/_, _%_, _≤_, _<_, zero-le}
-use native.Mathlib.Nat.{add-zero, add-assoc, add-comm, add-sub-cancel-left, suc-mul, zero-mul, div-add-mod', mod-lt}
+use Prim.Native.Nat.{ℕ, zero, suc, _+_, _*_, _-_, _/_, _%_, _≤_, _<_}
+use native.Mathlib.Nat.{add-zero, add-comm, add-sub-cancel-left, suc-mul, div-add-mod', mod-lt}
 use native.Mathlib.Omega.{arith}
-use lib.ListN.{length, getD, take, drop, replicate, length-append, length-drop, length-take, length-map, length-replicate, take-append-drop}
+use lib.ListN.{length, getD, take, drop, replicate, length-append, length-drop, length-take, length-map, take-append-drop}
 use lib.Seq.{take-add, take-take, take-at, drop-at, drop-drop, length-take-le}
-use lib.Dec.{eqb, leb, lit≤, lit<}
-use borrow.Author.Tests.{le-leb, lt-leb, eq-eqb}
-use Rattle.rules.specs.Size.{mostTransactions, transactionSize, transactionsSize, mostChanges, changeSize}
+use lib.Dec.{eqb, lit≤, lit<}
+use borrow.Author.Tests.{le-leb, lt-leb}
+use Rattle.rules.specs.Size.{mostTransactions, transactionSize, transactionsSize}
 use Rattle.rules.specs.Octets.{Octets, same, allZero, padded, chunks, field, bitsAt, bit}
 use Rattle.rules.specs.Path.{Given, malformed, absolute, relative, special, given, namesIn, allNames, isFull, pathText}
 use Rattle.rules.specs.Answer.{Change}
@@ -20,9 +20,8 @@ use Rattle.rules.proofs.Places.{is-false}
 use Rattle.rules.proofs.PathLaws.{Means, means, full, text-full}
 use Rattle.rules.proofs.Fields.{take-drop-take, field-part, field-two, field-three}
 use Rattle.rules.proofs.Tables.{length-chunks}
-use Rattle.rules.proofs.EntryLayouts.{ChangeFits, TransactionFits, transaction-at}
-use Rattle.tables.specs.Entry.{taken, entryOr}
-use Rattle.tables.specs.Two.{Bytes, Two}
+use Rattle.rules.proofs.EntryLayouts.{TransactionFits, transaction-at}
+use Rattle.tables.specs.Two.{Bytes}
 use Rattle.tables.specs.Kept.{keptAt}
 use Rattle.tables.specs.WatchKept.{restZero}
 use Rattle.tables.specs.Transaction.{opened}
@@ -32,7 +31,7 @@ use Rattle.tables.proofs.Rows.{same-parts, same-zeros, same-padded, len
 use Rattle.tables.proofs.WatchLaws.{bit-small}
 use Rattle.tables.proofs.WatchKept.{bit-of, pair-forward, drop-take}
 use Rattle.tables.proofs.TransactionLaws.{threeOf, transaction-parts, transaction-wide, read-fits, used-byte, is-read}
-use Rattle.tables.proofs.ChangeLaws.{twoOf, change-parts, change-wide}
+use Rattle.tables.proofs.ChangeLaws.{twoOf, change-parts}
 
 -- ── the loop over the places ──
 

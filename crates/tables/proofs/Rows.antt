@@ -1,10 +1,10 @@
 -- Tables of places of one width: whether the bytes re-encode to themselves, place by place, and what a written place leaves of bytes that do.
-use mathlib.Core.Path.{_≡_, refl, sym, ap, ap₂, _∙_}
+use mathlib.Core.Path.{_≡_, refl, sym, ap, _∙_}
 use mathlib.Core.Bool.{Bool, true, false, _&&_, and-assoc, and-true}
 use mathlib.Core.List.{List, [], _∷_, _++_, map, flatMap}
 use mathlib.Core.Option.{Option, none, some}
 use Prim.Native.Nat.{ℕ, zero, suc, _+_, _*_, _-_, _≤_, _<_, zero-le, suc-le-suc}
-use native.Mathlib.Nat.{suc-mul, zero-mul, sub-zero, add-comm, add-suc, add-sub-cancel-left, mul-le-mul-right, le-of-suc-le-suc}
+use native.Mathlib.Nat.{suc-mul, zero-mul, sub-zero, add-suc, add-sub-cancel-left, mul-le-mul-right}
 use native.Mathlib.Numerals.{add-one}
 use native.Mathlib.Omega.{arith}
 use lib.ListN.{length, getD, take, drop, set, length-map, length-drop, length-set, length-take, take-append-drop, drop-of-length-le, replicate, length-append, length-replicate}
@@ -14,13 +14,14 @@ use borrow.Author.Tests.{eq-eqb, ne-eqb, eqb-true, eqb-false}
 use Rattle.rules.specs.Octets.{Octets, same, allZero, padded, chunks, paste}
 use Rattle.rules.specs.Layout.{textAt}
 use Rattle.rules.proofs.Fields.{take-drop-take}
-use Rattle.tables.specs.Kept.{Kept, keptAt}
-use Rattle.tables.specs.Entry.{passes, droppedIf}
-use Rattle.tables.proofs.Bytes.{agree}
-use Rattle.tables.proofs.Search.{dropped-is, dropped-not, swept, swept-next}
 use Rattle.rules.proofs.Cases.{cond-case}
 use Rattle.rules.proofs.Compare.{same-refl}
-use Rattle.rules.proofs.Tables.{Each, Wide, each-at, each-set, length-chunks, decoded-at, encoded-at, length-encoded, written, decoded}
+use Rattle.rules.proofs.Tables.{Each, Wide, each-at, each-set, length-chunks, decoded-at, encoded-at, length-encoded, written, decoded, each-map}
+use Rattle.rules.specs.Entries.{without}
+use Rattle.tables.specs.Entry.{passes, droppedIf}
+use Rattle.tables.specs.Kept.{Kept, keptAt}
+use Rattle.tables.proofs.Bytes.{agree}
+use Rattle.tables.proofs.Search.{dropped-is, dropped-not, swept, swept-next, without-map}
 
 pub eqb-swap : (x y : ℕ) → eqb x y ≡ eqb y x
 eqb-swap x y = agree (λ p. eq-eqb y x (sym (eqb-true x y p))) (λ p. ne-eqb y x (λ q. eqb-false x y p (sym q)))
@@ -143,6 +144,10 @@ module _ {A : Type 0} (encode : Option A → Octets) (decode : Octets → Option
   each-place P [] h = tt
   each-place P (x ∷ xs) h = (h 0 (suc-le-suc zero-le), each-place P xs (λ i l. h (suc i) (suc-le-suc l)))
 
+  each-mapped : (P : Option A → Type 0) (f : Option A → Option A) (xs : List (Option A)) → Each (λ (x : Option A). P (f x)) xs → Each P (map f xs)
+  each-mapped P f [] e = tt
+  each-mapped P f (x ∷ xs) e = (e .0, each-mapped P f xs (e .1))
+
   module _ (n : ℕ) (s : Octets) (c : Kept n k encode decode s) where
     -- the bytes of place i
     pub place-bytes : (i : ℕ) → i < n → take k (drop (i * k) s) ≡ encode (getD (table n s) i none)
@@ -198,3 +203,23 @@ module _ {A : Type 0} (encode : Option A → Octets) (decode : Octets → Option
           → (t : Octets) → t ≡ flatMap encode (set (table n s) i (droppedIf test (getD (table n s) i none)))
           → Kept n k encode decode t × (table n t ≡ swept (droppedIf test) (i + 1) xs)
       dropped-kept xs = swept-kept i _ (dropped-case test (getD (table n s) i none) empty (place-again i h)) (droppedIf test) xs refl
+
+    -- every place made what a function makes of it: kept, and they mean that
+    pub mapped-kept : (f : Option A → Option A) → ((i : ℕ) → i < n → Writable (f (getD (table n s) i none)))
+        → (t : Octets) → t ≡ flatMap encode (map f (table n s)) → Kept n k encode decode t × (table n t ≡ map f (table n s))
+    mapped-kept f can t e =
+        let xs = table n s in
+        let can-each : Each (λ (x : Option A). Writable (f x)) xs = each-place (λ (x : Option A). Writable (f x)) xs (λ i l. can i (rw (length-table n s) at l)) in
+        let width : Each (Wide encode k) (map f xs) = each-mapped (Wide encode k) f xs (each-map (λ (x : Option A). Writable (f x)) _ (λ x w. w .width) xs can-each) in
+        let back : Each (λ (x : Option A). decode (encode x) ≡ x) (map f xs) =
+        each-mapped (λ (x : Option A). decode (encode x) ≡ x) f xs (each-map (λ (x : Option A). Writable (f x)) _ (λ x w. w .back) xs can-each) in
+        let m : length (map f xs) ≡ n = length-map xs f ∙ length-table n s in
+        let d : table n (flatMap encode (map f xs)) ≡ map f xs = ap (λ (j : ℕ). table j (flatMap encode (map f xs))) (sym m) ∙ decoded encode k decode (map f xs) width back in
+        rw e (record { whole = length-encoded encode k (map f xs) width ∙ ap (λ (j : ℕ). j * k) m; same = ap (flatMap encode) d }, d)
+
+    pub without-kept : Writable none → (test : A → Bool) → (t : Octets) → t ≡ flatMap encode (without test (table n s))
+        → Kept n k encode decode t × (table n t ≡ without test (table n s))
+    without-kept empty test t e =
+        let w = without-map test (table n s) in
+        let r = mapped-kept (droppedIf test) (λ i h. dropped-case test (getD (table n s) i none) empty (place-again i h)) t (e ∙ ap (flatMap encode) (sym w)) in
+        (r .0, r .1 ∙ w)

@@ -7,7 +7,7 @@ use Prim.Native.Nat.{ℕ, zero, suc, _+_, _≤_, _<_}
 use native.Mathlib.Numerals.{add-one}
 use native.Mathlib.Nat.{add-zero, not-suc-le-zero, le-of-suc-le-suc}
 use native.Mathlib.Omega.{arith}
-use lib.ListN.{length, getD, take, drop, set, drop-of-length-le}
+use lib.ListN.{length, getD, drop, set, drop-of-length-le}
 use lib.Seq.{drop-cons}
 use Rattle.rules.specs.Entries.{lowest, has, without}
 use Rattle.tables.specs.Entry.{taken, passes, entryOr, droppedIf}
@@ -129,11 +129,11 @@ module _ {A : Type 0} where
     swept-all (suc i) [] h = refl
     swept-all (suc i) (x ∷ xs) h = ap (_∷_ (f x)) (swept-all i xs (le-of-suc-le-suc h))
 
-  pub without-swept : (test : A → Bool) (i : ℕ) (xs : List (Option A)) → length xs ≤ i → swept (droppedIf test) i xs ≡ without test xs
+  pub without-map : (test : A → Bool) (xs : List (Option A)) → map (droppedIf test) xs ≡ without test xs
   unfolding droppedIf without
-  without-swept test i xs h = swept-all (droppedIf test) i xs h ∙ go xs
-    where
-      go : (xs : List (Option A)) → map (droppedIf test) xs ≡ without test xs
-      go [] = refl
-      go (none ∷ xs) = ap (_∷_ none) (go xs)
-      go (some x ∷ xs) = ap (_∷_ (cond (test x) none (some x))) (go xs)
+  without-map test [] = refl
+  without-map test (none ∷ xs) = ap (_∷_ none) (without-map test xs)
+  without-map test (some x ∷ xs) = ap (_∷_ (cond (test x) none (some x))) (without-map test xs)
+
+  pub without-swept : (test : A → Bool) (i : ℕ) (xs : List (Option A)) → length xs ≤ i → swept (droppedIf test) i xs ≡ without test xs
+  without-swept test i xs h = swept-all (droppedIf test) i xs h ∙ without-map test xs

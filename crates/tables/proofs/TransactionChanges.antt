@@ -1,28 +1,27 @@
 -- Transactions opened, closed, made stale and extended: what a written place leaves.
-use mathlib.Core.Path.{_≡_, refl, sym, ap, ap₂, _∙_}
-use mathlib.Core.Bool.{Bool, true, false, _&&_}
+use mathlib.Core.Path.{_≡_, refl, sym, ap, _∙_}
+use mathlib.Core.Bool.{Bool, true, false}
 use mathlib.Core.List.{[], _∷_, _++_, map, flatMap}
 use mathlib.Core.Option.{Option, none, some}
 use Prim.Native.Nat.{ℕ, suc, _+_, _*_, _/_, _%_, _≤_, _<_}
-use native.Mathlib.Nat.{add-zero, zero-add}
+use native.Mathlib.Nat.{add-zero}
 use native.Mathlib.Omega.{arith}
-use lib.Dec.{eqb, lit≤}
-use lib.ListN.{length, getD, set, take, drop, replicate, length-replicate}
+use lib.Dec.{lit≤}
+use lib.ListN.{length, getD, set, replicate, length-replicate}
 use lib.Seq.{set-getD}
-use borrow.Author.Tests.{eqb-true}
-use Rattle.rules.specs.Size.{mostTransactions, transactionSize, transactionsSize}
-use Rattle.rules.specs.Octets.{Octets, same, paste, padded, bit}
-use Rattle.rules.specs.Path.{Connection}
+use Rattle.rules.specs.Size.{mostTransactions, transactionSize}
+use Rattle.rules.specs.Octets.{Octets, paste, padded}
+use Rattle.rules.specs.Entries.{without}
 use Rattle.rules.specs.Layout.{Transaction, Transactions, changeBytes, transactionBytes, transactionIn, transactionsBytes, transactionsOf}
 use Rattle.rules.specs.World.{staled}
 use Rattle.rules.proofs.Paste.{paste-sets, paste-append, length-paste}
 use Rattle.rules.proofs.Tables.{each-at}
 use Rattle.rules.proofs.EntryLayouts.{TransactionFits, MaybeTransaction, transaction-width, transaction-read, decoded-transactions-fit}
-use Rattle.tables.specs.Entry.{taken, passes, droppedIf, entryOr}
+use Rattle.tables.specs.Entry.{taken, passes, droppedIf}
 use Rattle.tables.specs.Kept.{KeptTransactions}
-use Rattle.tables.specs.Transaction.{opened, transactionOf, heldBy, staleOf}
+use Rattle.tables.specs.Transaction.{opened, transactionOf, staleOf}
 use Rattle.tables.proofs.Search.{free-none, taken-some, swept, swept-all}
-use Rattle.tables.proofs.Rows.{Writable, wrote, wrote-kept, swept-kept, freed, left, dropped-kept}
+use Rattle.tables.proofs.Rows.{Writable, wrote, wrote-kept, swept-kept, freed, left, dropped-kept, mapped-kept, without-kept}
 use Rattle.tables.proofs.Parts.{paste-row, set-paste}
 use Rattle.tables.proofs.TransactionLaws.{threeOf, transaction-parts, transaction-wide, length-transactionsOf, row-parts, changes-read, open-fits}
 
@@ -57,14 +56,14 @@ opened-bytes : (o : ℕ) → o < 65536 → transactionBytes (some (opened o)) �
 unfolding opened padded flatMap
 opened-bytes o h = transaction-parts (opened o) h (lit≤ tt)
 
-pub staled-swept : (i : ℕ) (xs : Transactions) → length xs ≤ i → swept staleOf i xs ≡ staled xs
+staled-map : (xs : Transactions) → map staleOf xs ≡ staled xs
 unfolding staleOf staled
-staled-swept i xs h = swept-all staleOf i xs h ∙ go xs
-  where
-    go : (xs : Transactions) → map staleOf xs ≡ staled xs
-    go [] = refl
-    go (none ∷ xs) = ap (_∷_ none) (go xs)
-    go (some x ∷ xs) = ap (_∷_ (some (record { holder = x .holder; stale = true; changes = x .changes }))) (go xs)
+staled-map [] = refl
+staled-map (none ∷ xs) = ap (_∷_ none) (staled-map xs)
+staled-map (some x ∷ xs) = ap (_∷_ (some (record { holder = x .holder; stale = true; changes = x .changes }))) (staled-map xs)
+
+pub staled-swept : (i : ℕ) (xs : Transactions) → length xs ≤ i → swept staleOf i xs ≡ staled xs
+staled-swept i xs h = swept-all staleOf i xs h ∙ staled-map xs
 
 pub kept-transactions : (s : Octets) → KeptTransactions s → transactionsBytes (transactionsOf s) ≡ s
 unfolding transactionsOf transactionsBytes
@@ -90,6 +89,16 @@ module _ (s : Octets) (c : KeptTransactions s) (k : ℕ) (h : k < mostTransactio
       → KeptTransactions t × (transactionsOf t ≡ swept (droppedIf test) (k + 1) xs)
   unfolding transactionsOf transactionsBytes
   swept-transaction test = dropped-kept transactionBytes transactionIn transactionSize transaction-wide mostTransactions s c k h (writable none tt) test
+
+  -- what the bytes are and mean after a place is closed, or opened for connection o
+  pub close-kept : (t : Octets) → t ≡ transactionsBytes (set (transactionsOf s) k none) → KeptTransactions t × (transactionsOf t ≡ set (transactionsOf s) k none)
+  unfolding transactionsOf transactionsBytes
+  close-kept = wrote-kept transactionBytes transactionIn transactionSize transaction-wide mostTransactions s c k none (writable none tt)
+
+  pub open-kept : (o : ℕ) → o < 65536 → (t : Octets) → t ≡ transactionsBytes (set (transactionsOf s) k (some (opened o)))
+      → KeptTransactions t × (transactionsOf t ≡ set (transactionsOf s) k (some (opened o)))
+  unfolding transactionsOf transactionsBytes
+  open-kept o ho = wrote-kept transactionBytes transactionIn transactionSize transaction-wide mostTransactions s c k (some (opened o)) (writable (some (opened o)) (opened-fits o ho))
 
   -- ── an open place ──
 
@@ -145,3 +154,17 @@ module _ (s : Octets) (c : KeptTransactions s) (k : ℕ) (h : k < mostTransactio
       → KeptTransactions t × (transactionsOf t ≡ swept staleOf (k + 1) xs)
   unfolding transactionsOf transactionsBytes
   swept-stale xs = swept-kept transactionBytes transactionIn transactionSize transaction-wide mostTransactions s c k _ (stale-writable (getD (transactionsOf s) k none) place-fits) staleOf xs refl
+
+-- what the bytes are and mean after entries are closed, or all made stale
+pub without-transactions : (s : Octets) → KeptTransactions s → (test : Transaction → Bool) (t : Octets) → t ≡ transactionsBytes (without test (transactionsOf s))
+    → KeptTransactions t × (transactionsOf t ≡ without test (transactionsOf s))
+unfolding transactionsOf transactionsBytes
+without-transactions s c = without-kept transactionBytes transactionIn transactionSize transaction-wide mostTransactions s c (writable none tt)
+
+pub staled-transactions : (s : Octets) → KeptTransactions s → (t : Octets) → t ≡ transactionsBytes (staled (transactionsOf s))
+    → KeptTransactions t × (transactionsOf t ≡ staled (transactionsOf s))
+unfolding transactionsOf transactionsBytes
+staled-transactions s c t e =
+    let w = staled-map (transactionsOf s) in
+    let r = mapped-kept transactionBytes transactionIn transactionSize transaction-wide mostTransactions s c staleOf (λ i h. stale-writable (getD (transactionsOf s) i none) (place-fits s c i h)) t (e ∙ ap transactionsBytes (sym w)) in
+    (r .0, r .1 ∙ w)

@@ -1,20 +1,18 @@
 -- Transactions as bytes: what the bytes of a place say.
-use mathlib.Core.Path.{_≡_, refl, sym, ap, ap₂, _∙_}
-use mathlib.Core.Bool.{Bool, true, false, cond, not, _&&_}
-use mathlib.Core.List.{List, [], _∷_, _++_, map, flatMap}
-use mathlib.Core.Option.{Option, none, some}
-use Prim.Native.Nat.{ℕ, zero, suc, _+_, _*_, _-_, _/_, _%_, _^_, _≤_, _<_}
+use mathlib.Core.Path.{_≡_, refl, sym, ap, _∙_}
+use mathlib.Core.Bool.{true, cond}
+use mathlib.Core.List.{[], _∷_, _++_, flatMap}
+use mathlib.Core.Option.{none, some}
+use Prim.Native.Nat.{ℕ, _+_, _*_, _-_, _/_, _%_, _≤_, _<_}
 use native.Mathlib.Nat.{add-zero, mod-lt}
 use native.Mathlib.Omega.{arith}
-use lib.ListN.{length, getD, take, drop, set, replicate, length-replicate, length-append}
+use lib.ListN.{length, getD, take, drop}
 use lib.Seq.{take-at, take-take}
 use lib.Dec.{eqb, leb, lit<, lit≤}
-use borrow.Author.Tests.{le-leb, lt-leb, eq-eqb, ne-eqb, leb-true, leb-false}
-use Rattle.rules.specs.Size.{mostTransactions, transactionSize, transactionsSize, changeSize, mostChanges}
+use borrow.Author.Tests.{eq-eqb, ne-eqb, leb-true, leb-false}
+use Rattle.rules.specs.Size.{mostTransactions, transactionSize, transactionsSize}
 use Rattle.rules.specs.Octets.{Octets, field, bitsAt, bigEndian, bit, padded, pack, packFrom, _bits_}
-use Rattle.rules.specs.Path.{Connection}
-use Rattle.rules.specs.Answer.{Change}
-use Rattle.rules.specs.Layout.{Transaction, Transactions, changeBytes, transactionBytes, transactionIn, transactionAt, transactionsOf}
+use Rattle.rules.specs.Layout.{Transaction, changeBytes, transactionBytes, transactionIn, transactionAt, transactionsOf}
 use Rattle.rules.proofs.Fields.{field-part, field-three}
 use Rattle.rules.proofs.Cases.{cond-case}
 use Rattle.rules.proofs.EntryLayouts.{TransactionFits, MaybeTransaction, transaction-width, transaction-decoded, transaction-at}

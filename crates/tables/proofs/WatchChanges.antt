@@ -1,8 +1,8 @@
 -- Watches added and taken out: what a written place leaves.
-use mathlib.Core.Path.{_≡_, refl, sym, ap, ap₂, _∙_}
+use mathlib.Core.Path.{_≡_, sym, ap, _∙_}
 use mathlib.Core.Bool.{Bool, true, false, _&&_}
 use mathlib.Core.List.{[], _∷_, _++_}
-use mathlib.Core.Option.{Option, none, some}
+use mathlib.Core.Option.{none, some}
 use Prim.Native.Nat.{ℕ, suc, _+_, _*_, _/_, _%_, _≤_, _<_}
 use native.Mathlib.Omega.{arith}
 use lib.Dec.{eqb}
@@ -10,14 +10,15 @@ use lib.ListN.{length, getD, set, replicate, length-replicate}
 use borrow.Author.Tests.{eqb-true}
 use Rattle.rules.specs.Size.{longestPath, mostWatches, watchSize, watchesSize}
 use Rattle.rules.specs.Octets.{Octets, same, paste, padded, bit}
-use Rattle.rules.specs.Path.{Connection, absolute, special, given, namesIn, isFull}
+use Rattle.rules.specs.Entries.{without}
+use Rattle.rules.specs.Path.{Connection, absolute, special, namesIn}
 use Rattle.rules.specs.Event.{Watch, Watches, placeText}
 use Rattle.rules.specs.Layout.{Domains, isRelative, placeIn, watchBytes, watchIn, watchesBytes, watchesOf}
 use Rattle.rules.specs.Sound.{goodWatches, soundWatches}
 use Rattle.rules.proofs.Compare.{both-true, same-eq}
 use Rattle.rules.proofs.PathLaws as P
 use Rattle.rules.proofs.PathLaws.{full-given}
-use Rattle.rules.proofs.Paste.{paste-sets, paste-append, length-paste}
+use Rattle.rules.proofs.Paste.{paste-sets, paste-append}
 use Rattle.rules.proofs.EntryLayouts.{PlaceFits, DepthFits, watch-read}
 use Rattle.tables.specs.Entry.{taken, passes, entryOr, droppedIf}
 use Rattle.tables.specs.Kept.{KeptWatches}
@@ -25,8 +26,8 @@ use Rattle.tables.specs.Watch.{depthMeant, Placed, full, named, FitWatch
 use Rattle.tables.specs.declared.Depth.{Depth}
 use Rattle.tables.specs.declared.Depth.the-variants.{To, Any}
 use Rattle.tables.proofs.Search.{swept}
-use Rattle.tables.proofs.Rows.{length-padded, Writable, wrote, wrote-kept, freed, left, dropped-kept}
-use Rattle.tables.proofs.WatchLaws.{place-given, sixOf, Narrow, watch-parts, narrow-width, watch-wide}
+use Rattle.tables.proofs.Rows.{length-padded, Writable, wrote, wrote-kept, freed, left, dropped-kept, without-kept}
+use Rattle.tables.proofs.WatchLaws.{place-given, Narrow, watch-parts, narrow-width, watch-wide}
 
 -- ── what a place can hold ──
 
@@ -144,3 +145,9 @@ sound-kept ds s h =
 pub kept-watches : (s : Octets) → KeptWatches s → watchesBytes (watchesOf s) ≡ s
 unfolding watchesOf watchesBytes
 kept-watches s c = c .same
+
+-- what the bytes are and mean after entries are taken out
+pub without-watches : (s : Octets) → KeptWatches s → (test : Watch → Bool) (t : Octets) → t ≡ watchesBytes (without test (watchesOf s))
+    → KeptWatches t × (watchesOf t ≡ without test (watchesOf s))
+unfolding watchesOf watchesBytes
+without-watches s c = without-kept watchBytes watchIn watchSize watch-wide mostWatches s c empty

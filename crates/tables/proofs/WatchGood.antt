@@ -9,12 +9,12 @@ use native.Mathlib.Numerals.{add-one}
 use native.Mathlib.Omega.{arith}
 use lib.ListN.{length, getD, take, drop, length-append, drop-of-length-le}
 use lib.Seq.{take-at, drop-cons}
-use lib.Dec.{eqb, leb}
+use lib.Dec.{eqb}
 use borrow.Author.Tests.{eq-eqb, ne-eqb, le-leb}
 use Rattle.rules.specs.Size.{longestAbsolute, mostWatches}
-use Rattle.rules.specs.Octets.{Octets, same, begins, paste, text, decimal}
+use Rattle.rules.specs.Octets.{Octets, same, begins, paste, text}
 use Rattle.rules.specs.Path.{Domain, Connection, Names, absolute, special, given, namesIn, isFull, base, slashed, pathText, fits, beyond, isBelow}
-use Rattle.rules.specs.Payload.{Place, path, event}
+use Rattle.rules.specs.Payload.{event}
 use Rattle.rules.specs.Event.{Watch, Watches, placeText}
 use Rattle.rules.specs.Layout.{Domains, isRelative, placeIn, watchesOf}
 use Rattle.rules.specs.Sound.{known, noNul, strictlyBelow, eventDepth, goodPlace, watched, goodWatch, goodWatches}
@@ -25,9 +25,9 @@ use Rattle.rules.proofs.BelowLaws.{hasNames, isUnder, below-names}
 use Rattle.octets.specs.Numbers.{Put}
 use Rattle.paths.specs.Full.{baseText}
 use Rattle.tables.specs.Entry.{taken, entryOr}
+use Rattle.tables.specs.Two.{Bytes}
 use Rattle.tables.specs.Watch.{nobody, depthMeant, watchOf}
 use Rattle.tables.specs.declared.Depth.{Depth}
-use Rattle.tables.specs.Two.{Bytes}
 use Rattle.tables.specs.Kept.{KeptWatches}
 use Rattle.tables.specs.Good.{goodWatchAt}
 use Rattle.tables.proofs.Search.{free-none, taken-some, goods-next}

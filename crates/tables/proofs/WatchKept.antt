@@ -2,14 +2,14 @@
 use mathlib.Core.Path.{_≡_, refl, sym, ap, ap₂, _∙_}
 use mathlib.Core.Bool.{Bool, true, false, cond, not, _&&_, _||_, true≢false, or-false}
 use mathlib.Core.List.{[], _∷_, _++_}
-use mathlib.Core.Option.{Option, none, some}
+use mathlib.Core.Option.{none, some}
 use Prim.Native.Nat.{ℕ, zero, suc, _+_, _*_, _-_, _/_, _%_, _≤_, _<_}
-use native.Mathlib.Nat.{add-zero, add-sub-cancel-left, sub-zero, zero-sub, suc-sub-suc, div-add-mod'}
+use native.Mathlib.Nat.{add-sub-cancel-left, sub-zero, zero-sub, suc-sub-suc}
 use native.Mathlib.Omega.{arith}
-use lib.ListN.{length, getD, take, drop, replicate, length-append, length-drop}
+use lib.ListN.{length, getD, take, drop, length-drop}
 use lib.Seq.{take-add, take-take, drop-drop, length-take-le, take-nil}
 use lib.Dec.{eqb, leb, lit≤}
-use borrow.Author.Tests.{le-leb, lt-leb, eq-eqb, eqb-true, leb-true}
+use borrow.Author.Tests.{le-leb, lt-leb, eqb-true, leb-true}
 use Rattle.rules.specs.Size.{mostWatches, watchSize, watchesSize}
 use Rattle.rules.specs.Octets.{Octets, same, allZero, padded, field, bitsAt, bit}
 use Rattle.rules.specs.Path.{Names, Given, malformed, absolute, relative, special, given, namesIn, isFull, split}
@@ -19,7 +19,6 @@ use Rattle.rules.specs.Layout.{textAt, isRelative, placeIn, watchBytes, watchIn
 use Rattle.rules.proofs.Compare.{both-true, same-length, same-eq, eq-same, same-refl}
 use Rattle.rules.proofs.PathLaws.{full, full-given}
 use Rattle.rules.proofs.Places.{is-false}
-use Rattle.rules.proofs.Fields.{take-drop-take}
 use Rattle.rules.proofs.EntryLayouts.{watch-at}
 use Rattle.tables.specs.Entry.{taken, entryOr}
 use Rattle.tables.specs.Two.{Bytes}

@@ -1,34 +1,34 @@
 -- Watches as bytes: what the bytes of a place say of its watch.
 use mathlib.Core.Path.{_≡_, refl, sym, ap, ap₂, _∙_}
-use mathlib.Core.Bool.{Bool, true, false, cond, not, _&&_, _||_}
-use mathlib.Core.List.{List, [], _∷_, _++_, map}
+use mathlib.Core.Bool.{Bool, true, false, cond, _&&_, _||_}
+use mathlib.Core.List.{[], _∷_, _++_}
 use mathlib.Core.Option.{Option, none, some}
-use Prim.Native.Nat.{ℕ, zero, suc, _+_, _*_, _-_, _/_, _%_, _^_, _≤_, _<_, zero-le}
-use native.Mathlib.Nat.{add-zero, mod-lt, div-add-mod', min-le-left, min-le-right}
+use Prim.Native.Nat.{ℕ, _+_, _*_, _-_, _/_, _%_, _≤_, _<_, zero-le}
+use native.Mathlib.Nat.{add-zero, mod-lt, div-add-mod'}
 use native.Mathlib.Omega.{arith}
-use lib.ListN.{length, getD, take, drop, set, replicate, length-replicate, length-append, length-take, length-drop}
+use lib.ListN.{length, getD, take, drop, length-replicate, length-append, length-take}
 use lib.Seq.{take-at, take-take}
 use lib.Dec.{eqb, leb, lit<, lit≤}
-use borrow.Author.Tests.{le-leb, lt-leb, eq-eqb, ne-eqb, leb-true, leb-false}
-use Rattle.rules.specs.Size.{mostWatches, watchSize, watchesSize, longestPath, longestToken}
+use borrow.Author.Tests.{le-leb, eq-eqb, ne-eqb, leb-true, leb-false}
+use Rattle.rules.specs.Size.{mostWatches, watchSize, watchesSize}
 use Rattle.rules.specs.Octets.{Octets, same, field, bitsAt, bigEndian, bit, padded, pack, packFrom, _bits_}
 use Rattle.rules.specs.Path.{Connection, Given, malformed, absolute, relative, special, given}
 use Rattle.rules.specs.Payload.{Place, path, event}
-use Rattle.rules.specs.Event.{Watch, Watches, placeText}
+use Rattle.rules.specs.Event.{Watch, placeText}
 use Rattle.rules.specs.Layout.{textAt, isRelative, depthBits, watchBits, watchBytes, watchIn, watchAt, placeIn, watchesOf}
 use Rattle.rules.specs.Sound.{twin}
 use Rattle.rules.proofs.PathLaws.{Means, means}
-use Rattle.rules.proofs.Fields.{length-big, field-part, field-three, field-split}
+use Rattle.rules.proofs.Fields.{field-part, field-three, field-split}
 use Rattle.rules.proofs.Cases.{cond-case}
 use Rattle.rules.proofs.EntryLayouts.{watch-at}
 use Rattle.tables.specs.Entry.{taken, passes, entryOr}
 use Rattle.tables.specs.Two.{Bytes, Two}
 use Rattle.tables.specs.Kept.{KeptWatches}
-use Rattle.tables.specs.Watch.{nobody, ownedBy, watchOf, pathLength, tokenLength, TakenWatch}
+use Rattle.tables.specs.Watch.{nobody, ownedBy, watchOf, pathLength, tokenLength}
 use Rattle.tables.specs.WatchKept.{depthSame, fieldsSame}
 use Rattle.tables.proofs.Bytes.{agree, taken-cond, entry-cond}
 use Rattle.tables.proofs.Search.{taken-some}
-use Rattle.tables.proofs.Rows.{length-table, listed, part-listed, text-part, length-padded, place-bytes}
+use Rattle.tables.proofs.Rows.{length-table, part-listed, text-part, length-padded, place-bytes}
 
 -- ── a place's text ──
 

@@ -1,7 +1,6 @@
 // The fields of a transaction and of its changes.
 ghost use mathlib.Core.Path.{_≡_};
-ghost use mathlib.Core.Bool.{true};
-ghost use mathlib.Core.Option.{none, some};
+ghost use mathlib.Core.Option.{none};
 ghost use Prim.Native.Nat.{_+_, _<_, _≤_};
 ghost use lib.ListN.{length, getD};
 ghost use Rattle.rules.specs.Size.{mostTransactions, transactionsSize, mostChanges};

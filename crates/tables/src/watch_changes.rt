@@ -5,7 +5,7 @@ ghost use mathlib.Core.Option.{none, some};
 ghost use Prim.Native.Nat.{_+_, _*_, _/_, _%_, _<_, _≤_};
 ghost use lib.Dec.{eqb};
 ghost use lib.ListN.{length, getD, set};
-ghost use Rattle.rules.specs.Size.{mostWatches, longestPath, longestToken};
+ghost use Rattle.rules.specs.Size.{mostWatches, longestToken};
 ghost use Rattle.rules.specs.Octets.{paste, bit};
 ghost use Rattle.rules.specs.Entries.{without};
 ghost use Rattle.rules.specs.Layout.{watchesBytes, watchesOf};

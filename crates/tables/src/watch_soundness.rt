@@ -1,17 +1,17 @@
 // Whether the bytes of watches are sound.
 ghost use mathlib.Core.Path.{_≡_};
-ghost use mathlib.Core.Bool.{true, _&&_};
+ghost use mathlib.Core.Bool.{true};
 ghost use mathlib.Core.Option.{none};
-ghost use Prim.Native.Nat.{_+_, _*_, _<_, _≤_};
-ghost use lib.ListN.{length, getD, take, drop};
-ghost use Rattle.rules.specs.Size.{mostWatches, watchSize, watchesSize, longestPath, longestToken, domainsSize};
-ghost use Rattle.rules.specs.Octets.{same, allZero};
+ghost use Prim.Native.Nat.{_+_, _*_, _<_};
+ghost use lib.ListN.{length, getD, drop};
+ghost use Rattle.rules.specs.Size.{mostWatches, watchSize, watchesSize, domainsSize};
+ghost use Rattle.rules.specs.Octets.{same};
 ghost use Rattle.rules.specs.Path.{base, beyond, isFull, namesIn};
 ghost use Rattle.rules.specs.Layout.{placeIn, domainsOf, watchBytes, watchIn, watchesBytes, watchesOf};
 ghost use Rattle.rules.specs.Sound.{noNul, strictlyBelow, goodPlace, goodWatches, soundWatches};
 ghost use Rattle.tables.specs.Kept.{keptAt, KeptWatches};
 ghost use Rattle.tables.specs.Good.{goodWatchAt};
-ghost use Rattle.tables.specs.Watch.{depthMeant, pathLength, tokenLength};
+ghost use Rattle.tables.specs.Watch.{depthMeant};
 ghost use Rattle.tables.specs.WatchKept.{placeSame, depthSame, fieldsSame};
 use crate::Depth;
 use crate::domains::known;

@@ -1,12 +1,11 @@
 // The fields of a watch, and finding one.
 ghost use mathlib.Core.Path.{_≡_};
 ghost use mathlib.Core.Bool.{true};
-ghost use mathlib.Core.Option.{none, some};
+ghost use mathlib.Core.Option.{none};
 ghost use Prim.Native.Nat.{_+_, _<_, _≤_};
-ghost use lib.Dec.{eqb};
 ghost use lib.ListN.{length, getD, drop};
 ghost use Rattle.rules.specs.Size.{mostWatches, watchesSize};
-ghost use Rattle.rules.specs.Entries.{lowest, has};
+ghost use Rattle.rules.specs.Entries.{lowest};
 ghost use Rattle.rules.specs.Event.{placeText};
 ghost use Rattle.rules.specs.Layout.{isRelative, watchesOf};
 ghost use Rattle.rules.specs.Sound.{twin, watched};

@@ -1,43 +1,32 @@
-use Rattle.tables.proofs.DomainLaws.{freed-domain, left-domain}
-use lib.Dec.{eqb}
-use mathlib.Core.Path.{_≡_, refl, sym, ap, _∙_}
+use mathlib.Core.Path.{sym, _∙_}
 use native.Mathlib.Omega.{arith}
+use lib.Dec.{eqb}
 use borrow.Author.Needs.{needs}
+use Rattle.tables.proofs.DomainLaws.{freed-domain, left-domain}
 use Rattle.tables.proofs.domains.free_if.Statement.{statement}
 use Rattle.tables.proofs.domains.free_if.Tie as tie
-use Rattle.tables.proofs.domains.free_if.Reads as reads
-use Rattle.tables.proofs.domains.free_if.Lts as lts
-use Rattle.octets.proofs.parts.clear.Reads as clear-reads
-use Rattle.tables.proofs.domains.holds.Reads as holds-reads
 
--- src/domains.rt:192:8
 holds-requires : tie.Need-holds-requires
 holds-requires c κs = let b = c .before .before in (b .pre .0, b .pre .1 .whole)
 
--- src/domains.rt:193:18
 mul-clear : tie.Need-mul-clear
 mul-clear c = search needs
 
--- src/domains.rt:193:9
 clear-requires : tie.Need-clear-requires
 clear-requires c κs = let b = c .before .before .before .before .before in omega (arith, b .pre .1 .whole)
 
--- src/domains.rt:188:1
 same-length : tie.Need-same-length
 same-length c = search needs
 
--- src/domains.rt:188:1
 returns : tie.Need-returns
 returns c =
     let b = c .before .before .before .before .before .before .before .before in
     c .before .before .clear .ensures
     ∙ freed-domain (b .args .s .now) (b .pre .1) (b .args .k) (b .pre .0) (eqb (b .args .d)) (sym (c .before .before .before .before .before .holds .ensures) ∙ c .before .before .before .before .if1 .taken)
 
--- src/domains.rt:188:1
 same-length-2 : tie.Need-same-length-2
 same-length-2 c = search needs
 
--- src/domains.rt:188:1
 returns-2 : tie.Need-returns-2
 returns-2 c =
     let b = c .before .before .before .before in

@@ -1,17 +1,14 @@
+use mathlib.Core.Path.{_≡_, refl, sym, _∙_}
+use Prim.Native.Nat.{_≤_, _-_}
+use native.Mathlib.Omega.{arith}
+use lib.ListN.{drop}
+use borrow.Author.Tests.{not-true, not-false}
+use Rattle.rules.specs.Layout.{domainsOf}
+use Rattle.rules.specs.Sound.{goodDomains}
 use Rattle.tables.proofs.Bytes.{and-first, and-rest}
 use Rattle.tables.proofs.DomainLaws.{length-domainsOf, good-next, good-over}
-use Rattle.rules.specs.Layout.{domainsOf}
-use lib.ListN.{drop}
-use Rattle.rules.specs.Sound.{goodDomains}
-use borrow.Author.Tests.{not-true, not-false}
-use Prim.Native.Nat.{_≤_, _-_, _+_}
-use mathlib.Core.Path.{_≡_, refl, sym, ap, _∙_}
-use native.Mathlib.Omega.{arith}
 use Rattle.tables.proofs.domains.good.Statement.{statement}
 use Rattle.tables.proofs.domains.good.Tie as tie
-use Rattle.tables.proofs.domains.good.Reads as reads
-use Rattle.tables.proofs.domains.good.Lts as lts
-use Rattle.tables.proofs.domains.place_good.Reads as place-good-reads
 
 abbrev Inv-loop : tie.InvT-loop
 Inv-loop s i₀ i = (i ≤ 8) × (goodDomains (domainsOf s) ≡ goodDomains (drop i (domainsOf s)))
@@ -19,37 +16,30 @@ Inv-loop s i₀ i = (i ≤ 8) × (goodDomains (domainsOf s) ≡ goodDomains (dro
 abbrev μ-loop : tie.MeasureT-loop
 μ-loop s i₀ i = 8 - i
 
--- src/domains.rt:153:5
 loop-holds : tie.Need-loop-holds Inv-loop μ-loop
 loop-holds c = (omega arith, refl)
 
--- src/domains.rt:154:13
 place-good-requires : tie.Need-place-good-requires Inv-loop μ-loop
 place-good-requires c κs = (c .loop-test .taken, c .before .before .before .pre)
 
--- src/domains.rt:155:13
 returns : tie.Need-returns Inv-loop μ-loop
 returns c =
     let b = c .before .before .before in
     let a = b .before .before .args in
     sym (b .loop .inv .1 ∙ (good-next (domainsOf (a .s .now)) (b .loop .i) (rw (length-domainsOf (a .s .now)) (c .before .before .loop-test .taken)) ∙ and-first _ _ (sym (c .before .place-good .ensures) ∙ not-true _ (c .if1 .taken))))
 
--- src/domains.rt:157:9
 add-i : tie.Need-add-i Inv-loop μ-loop
 add-i c = omega arith
 
--- src/domains.rt:153:5
 loop-less : tie.Need-loop-less Inv-loop μ-loop
 loop-less c = omega arith
 
--- src/domains.rt:153:5
 loop-again : tie.Need-loop-again Inv-loop μ-loop
 loop-again c =
     let b = c .before .before .before in
     let a = b .before .before .args in
     (omega arith, b .loop .inv .1 ∙ (good-next (domainsOf (a .s .now)) (b .loop .i) (rw (length-domainsOf (a .s .now)) (c .before .before .loop-test .taken)) ∙ and-rest _ _ (sym (c .before .place-good .ensures) ∙ not-false _ (c .if1 .left))))
 
--- src/domains.rt:148:1
 returns-2 : tie.Need-returns-2 Inv-loop μ-loop
 returns-2 c =
     let b = c .before in

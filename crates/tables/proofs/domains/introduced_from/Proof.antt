@@ -1,18 +1,14 @@
-use Rattle.tables.proofs.Search.{has-here, has-further, has-over}
-use Rattle.tables.proofs.DomainLaws.{length-domainsOf}
-use Rattle.rules.specs.Entries.{has}
-use Rattle.rules.specs.Layout.{domainsOf}
-use borrow.Author.Tests.{not-true, not-false}
+use mathlib.Core.Path.{_≡_, refl, sym, _∙_}
+use Prim.Native.Nat.{_≤_, _-_}
+use native.Mathlib.Omega.{arith}
 use lib.Dec.{eqb}
 use lib.ListN.{drop}
-use native.Mathlib.Omega.{arith}
-use Prim.Native.Nat.{_≤_, _-_, _+_}
-use mathlib.Core.Path.{_≡_, refl, sym, _∙_}
+use Rattle.rules.specs.Entries.{has}
+use Rattle.rules.specs.Layout.{domainsOf}
+use Rattle.tables.proofs.Search.{has-here, has-further, has-over}
+use Rattle.tables.proofs.DomainLaws.{length-domainsOf}
 use Rattle.tables.proofs.domains.introduced_from.Statement.{statement}
 use Rattle.tables.proofs.domains.introduced_from.Tie as tie
-use Rattle.tables.proofs.domains.introduced_from.Reads as reads
-use Rattle.tables.proofs.domains.introduced_from.Lts as lts
-use Rattle.tables.proofs.domains.holds.Reads as holds-reads
 
 abbrev Inv-loop : tie.InvT-loop
 Inv-loop s from d i₀ i = (i ≤ 8) × (has (eqb d) (drop from (domainsOf s)) ≡ has (eqb d) (drop i (domainsOf s)))
@@ -20,30 +16,24 @@ Inv-loop s from d i₀ i = (i ≤ 8) × (has (eqb d) (drop from (domainsOf s)) �
 abbrev μ-loop : tie.MeasureT-loop
 μ-loop s from d i₀ i = 8 - i
 
--- src/domains.rt:58:5
 loop-holds : tie.Need-loop-holds Inv-loop μ-loop
 loop-holds c = (omega arith, refl)
 
--- src/domains.rt:59:12
 holds-requires : tie.Need-holds-requires Inv-loop μ-loop
 holds-requires c κs = (c .loop-test .taken, c .before .before .before .pre .1)
 
--- src/domains.rt:60:13
 returns : tie.Need-returns Inv-loop μ-loop
 returns c =
     let b = c .before .before .before in
     let a = b .before .before .args in
     sym (b .loop .inv .1 ∙ has-here (eqb (a .d)) (domainsOf (a .s .now)) (b .loop .i) (rw (length-domainsOf (a .s .now)) (c .before .before .loop-test .taken)) (sym (c .before .holds .ensures) ∙ c .if1 .taken))
 
--- src/domains.rt:62:9
 add-i : tie.Need-add-i Inv-loop μ-loop
 add-i c = omega arith
 
--- src/domains.rt:58:5
 loop-less : tie.Need-loop-less Inv-loop μ-loop
 loop-less c = omega arith
 
--- src/domains.rt:58:5
 loop-again : tie.Need-loop-again Inv-loop μ-loop
 loop-again c =
     let b = c .before .before .before in
@@ -52,7 +42,6 @@ loop-again c =
       b .loop .inv .1 ∙ has-further (eqb (a .d)) (domainsOf (a .s .now)) (b .loop .i) (rw (length-domainsOf (a .s .now)) (c .before .before .loop-test .taken)) (sym (c .before .holds .ensures) ∙ c .if1 .left),
     )
 
--- src/domains.rt:53:1
 returns-2 : tie.Need-returns-2 Inv-loop μ-loop
 returns-2 c =
     let b = c .before in

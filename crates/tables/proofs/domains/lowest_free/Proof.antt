@@ -1,19 +1,15 @@
+use mathlib.Core.Path.{_≡_, sym, _∙_}
+use Prim.Native.Nat.{_≤_, _-_, _+_}
 use native.Mathlib.Nat.{zero-add}
-use Rattle.tables.proofs.Search.{lowest-here, lowest-further, lowest-over}
-use Rattle.tables.proofs.DomainLaws.{length-domainsOf}
+use native.Mathlib.Omega.{arith}
+use lib.ListN.{drop}
+use borrow.Author.Tests.{not-true, not-false}
 use Rattle.rules.specs.Entries.{lowest}
 use Rattle.rules.specs.Layout.{domainsOf}
-use borrow.Author.Tests.{not-true, not-false}
-use lib.Dec.{eqb}
-use lib.ListN.{drop}
-use native.Mathlib.Omega.{arith}
-use Prim.Native.Nat.{_≤_, _-_, _+_}
-use mathlib.Core.Path.{_≡_, refl, sym, _∙_}
+use Rattle.tables.proofs.Search.{lowest-here, lowest-further, lowest-over}
+use Rattle.tables.proofs.DomainLaws.{length-domainsOf}
 use Rattle.tables.proofs.domains.lowest_free.Statement.{statement}
 use Rattle.tables.proofs.domains.lowest_free.Tie as tie
-use Rattle.tables.proofs.domains.lowest_free.Reads as reads
-use Rattle.tables.proofs.domains.lowest_free.Lts as lts
-use Rattle.tables.proofs.domains.used.Reads as used-reads
 
 abbrev Inv-loop : tie.InvT-loop
 Inv-loop s i₀ i = (i ≤ 8) × (lowest (domainsOf s) ≡ i + lowest (drop i (domainsOf s)))
@@ -21,30 +17,24 @@ Inv-loop s i₀ i = (i ≤ 8) × (lowest (domainsOf s) ≡ i + lowest (drop i (d
 abbrev μ-loop : tie.MeasureT-loop
 μ-loop s i₀ i = 8 - i
 
--- src/domains.rt:91:5
 loop-holds : tie.Need-loop-holds Inv-loop μ-loop
 loop-holds c = (omega arith, sym (zero-add _))
 
--- src/domains.rt:92:13
 used-requires : tie.Need-used-requires Inv-loop μ-loop
 used-requires c κs = (c .loop-test .taken, c .before .before .before .pre)
 
--- src/domains.rt:93:13
 returns : tie.Need-returns Inv-loop μ-loop
 returns c =
     let b = c .before .before .before in
     let a = b .before .before .args in
     sym (b .loop .inv .1 ∙ lowest-here (domainsOf (a .s .now)) (b .loop .i) (rw (length-domainsOf (a .s .now)) (c .before .before .loop-test .taken)) (sym (c .before .used .ensures) ∙ not-true _ (c .if1 .taken)))
 
--- src/domains.rt:95:9
 add-i : tie.Need-add-i Inv-loop μ-loop
 add-i c = omega arith
 
--- src/domains.rt:91:5
 loop-less : tie.Need-loop-less Inv-loop μ-loop
 loop-less c = omega arith
 
--- src/domains.rt:91:5
 loop-again : tie.Need-loop-again Inv-loop μ-loop
 loop-again c =
     let b = c .before .before .before in
@@ -53,7 +43,6 @@ loop-again c =
       b .loop .inv .1 ∙ lowest-further (domainsOf (a .s .now)) (b .loop .i) 0 (rw (length-domainsOf (a .s .now)) (c .before .before .loop-test .taken)) (sym (c .before .used .ensures) ∙ not-false _ (c .if1 .left)),
     )
 
--- src/domains.rt:86:1
 returns-2 : tie.Need-returns-2 Inv-loop μ-loop
 returns-2 c =
     let b = c .before in

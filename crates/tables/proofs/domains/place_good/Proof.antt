@@ -1,50 +1,37 @@
-use Rattle.tables.proofs.DomainLaws.{good-free, good-zero, good-large, good-ranged}
-use Rattle.rules.specs.Sound.{introduced}
-use Rattle.rules.specs.Layout.{domainsOf}
-use Prim.Native.Nat.{_+_}
-use lib.ListN.{drop}
+use mathlib.Core.Path.{sym, ap, _∙_}
 use mathlib.Core.Bool.{not}
-use borrow.Author.Tests.{not-true, not-false}
-use mathlib.Core.Path.{_≡_, refl, sym, ap, _∙_}
+use Prim.Native.Nat.{_+_}
 use native.Mathlib.Omega.{arith}
+use lib.ListN.{drop}
+use borrow.Author.Tests.{not-true, not-false}
 use borrow.Author.Needs.{needs}
+use Rattle.rules.specs.Layout.{domainsOf}
+use Rattle.rules.specs.Sound.{introduced}
+use Rattle.tables.proofs.DomainLaws.{good-free, good-zero, good-large, good-ranged}
 use Rattle.tables.proofs.domains.place_good.Statement.{statement}
 use Rattle.tables.proofs.domains.place_good.Tie as tie
-use Rattle.tables.proofs.domains.place_good.Reads as reads
-use Rattle.tables.proofs.domains.place_good.Lts as lts
-use Rattle.tables.proofs.domains.domain.Reads as domain-reads
-use Rattle.tables.proofs.domains.introduced_from.Reads as introduced-from-reads
-use Rattle.tables.proofs.domains.used.Reads as used-reads
 
--- src/domains.rt:135:9
 used-requires : tie.Need-used-requires
 used-requires c κs = search needs
 
--- src/domains.rt:136:9
 returns : tie.Need-returns
 returns c = sym (good-free _ _ (sym (c .before .used .ensures) ∙ not-true _ (c .if1 .taken)))
 
--- src/domains.rt:138:9
 domain-requires : tie.Need-domain-requires
 domain-requires c κs = let b = c .before .before .before in (b .pre .0, b .pre .1, sym (c .before .used .ensures) ∙ not-false _ (c .if1 .left))
 
--- src/domains.rt:140:9
 returns-2 : tie.Need-returns-2
 returns-2 c = sym (good-zero _ _ (sym (c .before .before .before .used .ensures) ∙ not-false _ (c .before .before .if1 .left)) (omega (arith, c .if2 .taken, c .before .domain .ensures)))
 
--- src/domains.rt:143:9
 returns-3 : tie.Need-returns-3
 returns-3 c = sym (good-large _ _ (sym (c .before .before .before .before .used .ensures) ∙ not-false _ (c .before .before .before .if1 .left)) (omega (arith, c .before .if2 .left, c .before .before .domain .ensures)) (omega (arith, c .if3 .taken, c .before .before .domain .ensures)))
 
--- src/domains.rt:145:25
 add-introduced-from : tie.Need-add-introduced-from
 add-introduced-from c = search needs
 
--- src/domains.rt:145:6
 introduced-from-requires : tie.Need-introduced-from-requires
 introduced-from-requires c κs = search needs
 
--- src/domains.rt:131:1
 returns-4 : tie.Need-returns-4
 unfolding introduced
 returns-4 c =

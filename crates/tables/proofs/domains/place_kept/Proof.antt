@@ -1,53 +1,39 @@
-use Rattle.tables.proofs.DomainLaws.{used-kept, free-kept}
-use Rattle.tables.proofs.Bytes.{bytes-known}
-use mathlib.Core.Path.{_≡_, refl, sym, ap, _∙_}
-use native.Mathlib.Omega.{arith}
+use mathlib.Core.Path.{_∙_}
 use borrow.Author.Needs.{needs}
+use Rattle.tables.proofs.Bytes.{bytes-known}
+use Rattle.tables.proofs.DomainLaws.{used-kept, free-kept}
 use Rattle.tables.proofs.domains.place_kept.Statement.{statement}
 use Rattle.tables.proofs.domains.place_kept.Tie as tie
-use Rattle.tables.proofs.domains.place_kept.Reads as reads
-use Rattle.tables.proofs.domains.place_kept.Lts as lts
-use Rattle.octets.proofs.compare.all_zero.Reads as all-zero-reads
 
--- src/domains.rt:108:14
 mul-at : tie.Need-mul-at
 mul-at c = search needs
 
--- src/domains.rt:109:15
 shared-slice-read-if1 : tie.Need-shared-slice-read-if1
 shared-slice-read-if1 c = search needs
 
--- src/domains.rt:110:16
 shared-slice-read-result : tie.Need-shared-slice-read-result
 shared-slice-read-result c = search needs
 
--- src/domains.rt:110:9
 returns : tie.Need-returns
 returns c =
     let b = c .before .before .before .before in
     used-kept (b .args .s .now) (bytes-known (b .args .s .now) (c .shared-slice-known3 .given)) (b .pre .1) (b .args .k) (b .pre .0) (c .before .if1 .taken)
 
--- src/domains.rt:112:21
 add-all-zero : tie.Need-add-all-zero
 add-all-zero c = search needs
 
--- src/domains.rt:112:14
 sub-all-zero : tie.Need-sub-all-zero
 sub-all-zero c = search needs
 
--- src/domains.rt:112:14
 part-all-zero-start : tie.Need-part-all-zero-start
 part-all-zero-start c = search needs
 
--- src/domains.rt:112:14
 part-all-zero-end : tie.Need-part-all-zero-end
 part-all-zero-end c = search needs
 
--- src/domains.rt:112:5
 all-zero-requires : tie.Need-all-zero-requires
 all-zero-requires c κs = search needs
 
--- src/domains.rt:104:1
 returns-2 : tie.Need-returns-2
 returns-2 c =
     let b = c .before .before .before .before .before in

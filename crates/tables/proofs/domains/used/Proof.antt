@@ -1,20 +1,15 @@
-use Rattle.tables.proofs.DomainLaws.{used-byte}
-use Rattle.tables.proofs.Bytes.{bytes-known}
 use borrow.Author.Needs.{needs}
+use Rattle.tables.proofs.Bytes.{bytes-known}
+use Rattle.tables.proofs.DomainLaws.{used-byte}
 use Rattle.tables.proofs.domains.used.Statement.{statement}
 use Rattle.tables.proofs.domains.used.Tie as tie
-use Rattle.tables.proofs.domains.used.Reads as reads
-use Rattle.tables.proofs.domains.used.Lts as lts
 
--- src/domains.rt:28:14
 mul-result : tie.Need-mul-result
 mul-result c = search needs
 
--- src/domains.rt:28:12
 shared-slice-read-result : tie.Need-shared-slice-read-result
 shared-slice-read-result c = search needs
 
--- src/domains.rt:24:1
 returns : tie.Need-returns
 returns c = let a = c .before .args .s .now in used-byte a (bytes-known a (c .shared-slice-known .given)) (c .before .pre .1) _ (c .before .pre .0)
 

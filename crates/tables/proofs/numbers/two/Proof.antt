@@ -1,42 +1,32 @@
 use mathlib.Core.Path.{refl}
-use Rattle.tables.proofs.Bytes.{bytes-known}
 use Prim.Native.Nat.{_+_}
 use native.Mathlib.Omega.{arith}
 use borrow.Author.Needs.{needs}
+use Rattle.tables.proofs.Bytes.{bytes-known}
 use Rattle.tables.proofs.numbers.two.Statement.{statement}
 use Rattle.tables.proofs.numbers.two.Tie as tie
-use Rattle.tables.proofs.numbers.two.Reads as reads
-use Rattle.tables.proofs.numbers.two.Lts as lts
 
--- src/numbers.rt:11:16
 shared-slice-read-high : tie.Need-shared-slice-read-high
 shared-slice-read-high c = search needs
 
--- src/numbers.rt:11:16
 cast-high : tie.Need-cast-high
 cast-high c = omega (arith, c .shared-slice-known .given (c .before .args .at))
 
--- src/numbers.rt:12:17
 add-low : tie.Need-add-low
 add-low c = search needs
 
--- src/numbers.rt:12:15
 shared-slice-read-low : tie.Need-shared-slice-read-low
 shared-slice-read-low c = search needs
 
--- src/numbers.rt:12:15
 cast-low : tie.Need-cast-low
 cast-low c = omega (arith, c .shared-slice-known2 .given (c .before .before .args .at + 1))
 
--- src/numbers.rt:13:5
 mul-result : tie.Need-mul-result
 mul-result c = omega (arith, c .shared-slice-known2 .given (c .before .before .args .at))
 
--- src/numbers.rt:13:5
 add-result : tie.Need-add-result
 add-result c = omega (arith, c .shared-slice-known2 .given (c .before .before .args .at), c .shared-slice-known2 .given (c .before .before .args .at + 1))
 
--- src/numbers.rt:7:1
 returns : tie.Need-returns
 returns c = record { value = refl; bytes = bytes-known (c .before .before .args .s .now) (c .shared-slice-known2 .given) }
 

@@ -1,60 +1,44 @@
+use mathlib.Core.Path.{ap, _∙_}
 use Prim.Native.Nat.{ℕ, _+_, _*_}
-use Rattle.tables.specs.Transaction.{changeGiven}
-use Rattle.rules.specs.Layout.{changeBytes}
-use Rattle.rules.specs.Octets.{Octets, paste}
-use lib.ListN.{length, getD, set, length-set}
-use Rattle.tables.proofs.ChangeAdded.{room-within, first-small, put-changed}
-use mathlib.Core.Path.{_≡_, refl, sym, ap, _∙_}
 use native.Mathlib.Omega.{arith}
-use borrow.Author.Needs.{needs}
+use lib.ListN.{getD, set, length-set}
+use Rattle.rules.specs.Octets.{Octets, paste}
+use Rattle.rules.specs.Layout.{changeBytes}
+use Rattle.tables.specs.Transaction.{changeGiven}
+use Rattle.tables.proofs.ChangeAdded.{room-within, first-small, put-changed}
 use Rattle.tables.proofs.transaction_changes.add_change.Statement.{statement}
 use Rattle.tables.proofs.transaction_changes.add_change.Tie as tie
-use Rattle.tables.proofs.transaction_changes.add_change.Reads as reads
-use Rattle.tables.proofs.transaction_changes.add_change.Lts as lts
-use Rattle.tables.proofs.transaction_changes.put_change.Reads as put-change-reads
-use Rattle.tables.proofs.transactions.changes.Reads as changes-reads
 
--- src/transaction_changes.rt:75:14
 mul-at : tie.Need-mul-at
 mul-at c = omega (arith, c .before .before .pre .place .below)
 
--- src/transaction_changes.rt:76:17
 slice-read-first : tie.Need-slice-read-first
 slice-read-first c = let b = c .before .before .before in omega (arith, b .pre .place .below, b .pre .place .kept .whole)
 
--- src/transaction_changes.rt:77:9
 changes-requires : tie.Need-changes-requires
 changes-requires c κs = c .before .before .before .before .pre .place
 
--- src/transaction_changes.rt:78:19
 add-put-change : tie.Need-add-put-change
 add-put-change c = omega (arith, c .before .before .before .before .before .before .pre .place .below)
 
--- src/transaction_changes.rt:78:37
 mul-put-change : tie.Need-mul-put-change
 mul-put-change c = omega (arith, c .before .changes .ensures .1)
 
--- src/transaction_changes.rt:78:19
 add-put-change-2 : tie.Need-add-put-change-2
 add-put-change-2 c = omega (arith, c .before .before .before .before .before .before .pre .place .below, c .before .changes .ensures .1)
 
--- src/transaction_changes.rt:78:5
 put-change-requires : tie.Need-put-change-requires
 put-change-requires c κs = let b = c .before .before .before .before .before .before in (omega (arith, c .before .changes .ensures .0, room-within (c .before .before .before .before .before .before .args .s .now) (c .before .before .before .before .before .before .args .k) (c .before .before .before .before .before .before .args .path .now) (c .before .before .before .before .before .before .pre) (c .before .before .before .before .before .before .args .removed)), b .pre .full, b .pre .short)
 
--- src/transaction_changes.rt:79:13
 add-s : tie.Need-add-s
 add-s c = let b = c .before .before .before .before .before .before .before .before .before in omega (arith, first-small (b .args .s .now) (b .args .k) (b .args .path .now) (b .pre) (b .args .removed))
 
--- src/transaction_changes.rt:79:5
 slice-write-s : tie.Need-slice-write-s
 slice-write-s c = let b = c .before .before .before .before .before .before .before .before .before in omega (arith, b .pre .place .below, b .pre .place .kept .whole)
 
--- src/transaction_changes.rt:71:1
 same-length : tie.Need-same-length
 same-length c = simp length-set (omega arith)
 
--- src/transaction_changes.rt:71:1
 returns : tie.Need-returns
 returns c =
     let b = c .before .before .before .before .before .before .before .before .before in

@@ -1,26 +1,19 @@
-use Rattle.tables.proofs.TransactionChanges.{closed}
-use mathlib.Core.Path.{_≡_, refl, sym, ap, _∙_}
+use mathlib.Core.Path.{_∙_}
 use native.Mathlib.Omega.{arith}
 use borrow.Author.Needs.{needs}
+use Rattle.tables.proofs.TransactionChanges.{closed}
 use Rattle.tables.proofs.transaction_changes.close.Statement.{statement}
 use Rattle.tables.proofs.transaction_changes.close.Tie as tie
-use Rattle.tables.proofs.transaction_changes.close.Reads as reads
-use Rattle.tables.proofs.transaction_changes.close.Lts as lts
-use Rattle.octets.proofs.parts.clear.Reads as clear-reads
 
--- src/transaction_changes.rt:38:14
 mul-clear : tie.Need-mul-clear
 mul-clear c = search needs
 
--- src/transaction_changes.rt:38:5
 clear-requires : tie.Need-clear-requires
 clear-requires c κs = let b = c .before .before in omega (arith, b .pre .0, b .pre .1 .whole)
 
--- src/transaction_changes.rt:34:1
 same-length : tie.Need-same-length
 same-length c = search needs
 
--- src/transaction_changes.rt:34:1
 returns : tie.Need-returns
 returns c = let b = c .before .before .before .before .before in c .before .before .clear .ensures ∙ closed (b .args .s .now) (b .pre .1) (b .args .k) (b .pre .0)
 

@@ -1,43 +1,32 @@
-use Rattle.tables.specs.Transaction.{heldBy}
-use Rattle.tables.proofs.TransactionChanges.{freed-transaction, left-transaction}
-use mathlib.Core.Path.{_≡_, refl, sym, ap, _∙_}
+use mathlib.Core.Path.{sym, _∙_}
 use native.Mathlib.Omega.{arith}
 use borrow.Author.Needs.{needs}
+use Rattle.tables.specs.Transaction.{heldBy}
+use Rattle.tables.proofs.TransactionChanges.{freed-transaction, left-transaction}
 use Rattle.tables.proofs.transaction_changes.close_held.Statement.{statement}
 use Rattle.tables.proofs.transaction_changes.close_held.Tie as tie
-use Rattle.tables.proofs.transaction_changes.close_held.Reads as reads
-use Rattle.tables.proofs.transaction_changes.close_held.Lts as lts
-use Rattle.octets.proofs.parts.clear.Reads as clear-reads
-use Rattle.tables.proofs.transactions.held.Reads as held-reads
 
--- src/transaction_changes.rt:69:8
 held-requires : tie.Need-held-requires
 held-requires c κs = let b = c .before .before in (b .pre .0, b .pre .1)
 
--- src/transaction_changes.rt:70:18
 mul-clear : tie.Need-mul-clear
 mul-clear c = search needs
 
--- src/transaction_changes.rt:70:9
 clear-requires : tie.Need-clear-requires
 clear-requires c κs = let b = c .before .before .before .before .before in omega (arith, b .pre .1 .whole)
 
--- src/transaction_changes.rt:65:1
 same-length : tie.Need-same-length
 same-length c = search needs
 
--- src/transaction_changes.rt:65:1
 returns : tie.Need-returns
 returns c =
     let b = c .before .before .before .before .before .before .before .before in
     c .before .before .clear .ensures
     ∙ freed-transaction (b .args .s .now) (b .pre .1) (b .args .k) (b .pre .0) (heldBy (b .args .c)) (sym (c .before .before .before .before .before .held .ensures) ∙ c .before .before .before .before .if1 .taken)
 
--- src/transaction_changes.rt:65:1
 same-length-2 : tie.Need-same-length-2
 same-length-2 c = search needs
 
--- src/transaction_changes.rt:65:1
 returns-2 : tie.Need-returns-2
 returns-2 c =
     let b = c .before .before .before .before in

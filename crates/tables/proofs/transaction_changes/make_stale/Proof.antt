@@ -1,46 +1,34 @@
-use Rattle.tables.proofs.TransactionChanges.{put-stale, left-stale}
-use mathlib.Core.Path.{_≡_, refl, sym, ap, _∙_}
+use mathlib.Core.Path.{sym, _∙_}
 use native.Mathlib.Omega.{arith}
 use borrow.Author.Needs.{needs}
+use Rattle.tables.proofs.TransactionChanges.{put-stale, left-stale}
 use Rattle.tables.proofs.transaction_changes.make_stale.Statement.{statement}
 use Rattle.tables.proofs.transaction_changes.make_stale.Tie as tie
-use Rattle.tables.proofs.transaction_changes.make_stale.Reads as reads
-use Rattle.tables.proofs.transaction_changes.make_stale.Lts as lts
-use Rattle.tables.proofs.transactions.is_open.Reads as is-open-reads
 
--- src/transaction_changes.rt:46:8
 is-open-requires : tie.Need-is-open-requires
 is-open-requires c κs = let b = c .before .before in (b .pre .0, b .pre .1 .whole)
 
--- src/transaction_changes.rt:47:18
 mul-at : tie.Need-mul-at
 mul-at c = search needs
 
--- src/transaction_changes.rt:48:23
 slice-read-s : tie.Need-slice-read-s
 slice-read-s c = let w = c .before .before .before .before .before .pre .1 .whole in omega arith
 
--- src/transaction_changes.rt:48:17
 add-s : tie.Need-add-s
 add-s c = search needs
 
--- src/transaction_changes.rt:48:9
 slice-write-s : tie.Need-slice-write-s
 slice-write-s c = let w = c .before .before .before .before .before .pre .1 .whole in omega arith
 
--- src/transaction_changes.rt:42:1
 same-length : tie.Need-same-length
 same-length c = search needs
 
--- src/transaction_changes.rt:42:1
 returns : tie.Need-returns
 returns c = let b = c .before .before .before .before .before in put-stale (b .args .s .now) (b .pre .1) (b .args .k) (b .pre .0) (sym (c .before .before .is-open .ensures) ∙ c .before .if1 .taken)
 
--- src/transaction_changes.rt:42:1
 same-length-2 : tie.Need-same-length-2
 same-length-2 c = search needs
 
--- src/transaction_changes.rt:42:1
 returns-2 : tie.Need-returns-2
 returns-2 c = let b = c .before .before .before .before in left-stale (b .args .s .now) (b .pre .1) (b .args .k) (b .pre .0) (sym (c .before .is-open .ensures) ∙ c .if1 .left)
 

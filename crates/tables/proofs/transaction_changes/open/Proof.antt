@@ -1,65 +1,49 @@
+use mathlib.Core.Path.{ap, _∙_}
 use Prim.Native.Nat.{_+_, _*_, _/_, _%_}
-use Rattle.rules.specs.Octets.{Octets}
-use lib.ListN.{set, length-set}
-use Rattle.tables.proofs.TransactionChanges.{put-open}
-use mathlib.Core.Path.{_≡_, refl, sym, ap, _∙_}
 use native.Mathlib.Omega.{arith}
+use lib.ListN.{set, length-set}
 use borrow.Author.Needs.{needs}
+use Rattle.rules.specs.Octets.{Octets}
+use Rattle.tables.proofs.TransactionChanges.{put-open}
 use Rattle.tables.proofs.transaction_changes.open.Statement.{statement}
 use Rattle.tables.proofs.transaction_changes.open.Tie as tie
-use Rattle.tables.proofs.transaction_changes.open.Reads as reads
-use Rattle.tables.proofs.transaction_changes.open.Lts as lts
-use Rattle.octets.proofs.parts.clear.Reads as clear-reads
 
--- src/transaction_changes.rt:26:14
 mul-at : tie.Need-mul-at
 mul-at c = search needs
 
--- src/transaction_changes.rt:27:14
 add-clear : tie.Need-add-clear
 add-clear c = search needs
 
--- src/transaction_changes.rt:27:31
 sub-clear : tie.Need-sub-clear
 sub-clear c = search needs
 
--- src/transaction_changes.rt:27:5
 clear-requires : tie.Need-clear-requires
 clear-requires c κs = let b = c .before .before in omega (arith, b .pre .0, b .pre .2 .whole)
 
--- src/transaction_changes.rt:28:5
 slice-write-s : tie.Need-slice-write-s
 slice-write-s c = let w = c .before .before .before .before .before .pre .2 .whole in omega arith
 
--- src/transaction_changes.rt:29:17
 cast-s : tie.Need-cast-s
 cast-s c = search needs
 
--- src/transaction_changes.rt:29:7
 add-s : tie.Need-add-s
 add-s c = search needs
 
--- src/transaction_changes.rt:29:5
 slice-write-s-2 : tie.Need-slice-write-s-2
 slice-write-s-2 c = let w = c .before .before .before .before .before .pre .2 .whole in simp length-set (omega arith)
 
--- src/transaction_changes.rt:30:17
 cast-s-2 : tie.Need-cast-s-2
 cast-s-2 c = search needs
 
--- src/transaction_changes.rt:30:7
 add-s-2 : tie.Need-add-s-2
 add-s-2 c = search needs
 
--- src/transaction_changes.rt:30:5
 slice-write-s-3 : tie.Need-slice-write-s-3
 slice-write-s-3 c = let w = c .before .before .before .before .before .pre .2 .whole in simp length-set (omega arith)
 
--- src/transaction_changes.rt:22:1
 same-length : tie.Need-same-length
 same-length c = simp length-set (omega arith)
 
--- src/transaction_changes.rt:22:1
 returns : tie.Need-returns
 returns c =
     let b = c .before .before .before .before .before in

@@ -1,43 +1,28 @@
+use mathlib.Core.Path.{sym, _∙_}
+use borrow.Author.Tests.{not-true, not-false}
 use Rattle.tables.proofs.ChangeLaws.{change-fits}
 use Rattle.tables.proofs.EntriesGood.{path-full, change-unfit, change-written, change-removed}
-use borrow.Author.Tests.{not-true, not-false}
-use mathlib.Core.Path.{_≡_, refl, sym, ap, _∙_}
-use native.Mathlib.Omega.{arith}
-use borrow.Author.Needs.{needs}
 use Rattle.tables.proofs.transaction_soundness.change_good.Statement.{statement}
 use Rattle.tables.proofs.transaction_soundness.change_good.Tie as tie
-use Rattle.tables.proofs.transaction_soundness.change_good.Reads as reads
-use Rattle.tables.proofs.transaction_soundness.change_good.Lts as lts
-use Rattle.paths.proofs.names.depth.Reads as depth-reads
-use Rattle.paths.proofs.names.fits.Reads as fits-reads
-use Rattle.tables.proofs.transactions.path.Reads as path-reads
-use Rattle.tables.proofs.transactions.removed.Reads as removed-reads
 
--- src/transaction_soundness.rt:130:9
 path-requires : tie.Need-path-requires
 path-requires c κs = c .before .pre
 
--- src/transaction_soundness.rt:131:9
 fits-requires : tie.Need-fits-requires
 fits-requires c κs = path-full _ (change-fits (c .before .before .args .s .now) (c .before .before .args .k) (c .before .before .args .j) (c .before .before .pre)) _ (c .path .ensures)
 
--- src/transaction_soundness.rt:132:9
 returns : tie.Need-returns
 returns c = sym (change-unfit _ (change-fits (c .before .before .before .before .args .s .now) (c .before .before .before .before .args .k) (c .before .before .before .before .args .j) (c .before .before .before .before .pre)) _ (c .before .before .path .ensures) (sym (c .before .fits2 .ensures) ∙ not-true _ (c .if1 .taken)))
 
--- src/transaction_soundness.rt:134:9
 removed-requires : tie.Need-removed-requires
 removed-requires c κs = c .before .before .before .before .pre
 
--- src/transaction_soundness.rt:135:9
 returns-2 : tie.Need-returns-2
 returns-2 c = sym (change-written _ (change-fits (c .before .before .before .before .before .before .args .s .now) (c .before .before .before .before .before .before .args .k) (c .before .before .before .before .before .before .args .j) (c .before .before .before .before .before .before .pre)) _ (c .before .before .before .before .path .ensures) (sym (c .before .before .before .fits2 .ensures) ∙ not-false _ (c .before .before .if1 .left)) (sym (c .before .removed .ensures) ∙ not-true _ (c .if2 .taken)))
 
--- src/transaction_soundness.rt:137:5
 depth-requires : tie.Need-depth-requires
 depth-requires c κs = path-full _ (change-fits (c .before .before .before .before .before .before .args .s .now) (c .before .before .before .before .before .before .args .k) (c .before .before .before .before .before .before .args .j) (c .before .before .before .before .before .before .pre)) _ (c .before .before .before .before .path .ensures)
 
--- src/transaction_soundness.rt:126:1
 returns-3 : tie.Need-returns-3
 returns-3 c = sym (change-removed _ (change-fits (c .before .before .before .before .before .before .before .args .s .now) (c .before .before .before .before .before .before .before .args .k) (c .before .before .before .before .before .before .before .args .j) (c .before .before .before .before .before .before .before .pre)) _ (c .before .before .before .before .before .path .ensures) (sym (c .before .before .before .before .fits2 .ensures) ∙ not-false _ (c .before .before .before .if1 .left)) (sym (c .before .before .removed .ensures) ∙ not-false _ (c .before .if2 .left)) _ (c .depth .ensures))
 

@@ -1,68 +1,50 @@
-use Rattle.tables.proofs.EntriesKept.{change-marked, change-over, change-unfull, change-rest}
-use borrow.Author.Tests.{not-true, not-false}
-use mathlib.Core.Path.{_≡_, refl, sym, ap, _∙_}
+use mathlib.Core.Path.{sym, _∙_}
 use native.Mathlib.Omega.{arith}
+use borrow.Author.Tests.{not-true, not-false}
 use borrow.Author.Needs.{needs}
+use Rattle.tables.proofs.EntriesKept.{change-marked, change-over, change-unfull, change-rest}
 use Rattle.tables.proofs.transaction_soundness.change_kept.Statement.{statement}
 use Rattle.tables.proofs.transaction_soundness.change_kept.Tie as tie
-use Rattle.tables.proofs.transaction_soundness.change_kept.Reads as reads
-use Rattle.tables.proofs.transaction_soundness.change_kept.Lts as lts
-use Rattle.tables.proofs.numbers.two.Reads as two-reads
-use Rattle.tables.proofs.texts.rest_zero.Reads as rest-zero-reads
-use Rattle.tables.proofs.transaction_soundness.is_full.Reads as is-full-reads
 
--- src/transaction_soundness.rt:56:9
 two-requires : tie.Need-two-requires
 two-requires c κs = omega (arith, c .before .pre)
 
--- src/transaction_soundness.rt:58:9
 returns : tie.Need-returns
 returns c = let v = c .before .two .ensures .value in sym (change-marked (c .before .before .before .args .s .now) (c .before .before .before .args .at) (c .before .two .ensures .bytes) (c .before .before .before .pre) (rw v at (c .if1 .taken)))
 
--- src/transaction_soundness.rt:60:13
 cast-n : tie.Need-cast-n
 cast-n c = search needs
 
--- src/transaction_soundness.rt:62:9
 returns-2 : tie.Need-returns-2
 returns-2 c = let v = c .before .before .two .ensures .value in sym (change-over (c .before .before .before .before .args .s .now) (c .before .before .before .before .args .at) (c .before .before .two .ensures .bytes) (c .before .before .before .before .pre) (rw v at (c .if2 .taken)))
 
--- src/transaction_soundness.rt:64:16
 add-from : tie.Need-add-from
 add-from c = omega (arith, c .before .before .before .before .pre)
 
--- src/transaction_soundness.rt:65:26
 add-is-full : tie.Need-add-is-full
 add-is-full c = omega (arith, c .before .before .before .before .pre)
 
--- src/transaction_soundness.rt:65:17
 sub-is-full : tie.Need-sub-is-full
 sub-is-full c = search needs
 
--- src/transaction_soundness.rt:65:17
 part-is-full-start : tie.Need-part-is-full-start
 part-is-full-start c = search needs
 
--- src/transaction_soundness.rt:65:17
 part-is-full-end : tie.Need-part-is-full-end
 part-is-full-end c = omega (arith, c .before .before .before .before .pre)
 
--- src/transaction_soundness.rt:65:9
 is-full-requires : tie.Need-is-full-requires
 is-full-requires c κs = search needs
 
--- src/transaction_soundness.rt:66:9
 returns-3 : tie.Need-returns-3
 returns-3 c =
     let v = c .before .before .before .before .before .two .ensures .value in
     let f = sym (c .before .is-full .ensures) ∙ not-true _ (c .if3 .taken) in
     sym (change-unfull (c .before .before .before .before .before .before .before .args .s .now) (c .before .before .before .before .before .before .before .args .at) (c .before .before .before .before .before .two .ensures .bytes) (c .before .before .before .before .before .before .before .pre) (rw v at (c .before .before .before .if2 .left)) (rw v at f))
 
--- src/transaction_soundness.rt:68:5
 rest-zero-requires : tie.Need-rest-zero-requires
 rest-zero-requires c κs = (c .before .before .before .if2 .left, omega (arith, c .before .before .before .before .before .before .before .pre))
 
--- src/transaction_soundness.rt:52:1
 returns-4 : tie.Need-returns-4
 returns-4 c =
     let v = c .before .before .before .before .before .before .two .ensures .value in

@@ -1,18 +1,14 @@
-use Prim.Native.Nat.{_≤_, _-_, _+_}
+use mathlib.Core.Path.{_≡_, refl, sym, _∙_}
+use Prim.Native.Nat.{_≤_, _-_}
+use native.Mathlib.Omega.{arith}
 use lib.ListN.{drop}
+use borrow.Author.Tests.{not-true, not-false}
 use Rattle.rules.specs.Sound.{goodChanges}
 use Rattle.tables.specs.Transaction.{transactionOf}
+use Rattle.tables.proofs.Bytes.{and-first, and-rest}
 use Rattle.tables.proofs.EntriesGood.{changes-next, changes-over}
-use Rattle.tables.proofs.Bytes.{bytes-known, and-first, and-rest}
-use borrow.Author.Tests.{not-true, not-false}
-use mathlib.Core.Path.{_≡_, refl, sym, ap, _∙_}
-use native.Mathlib.Omega.{arith}
 use Rattle.tables.proofs.transaction_soundness.changes_good.Statement.{statement}
 use Rattle.tables.proofs.transaction_soundness.changes_good.Tie as tie
-use Rattle.tables.proofs.transaction_soundness.changes_good.Reads as reads
-use Rattle.tables.proofs.transaction_soundness.changes_good.Lts as lts
-use Rattle.tables.proofs.transaction_soundness.change_good.Reads as change-good-reads
-use Rattle.tables.proofs.transactions.changes.Reads as changes-reads
 
 abbrev Inv-loop : tie.InvT-loop
 Inv-loop s k n j₀ j = (j ≤ n) × (goodChanges (transactionOf s k .changes) ≡ goodChanges (drop j (transactionOf s k .changes)))
@@ -20,41 +16,33 @@ Inv-loop s k n j₀ j = (j ≤ n) × (goodChanges (transactionOf s k .changes) �
 abbrev μ-loop : tie.MeasureT-loop
 μ-loop s k n j₀ j = n - j
 
--- src/transaction_soundness.rt:144:9
 changes-requires : tie.Need-changes-requires Inv-loop μ-loop
 changes-requires c κs = c .before .pre
 
--- src/transaction_soundness.rt:146:5
 loop-holds : tie.Need-loop-holds Inv-loop μ-loop
 loop-holds c = (omega arith, refl)
 
--- src/transaction_soundness.rt:147:13
 change-good-requires : tie.Need-change-good-requires Inv-loop μ-loop
 change-good-requires c κs = record { place = c .before .before .before .before .pre; there = rw (← c .before .before .changes .ensures .0) (c .loop-test .taken) }
 
--- src/transaction_soundness.rt:148:13
 returns : tie.Need-returns Inv-loop μ-loop
 returns c =
     let b = c .before .before .before in
     let a = b .before .before .before .args in
     sym (b .loop .inv .1 ∙ (changes-next (transactionOf (a .s .now) (a .k) .changes) (b .loop .j) (rw (← b .before .changes .ensures .0) (c .before .before .loop-test .taken)) ∙ and-first _ _ (sym (c .before .change-good .ensures) ∙ not-true _ (c .if1 .taken))))
 
--- src/transaction_soundness.rt:150:9
 add-j : tie.Need-add-j Inv-loop μ-loop
 add-j c = omega arith
 
--- src/transaction_soundness.rt:146:5
 loop-less : tie.Need-loop-less Inv-loop μ-loop
 loop-less c = omega arith
 
--- src/transaction_soundness.rt:146:5
 loop-again : tie.Need-loop-again Inv-loop μ-loop
 loop-again c =
     let b = c .before .before .before in
     let a = b .before .before .before .args in
     (omega arith, b .loop .inv .1 ∙ (changes-next (transactionOf (a .s .now) (a .k) .changes) (b .loop .j) (rw (← b .before .changes .ensures .0) (c .before .before .loop-test .taken)) ∙ and-rest _ _ (sym (c .before .change-good .ensures) ∙ not-false _ (c .if1 .left))))
 
--- src/transaction_soundness.rt:140:1
 returns-2 : tie.Need-returns-2 Inv-loop μ-loop
 returns-2 c =
     let b = c .before in

@@ -1,16 +1,13 @@
-use Prim.Native.Nat.{_≤_, _-_, _+_, _*_}
-use lib.ListN.{take, drop}
-use Rattle.tables.specs.Entries.{changesKept}
-use Rattle.tables.proofs.EntriesKept.{changesRest, changes-start, changes-next, changes-end}
-use Rattle.tables.proofs.Bytes.{bytes-known, and-first, and-rest}
-use borrow.Author.Tests.{not-true, not-false}
-use mathlib.Core.Path.{_≡_, refl, sym, ap, _∙_}
+use mathlib.Core.Path.{_≡_, sym, _∙_}
+use Prim.Native.Nat.{_≤_, _-_, _*_}
 use native.Mathlib.Omega.{arith}
+use lib.ListN.{take, drop}
+use borrow.Author.Tests.{not-true, not-false}
+use Rattle.tables.specs.Entries.{changesKept}
+use Rattle.tables.proofs.Bytes.{and-first, and-rest}
+use Rattle.tables.proofs.EntriesKept.{changesRest, changes-start, changes-next, changes-end}
 use Rattle.tables.proofs.transaction_soundness.changes_kept.Statement.{statement}
 use Rattle.tables.proofs.transaction_soundness.changes_kept.Tie as tie
-use Rattle.tables.proofs.transaction_soundness.changes_kept.Reads as reads
-use Rattle.tables.proofs.transaction_soundness.changes_kept.Lts as lts
-use Rattle.tables.proofs.transaction_soundness.change_kept.Reads as change-kept-reads
 
 abbrev Inv-loop : tie.InvT-loop
 Inv-loop s at n j₀ j = (j ≤ n) × (changesKept n (take (n * 266) (drop at s)) ≡ changesRest n (take (n * 266) (drop at s)) j)
@@ -18,45 +15,36 @@ Inv-loop s at n j₀ j = (j ≤ n) × (changesKept n (take (n * 266) (drop at s)
 abbrev μ-loop : tie.MeasureT-loop
 μ-loop s at n j₀ j = n - j
 
--- src/transaction_soundness.rt:77:5
 loop-holds : tie.Need-loop-holds Inv-loop μ-loop
 loop-holds c = let a = c .before .args in (omega arith, changes-start (a .n) _)
 
--- src/transaction_soundness.rt:78:33
 mul-change-kept : tie.Need-mul-change-kept Inv-loop μ-loop
 mul-change-kept c = let p = c .before .before .before .pre in omega arith
 
--- src/transaction_soundness.rt:78:28
 add-change-kept : tie.Need-add-change-kept Inv-loop μ-loop
 add-change-kept c = let p = c .before .before .before .pre in omega arith
 
--- src/transaction_soundness.rt:78:13
 change-kept-requires : tie.Need-change-kept-requires Inv-loop μ-loop
 change-kept-requires c κs = let p = c .before .before .before .pre in omega arith
 
--- src/transaction_soundness.rt:79:13
 returns : tie.Need-returns Inv-loop μ-loop
 returns c =
     let b = c .before .before .before in
     let a = b .before .before .args in
     sym (b .loop .inv .1 ∙ (changes-next (a .s .now) (a .at) (a .n) (b .before .before .pre .1) (b .loop .j) (c .before .before .loop-test .taken) ∙ and-first _ _ (sym (c .before .change-kept .ensures) ∙ not-true _ (c .if1 .taken))))
 
--- src/transaction_soundness.rt:81:9
 add-j : tie.Need-add-j Inv-loop μ-loop
 add-j c = let p = c .before .before .before .before .before .pre in omega arith
 
--- src/transaction_soundness.rt:77:5
 loop-less : tie.Need-loop-less Inv-loop μ-loop
 loop-less c = omega arith
 
--- src/transaction_soundness.rt:77:5
 loop-again : tie.Need-loop-again Inv-loop μ-loop
 loop-again c =
     let b = c .before .before .before in
     let a = b .before .before .args in
     (omega arith, b .loop .inv .1 ∙ (changes-next (a .s .now) (a .at) (a .n) (b .before .before .pre .1) (b .loop .j) (c .before .before .loop-test .taken) ∙ and-rest _ _ (sym (c .before .change-kept .ensures) ∙ not-false _ (c .if1 .left))))
 
--- src/transaction_soundness.rt:72:1
 returns-2 : tie.Need-returns-2 Inv-loop μ-loop
 returns-2 c =
     let b = c .before in

@@ -1,25 +1,18 @@
-use Rattle.tables.proofs.TransactionLaws.{changes-read, open-fits}
-use mathlib.Core.Path.{_≡_, refl, sym, ap, _∙_}
 use native.Mathlib.Omega.{arith}
 use borrow.Author.Needs.{needs}
+use Rattle.tables.proofs.TransactionLaws.{changes-read, open-fits}
 use Rattle.tables.proofs.transactions.changes.Statement.{statement}
 use Rattle.tables.proofs.transactions.changes.Tie as tie
-use Rattle.tables.proofs.transactions.changes.Reads as reads
-use Rattle.tables.proofs.transactions.changes.Lts as lts
 
--- src/transactions.rt:52:8
 mul-result : tie.Need-mul-result
 mul-result c = omega (arith, c .pre .below)
 
--- src/transactions.rt:52:6
 shared-slice-read-result : tie.Need-shared-slice-read-result
 shared-slice-read-result c = omega (arith, c .before .pre .below, c .before .pre .kept .whole)
 
--- src/transactions.rt:52:5
 cast-result : tie.Need-cast-result
 cast-result c = search needs
 
--- src/transactions.rt:48:1
 returns : tie.Need-returns
 returns c =
     let b = c .before in

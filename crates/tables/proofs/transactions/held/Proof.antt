@@ -1,30 +1,20 @@
-use Rattle.tables.proofs.Search.{passes-free, passes-taken}
+use mathlib.Core.Path.{sym, ap, _∙_}
 use lib.Dec.{eqb}
-use Rattle.tables.specs.Transaction.{heldBy, opened}
 use borrow.Author.Tests.{not-true, not-false}
-use mathlib.Core.Path.{_≡_, refl, sym, ap, _∙_}
-use native.Mathlib.Omega.{arith}
-use borrow.Author.Needs.{needs}
+use Rattle.tables.specs.Transaction.{heldBy, opened}
+use Rattle.tables.proofs.Search.{passes-free, passes-taken}
 use Rattle.tables.proofs.transactions.held.Statement.{statement}
 use Rattle.tables.proofs.transactions.held.Tie as tie
-use Rattle.tables.proofs.transactions.held.Reads as reads
-use Rattle.tables.proofs.transactions.held.Lts as lts
-use Rattle.tables.proofs.transactions.holder.Reads as holder-reads
-use Rattle.tables.proofs.transactions.is_open.Reads as is-open-reads
 
--- src/transactions.rt:60:9
 is-open-requires : tie.Need-is-open-requires
 is-open-requires c κs = let b = c .before in (b .pre .0, b .pre .1 .whole)
 
--- src/transactions.rt:61:9
 returns : tie.Need-returns
 returns c = sym (passes-free _ _ (sym (c .before .is-open .ensures) ∙ not-true _ (c .if1 .taken)))
 
--- src/transactions.rt:63:10
 holder-requires : tie.Need-holder-requires
 holder-requires c κs = let b = c .before .before .before in record { below = b .pre .0; kept = b .pre .1; used = sym (c .before .is-open .ensures) ∙ not-false _ (c .if1 .left) }
 
--- src/transactions.rt:56:1
 returns-2 : tie.Need-returns-2
 unfolding heldBy
 returns-2 c =

@@ -1,26 +1,18 @@
-use Rattle.tables.proofs.TransactionLaws.{holder-read}
-use mathlib.Core.Path.{_≡_, refl, sym, ap, _∙_}
 use native.Mathlib.Omega.{arith}
 use borrow.Author.Needs.{needs}
+use Rattle.tables.proofs.TransactionLaws.{holder-read}
 use Rattle.tables.proofs.transactions.holder.Statement.{statement}
 use Rattle.tables.proofs.transactions.holder.Tie as tie
-use Rattle.tables.proofs.transactions.holder.Reads as reads
-use Rattle.tables.proofs.transactions.holder.Lts as lts
-use Rattle.tables.proofs.numbers.two.Reads as two-reads
 
--- src/transactions.rt:37:12
 mul-two : tie.Need-mul-two
 mul-two c = search needs
 
--- src/transactions.rt:37:12
 add-two : tie.Need-add-two
 add-two c = search needs
 
--- src/transactions.rt:37:5
 two-requires : tie.Need-two-requires
 two-requires c κs = let b = c .before in omega (arith, b .pre .below, b .pre .kept .whole)
 
--- src/transactions.rt:33:1
 returns : tie.Need-returns
 returns c = let b = c .before .before in holder-read (b .args .s .now) (b .args .k) (b .pre .below) (c .two .ensures .bytes) (b .pre .kept .whole) (b .pre .used) _ (c .two .ensures)
 

@@ -1,20 +1,15 @@
-use Rattle.tables.proofs.TransactionLaws.{used-byte}
-use Rattle.tables.proofs.Bytes.{bytes-known}
 use borrow.Author.Needs.{needs}
+use Rattle.tables.proofs.Bytes.{bytes-known}
+use Rattle.tables.proofs.TransactionLaws.{used-byte}
 use Rattle.tables.proofs.transactions.is_open.Statement.{statement}
 use Rattle.tables.proofs.transactions.is_open.Tie as tie
-use Rattle.tables.proofs.transactions.is_open.Reads as reads
-use Rattle.tables.proofs.transactions.is_open.Lts as lts
 
--- src/transactions.rt:30:14
 mul-result : tie.Need-mul-result
 mul-result c = search needs
 
--- src/transactions.rt:30:12
 shared-slice-read-result : tie.Need-shared-slice-read-result
 shared-slice-read-result c = search needs
 
--- src/transactions.rt:26:1
 returns : tie.Need-returns
 returns c = let a = c .before .args in used-byte (a .s .now) (a .k) (c .before .pre .0) (bytes-known (a .s .now) (c .shared-slice-known .given)) (c .before .pre .1)
 

@@ -1,58 +1,42 @@
-use Rattle.tables.proofs.ChangeLaws.{place-within, length-read, path-read, change-fits}
-use mathlib.Core.Path.{_≡_, refl, sym, ap, _∙_}
 use native.Mathlib.Omega.{arith}
 use borrow.Author.Needs.{needs}
+use Rattle.tables.proofs.ChangeLaws.{place-within, length-read, path-read, change-fits}
 use Rattle.tables.proofs.transactions.path.Statement.{statement}
 use Rattle.tables.proofs.transactions.path.Tie as tie
-use Rattle.tables.proofs.transactions.path.Reads as reads
-use Rattle.tables.proofs.transactions.path.Lts as lts
-use Rattle.tables.proofs.numbers.two.Reads as two-reads
 
--- src/transactions.rt:71:14
 mul-at : tie.Need-mul-at
 mul-at c = omega (arith, c .before .pre .place .below)
 
--- src/transactions.rt:71:14
 add-at : tie.Need-add-at
 add-at c = omega (arith, c .before .pre .place .below)
 
--- src/transactions.rt:71:50
 mul-at-2 : tie.Need-mul-at-2
 mul-at-2 c = omega (arith, place-within (c .before .args .s .now) (c .before .args .k) (c .before .args .j) (c .before .pre))
 
--- src/transactions.rt:71:14
 add-at-2 : tie.Need-add-at-2
 add-at-2 c = omega (arith, place-within (c .before .args .s .now) (c .before .args .k) (c .before .args .j) (c .before .pre))
 
--- src/transactions.rt:72:14
 two-requires : tie.Need-two-requires
 two-requires c κs = omega (arith, place-within (c .before .args .s .now) (c .before .args .k) (c .before .args .j) (c .before .pre))
 
--- src/transactions.rt:72:13
 cast-n : tie.Need-cast-n
 cast-n c = search needs
 
--- src/transactions.rt:73:16
 add-from : tie.Need-add-from
 add-from c = omega (arith, place-within (c .before .before .args .s .now) (c .before .before .args .k) (c .before .before .args .j) (c .before .before .pre))
 
--- src/transactions.rt:74:14
 add-result : tie.Need-add-result
 add-result c = omega (arith, place-within (c .before .before .args .s .now) (c .before .before .args .k) (c .before .before .args .j) (c .before .before .pre))
 
--- src/transactions.rt:74:5
 sub-result : tie.Need-sub-result
 sub-result c = search needs
 
--- src/transactions.rt:74:5
 part-result-start : tie.Need-part-result-start
 part-result-start c = search needs
 
--- src/transactions.rt:74:5
 part-result-end : tie.Need-part-result-end
 part-result-end c = let b = c .before .before in omega (arith, place-within (c .before .before .args .s .now) (c .before .before .args .k) (c .before .before .args .j) (c .before .before .pre), length-read (b .args .s .now) (b .args .k) (b .args .j) (b .pre) _ (c .two .ensures), change-fits (b .args .s .now) (b .args .k) (b .args .j) (b .pre) .short)
 
--- src/transactions.rt:67:1
 returns : tie.Need-returns
 returns c = let b = c .before .before .before in path-read (b .args .s .now) (b .args .k) (b .args .j) (b .pre) _ (length-read (b .args .s .now) (b .args .k) (b .args .j) (b .pre) _ (c .before .two .ensures))
 

@@ -1,33 +1,23 @@
-use Rattle.tables.proofs.ChangeLaws.{place-within, removed-read}
-use mathlib.Core.Path.{_≡_, refl, sym, ap, _∙_}
 use native.Mathlib.Omega.{arith}
-use borrow.Author.Needs.{needs}
+use Rattle.tables.proofs.ChangeLaws.{place-within, removed-read}
 use Rattle.tables.proofs.transactions.removed.Statement.{statement}
 use Rattle.tables.proofs.transactions.removed.Tie as tie
-use Rattle.tables.proofs.transactions.removed.Reads as reads
-use Rattle.tables.proofs.transactions.removed.Lts as lts
 
--- src/transactions.rt:63:14
 mul-result : tie.Need-mul-result
 mul-result c = omega (arith, c .pre .place .below)
 
--- src/transactions.rt:63:14
 add-result : tie.Need-add-result
 add-result c = omega (arith, c .pre .place .below)
 
--- src/transactions.rt:63:50
 mul-result-2 : tie.Need-mul-result-2
 mul-result-2 c = omega (arith, place-within (c .args .s .now) (c .args .k) (c .args .j) (c .pre))
 
--- src/transactions.rt:63:14
 add-result-2 : tie.Need-add-result-2
 add-result-2 c = omega (arith, place-within (c .args .s .now) (c .args .k) (c .args .j) (c .pre))
 
--- src/transactions.rt:63:12
 shared-slice-read-result : tie.Need-shared-slice-read-result
 shared-slice-read-result c = omega (arith, place-within (c .before .args .s .now) (c .before .args .k) (c .before .args .j) (c .before .pre))
 
--- src/transactions.rt:59:1
 returns : tie.Need-returns
 returns c = let b = c .before in removed-read (b .args .s .now) (b .args .k) (b .args .j) (b .pre)
 

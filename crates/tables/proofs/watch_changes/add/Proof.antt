@@ -1,56 +1,39 @@
+use mathlib.Core.Path.{ap, _∙_}
 use Prim.Native.Nat.{_+_, _*_}
-use lib.ListN.{length}
-use Rattle.rules.specs.Octets.{paste}
-use Rattle.tables.proofs.WatchChanges.{put-watch}
-use mathlib.Core.Path.{_≡_, refl, sym, ap, _∙_}
 use native.Mathlib.Omega.{arith}
 use borrow.Author.Needs.{needs}
+use Rattle.rules.specs.Octets.{paste}
+use Rattle.tables.proofs.WatchChanges.{put-watch}
 use Rattle.tables.proofs.watch_changes.add.Statement.{statement}
 use Rattle.tables.proofs.watch_changes.add.Tie as tie
-use Rattle.tables.proofs.watch_changes.add.Reads as reads
-use Rattle.tables.proofs.watch_changes.add.Lts as lts
-use Rattle.tables.proofs.texts.put_text.Reads as put-text-reads
-use Rattle.tables.proofs.watch_changes.levels.Reads as levels-reads
-use Rattle.tables.proofs.watch_changes.marks.Reads as marks-reads
-use Rattle.tables.proofs.watch_changes.put_fields.Reads as put-fields-reads
 
--- src/watch_changes.rt:81:14
 mul-at : tie.Need-mul-at
 mul-at c = search needs
 
--- src/watch_changes.rt:82:17
 add-put-text : tie.Need-add-put-text
 add-put-text c = search needs
 
--- src/watch_changes.rt:82:5
 put-text-requires : tie.Need-put-text-requires
 put-text-requires c κs = let b = c .before .before .before .before in (omega (arith, b .pre .1 .whole, b .pre .0), b .pre .2 .few)
 
--- src/watch_changes.rt:83:17
 add-put-text-2 : tie.Need-add-put-text-2
 add-put-text-2 c = search needs
 
--- src/watch_changes.rt:83:5
 put-text-requires-2 : tie.Need-put-text-requires-2
 put-text-requires-2 c κs = let b = c .before .before .before .before .before .before .before .before in (omega (arith, b .pre .1 .whole, b .pre .0), b .pre .2 .path)
 
--- src/watch_changes.rt:84:23
 marks-requires : tie.Need-marks-requires
 marks-requires c κs = search needs
 
--- src/watch_changes.rt:84:47
 levels-requires : tie.Need-levels-requires
 levels-requires c κs = search needs
 
--- src/watch_changes.rt:84:5
 put-fields-requires : tie.Need-put-fields-requires
 put-fields-requires c κs = let b = c .before .before .before .before .before .before .before .before .before .before .before .before .before .before in (omega (arith, b .pre .1 .whole, b .pre .0), b .pre .2 .few)
 
--- src/watch_changes.rt:77:1
 same-length : tie.Need-same-length
 same-length c = search needs
 
--- src/watch_changes.rt:77:1
 returns : tie.Need-returns
 returns c =
     let b = c .before .before .before .before .before .before .before .before .before .before .before .before .before .before .before .before .before in

@@ -1,43 +1,32 @@
-use Rattle.tables.specs.Watch.{ownedBy}
-use Rattle.tables.proofs.WatchChanges.{freed-watch, left-watch}
-use mathlib.Core.Path.{_≡_, refl, sym, ap, _∙_}
+use mathlib.Core.Path.{sym, _∙_}
 use native.Mathlib.Omega.{arith}
 use borrow.Author.Needs.{needs}
+use Rattle.tables.specs.Watch.{ownedBy}
+use Rattle.tables.proofs.WatchChanges.{freed-watch, left-watch}
 use Rattle.tables.proofs.watch_changes.free_owned.Statement.{statement}
 use Rattle.tables.proofs.watch_changes.free_owned.Tie as tie
-use Rattle.tables.proofs.watch_changes.free_owned.Reads as reads
-use Rattle.tables.proofs.watch_changes.free_owned.Lts as lts
-use Rattle.octets.proofs.parts.clear.Reads as clear-reads
-use Rattle.tables.proofs.watches.owned.Reads as owned-reads
 
--- src/watch_changes.rt:114:8
 owned-requires : tie.Need-owned-requires
 owned-requires c κs = let b = c .before .before in (b .pre .0, b .pre .1)
 
--- src/watch_changes.rt:115:18
 mul-clear : tie.Need-mul-clear
 mul-clear c = search needs
 
--- src/watch_changes.rt:115:9
 clear-requires : tie.Need-clear-requires
 clear-requires c κs = let b = c .before .before .before .before .before in omega (arith, b .pre .1 .whole)
 
--- src/watch_changes.rt:110:1
 same-length : tie.Need-same-length
 same-length c = search needs
 
--- src/watch_changes.rt:110:1
 returns : tie.Need-returns
 returns c =
     let b = c .before .before .before .before .before .before .before .before in
     c .before .before .clear .ensures
     ∙ freed-watch (b .args .s .now) (b .pre .1) (b .args .k) (b .pre .0) (ownedBy (b .args .c)) (sym (c .before .before .before .before .before .owned .ensures) ∙ c .before .before .before .before .if1 .taken)
 
--- src/watch_changes.rt:110:1
 same-length-2 : tie.Need-same-length-2
 same-length-2 c = search needs
 
--- src/watch_changes.rt:110:1
 returns-2 : tie.Need-returns-2
 returns-2 c =
     let b = c .before .before .before .before in

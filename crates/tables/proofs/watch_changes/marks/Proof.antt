@@ -1,38 +1,29 @@
-use Rattle.tables.proofs.WatchChanges.{marks-are}
-use Rattle.tables.specs.Watch.{depthMeant}
-use Rattle.tables.specs.Entry.{taken}
-use mathlib.Core.Path.{_≡_, refl, sym, ap, _∙_}
-use native.Mathlib.Omega.{arith}
+use mathlib.Core.Path.{ap}
 use borrow.Author.Needs.{needs}
+use Rattle.tables.specs.Entry.{taken}
+use Rattle.tables.specs.Watch.{depthMeant}
+use Rattle.tables.proofs.WatchChanges.{marks-are}
 use Rattle.tables.proofs.watch_changes.marks.Statement.{statement}
 use Rattle.tables.proofs.watch_changes.marks.Tie as tie
-use Rattle.tables.proofs.watch_changes.marks.Reads as reads
-use Rattle.tables.proofs.watch_changes.marks.Lts as lts
 
--- src/watch_changes.rt:37:16
 enum-told : tie.Need-enum-told
 enum-told c = search needs
 
--- src/watch_changes.rt:44:16
 enum-told-2 : tie.Need-enum-told-2
 enum-told-2 c = search needs
 
--- src/watch_changes.rt:32:1
 returns : tie.Need-returns
 unfolding taken
 returns c = marks-are _ _ (c .if1 .taken) (ap (λ d. taken (depthMeant d)) (c .before .enum-told .given .1))
 
--- src/watch_changes.rt:32:1
 returns-2 : tie.Need-returns-2
 unfolding taken
 returns-2 c = marks-are _ _ (c .if1 .left) (ap (λ d. taken (depthMeant d)) (c .before .enum-told .given .1))
 
--- src/watch_changes.rt:32:1
 returns-3 : tie.Need-returns-3
 unfolding taken
 returns-3 c = marks-are _ _ (c .if2 .taken) (ap (λ d. taken (depthMeant d)) (c .before .enum-told2 .given .1))
 
--- src/watch_changes.rt:32:1
 returns-4 : tie.Need-returns-4
 unfolding taken
 returns-4 c = marks-are _ _ (c .if2 .left) (ap (λ d. taken (depthMeant d)) (c .before .enum-told2 .given .1))

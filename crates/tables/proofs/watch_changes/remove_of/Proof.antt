@@ -1,20 +1,16 @@
+use mathlib.Core.Path.{_≡_, refl, sym, ap, _∙_}
+use Prim.Native.Nat.{_≤_, _-_}
+use native.Mathlib.Omega.{arith}
+use Rattle.rules.specs.Layout.{watchesOf, watchesBytes}
 use Rattle.rules.specs.World.{withoutWatches}
+use Rattle.tables.specs.Entry.{droppedIf}
 use Rattle.tables.specs.Watch.{ownedBy}
+use Rattle.tables.specs.Kept.{KeptWatches}
+use Rattle.tables.proofs.Search.{swept, without-swept}
 use Rattle.tables.proofs.WatchChanges.{kept-watches, swept-watch}
 use Rattle.tables.proofs.WatchLaws.{length-watchesOf}
-use Rattle.tables.proofs.Search.{swept, without-swept}
-use Rattle.tables.specs.Kept.{KeptWatches}
-use Rattle.tables.specs.Entry.{droppedIf}
-use Rattle.rules.specs.Layout.{watchesOf, watchesBytes}
-use lib.ListN.{length}
-use Prim.Native.Nat.{_≤_, _-_, _+_}
-use mathlib.Core.Path.{_≡_, refl, sym, ap, _∙_}
-use native.Mathlib.Omega.{arith}
 use Rattle.tables.proofs.watch_changes.remove_of.Statement.{statement}
 use Rattle.tables.proofs.watch_changes.remove_of.Tie as tie
-use Rattle.tables.proofs.watch_changes.remove_of.Reads as reads
-use Rattle.tables.proofs.watch_changes.remove_of.Lts as lts
-use Rattle.tables.proofs.watch_changes.free_owned.Reads as free-owned-reads
 
 abbrev Inv-loop : tie.InvT-loop
 Inv-loop s₀ c i₀ s i = (i ≤ 16) × KeptWatches s × (watchesOf s ≡ swept (droppedIf (ownedBy c)) i (watchesOf s₀))
@@ -22,23 +18,18 @@ Inv-loop s₀ c i₀ s i = (i ≤ 16) × KeptWatches s × (watchesOf s ≡ swept
 abbrev μ-loop : tie.MeasureT-loop
 μ-loop s₀ c i₀ s i = 16 - i
 
--- src/watch_changes.rt:125:5
 loop-holds : tie.Need-loop-holds Inv-loop μ-loop
 loop-holds c = (omega arith, c .before .pre, refl)
 
--- src/watch_changes.rt:126:9
 free-owned-requires : tie.Need-free-owned-requires Inv-loop μ-loop
 free-owned-requires c κs = (c .before .loop-test .taken, c .before .before .loop .inv .1)
 
--- src/watch_changes.rt:127:9
 add-i : tie.Need-add-i Inv-loop μ-loop
 add-i c = omega arith
 
--- src/watch_changes.rt:125:5
 loop-less : tie.Need-loop-less Inv-loop μ-loop
 loop-less c = omega arith
 
--- src/watch_changes.rt:125:5
 loop-again : tie.Need-loop-again Inv-loop μ-loop
 loop-again c =
     let b = c .before .before .before .before .before in
@@ -46,11 +37,9 @@ loop-again c =
     let next = swept-watch (b .loop .s) (b .loop .inv .1) (b .loop .i) (c .before .before .before .before .loop-test .taken) (ownedBy (a .c)) (watchesOf (a .s .now)) (b .loop .inv .2) _ (c .before .before .free-owned .ensures) in
     (omega arith, next .0, next .1)
 
--- src/watch_changes.rt:120:1
 same-length : tie.Need-same-length Inv-loop μ-loop
 same-length c = omega (arith, c .before .loop .inv .1 .whole, c .before .before .before .pre .whole)
 
--- src/watch_changes.rt:120:1
 returns : tie.Need-returns Inv-loop μ-loop
 unfolding withoutWatches ownedBy
 returns c =

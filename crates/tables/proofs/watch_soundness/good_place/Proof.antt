@@ -1,87 +1,64 @@
-use Rattle.tables.specs.Watch.{depthMeant}
+use mathlib.Core.Path.{sym, ap, _∙_}
+use borrow.Author.Tests.{not-true, not-false}
+use borrow.Author.Needs.{needs}
 use Rattle.rules.specs.Sound.{eventDepth}
+use Rattle.paths.proofs.FormLaws.{form-absolute, form-special, form-relative, form-malformed}
+use Rattle.tables.specs.Watch.{depthMeant}
 use Rattle.tables.proofs.WatchKept.{place-relative, place-malformed}
 use Rattle.tables.proofs.WatchGood.{good-unfit, good-plain, good-relative, good-foreign, good-event, good-nowhere}
-use Rattle.paths.proofs.FormLaws.{form-absolute, form-special, form-relative, form-malformed}
-use borrow.Author.Tests.{not-true, not-false}
-use mathlib.Core.Path.{_≡_, refl, sym, ap, _∙_}
-use native.Mathlib.Omega.{arith}
-use borrow.Author.Needs.{needs}
 use Rattle.tables.proofs.watch_soundness.good_place.Statement.{statement}
 use Rattle.tables.proofs.watch_soundness.good_place.Tie as tie
-use Rattle.tables.proofs.watch_soundness.good_place.Reads as reads
-use Rattle.tables.proofs.watch_soundness.good_place.Lts as lts
-use Rattle.paths.proofs.form.form.Reads as form-reads
-use Rattle.paths.proofs.names.fits.Reads as fits-reads
-use Rattle.tables.proofs.watch_soundness.below_base.Reads as below-base-reads
 
--- src/watch_soundness.rt:169:11
 form-requires : tie.Need-form-requires
 form-requires c κs = search needs
 
--- src/watch_soundness.rt:171:17
 enum-told : tie.Need-enum-told
 enum-told c = search needs
 
--- src/watch_soundness.rt:171:17
 fits-requires : tie.Need-fits-requires
 fits-requires c κs = (form-absolute _ (sym (c .before .before .form .ensures) ∙ c .enum-told .given .1))
 
--- src/watch_soundness.rt:172:17
 returns : tie.Need-returns
 returns c = sym (good-unfit _ _ _ _ (form-absolute _ (sym (c .before .before .before .before .form .ensures) ∙ c .before .before .enum-told .given .1)) (sym (c .before .fits2 .ensures) ∙ not-true _ (c .if1 .taken)))
 
--- src/watch_soundness.rt:175:17
 returns-2 : tie.Need-returns-2
 returns-2 c = sym (good-plain _ _ _ _ (form-absolute _ (sym (c .before .before .before .before .before .form .ensures) ∙ c .before .before .before .enum-told .given .1)) (sym (c .before .before .fits2 .ensures) ∙ not-false _ (c .before .if1 .left)) (not-true _ (c .if2 .taken)))
 
--- src/watch_soundness.rt:177:13
 below-base-requires : tie.Need-below-base-requires
 below-base-requires c κs = (form-absolute _ (sym (c .before .before .before .before .before .form .ensures) ∙ c .before .before .before .enum-told .given .1))
 
--- src/watch_soundness.rt:180:16
 enum-told-2 : tie.Need-enum-told-2
 enum-told-2 c = search needs
 
--- src/watch_soundness.rt:181:17
 returns-3 : tie.Need-returns-3
 returns-3 c = sym (good-foreign _ _ _ _ (form-special _ (sym (c .before .before .before .form .ensures) ∙ c .before .enum-told2 .given .1)) (c .if3 .taken))
 
--- src/watch_soundness.rt:184:27
 enum-known-depth : tie.Need-enum-known-depth
 enum-known-depth c = search needs
 
--- src/watch_soundness.rt:185:31
 enum-told-3 : tie.Need-enum-told-3
 enum-told-3 c = search needs
 
--- src/watch_soundness.rt:188:27
 enum-told-4 : tie.Need-enum-told-4
 enum-told-4 c = search needs
 
--- src/watch_soundness.rt:189:28
 enum-told-5 : tie.Need-enum-told-5
 enum-told-5 c = search needs
 
--- src/watch_soundness.rt:166:1
 returns-4 : tie.Need-returns-4
 returns-4 c = c .below-base .ensures ∙ sym (good-relative _ _ _ _ (form-absolute _ (sym (c .before .before .before .before .before .before .form .ensures) ∙ c .before .before .before .before .enum-told .given .1)) (sym (c .before .before .before .fits2 .ensures) ∙ not-false _ (c .before .before .if1 .left)) (not-false _ (c .before .if2 .left)))
 
--- src/watch_soundness.rt:166:1
 returns-5 : tie.Need-returns-5
 unfolding eventDepth
 returns-5 c = sym (good-event _ _ _ _ (form-special _ (sym (c .before .before .before .before .before .before .form .ensures) ∙ c .before .before .before .before .enum-told2 .given .1)) (c .before .before .before .if3 .left) ∙ ap (λ d. eventDepth (depthMeant d)) (c .before .depth .given .1))
 
--- src/watch_soundness.rt:166:1
 returns-6 : tie.Need-returns-6
 unfolding eventDepth
 returns-6 c = sym (good-event _ _ _ _ (form-special _ (sym (c .before .before .before .before .before .form .ensures) ∙ c .before .before .before .enum-told2 .given .1)) (c .before .before .if3 .left) ∙ ap (λ d. eventDepth (depthMeant d)) (c .enum-told3 .given .1))
 
--- src/watch_soundness.rt:166:1
 returns-7 : tie.Need-returns-7
 returns-7 c = sym (good-nowhere _ _ _ _ (place-relative _ _ (form-relative _ (sym (c .before .before .form .ensures) ∙ c .enum-told4 .given .1))))
 
--- src/watch_soundness.rt:166:1
 returns-8 : tie.Need-returns-8
 returns-8 c = sym (good-nowhere _ _ _ _ (place-malformed _ _ (form-malformed _ (sym (c .before .before .form .ensures) ∙ c .enum-told5 .given .1))))
 

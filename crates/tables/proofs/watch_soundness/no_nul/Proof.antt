@@ -1,16 +1,14 @@
-use Rattle.rules.specs.Sound.{noNul}
-use lib.ListN.{length, drop}
-use mathlib.Core.Bool.{not}
-use Prim.Native.Nat.{_≤_, _-_, _+_}
-use Rattle.tables.proofs.WatchGood.{nul-next, nul-over}
-use borrow.Author.Tests.{eq-eqb, ne-eqb, le-leb, lt-leb}
-use Rattle.tables.proofs.Bytes.{bytes-known, and-first, and-rest}
 use mathlib.Core.Path.{_≡_, refl, sym, ap, _∙_}
+use mathlib.Core.Bool.{not}
+use Prim.Native.Nat.{_≤_, _-_}
 use native.Mathlib.Omega.{arith}
+use lib.ListN.{length, drop}
+use borrow.Author.Tests.{eq-eqb, ne-eqb}
+use Rattle.rules.specs.Sound.{noNul}
+use Rattle.tables.proofs.Bytes.{and-first, and-rest}
+use Rattle.tables.proofs.WatchGood.{nul-next, nul-over}
 use Rattle.tables.proofs.watch_soundness.no_nul.Statement.{statement}
 use Rattle.tables.proofs.watch_soundness.no_nul.Tie as tie
-use Rattle.tables.proofs.watch_soundness.no_nul.Reads as reads
-use Rattle.tables.proofs.watch_soundness.no_nul.Lts as lts
 
 abbrev Inv-loop : tie.InvT-loop
 Inv-loop t i₀ i = (i ≤ length t) × (noNul t ≡ noNul (drop i t))
@@ -18,37 +16,30 @@ Inv-loop t i₀ i = (i ≤ length t) × (noNul t ≡ noNul (drop i t))
 abbrev μ-loop : tie.MeasureT-loop
 μ-loop t i₀ i = length t - i
 
--- src/watch_soundness.rt:146:5
 loop-holds : tie.Need-loop-holds Inv-loop μ-loop
 loop-holds c = (omega arith, refl)
 
--- src/watch_soundness.rt:147:12
 shared-slice-read-if1 : tie.Need-shared-slice-read-if1 Inv-loop μ-loop
 shared-slice-read-if1 c = omega arith
 
--- src/watch_soundness.rt:148:13
 returns : tie.Need-returns Inv-loop μ-loop
 returns c =
     let b = c .before .before .before in
     let t = b .before .args .t .now in
     sym (b .loop .inv .1 ∙ (nul-next t (b .loop .i) (c .before .before .loop-test .taken) ∙ and-first _ _ (ap not (eq-eqb _ _ (c .if1 .taken)))))
 
--- src/watch_soundness.rt:150:9
 add-i : tie.Need-add-i Inv-loop μ-loop
 add-i c = omega arith
 
--- src/watch_soundness.rt:146:5
 loop-less : tie.Need-loop-less Inv-loop μ-loop
 loop-less c = omega arith
 
--- src/watch_soundness.rt:146:5
 loop-again : tie.Need-loop-again Inv-loop μ-loop
 loop-again c =
     let b = c .before .before .before in
     let t = b .before .args .t .now in
     (omega arith, b .loop .inv .1 ∙ (nul-next t (b .loop .i) (c .before .before .loop-test .taken) ∙ and-rest _ _ (ap not (ne-eqb _ _ (c .if1 .left)))))
 
--- src/watch_soundness.rt:142:1
 returns-2 : tie.Need-returns-2 Inv-loop μ-loop
 returns-2 c =
     let b = c .before in

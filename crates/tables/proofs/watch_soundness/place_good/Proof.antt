@@ -1,93 +1,63 @@
+use mathlib.Core.Path.{sym, ap, _∙_}
 use mathlib.Core.Bool.{not}
-use Prim.Native.Nat.{_+_}
-use lib.ListN.{drop}
-use Rattle.rules.specs.Layout.{domainsOf, watchesOf}
-use Rattle.rules.specs.Sound.{known, noNul, watched}
-use Rattle.tables.proofs.WatchGood.{good-free, good-unknown, good-nul, good-misplaced, good-placed, place-agree}
-use Rattle.tables.proofs.Bytes.{bytes-known, and-first, and-rest}
-use borrow.Author.Tests.{not-true, not-false}
-use mathlib.Core.Path.{_≡_, refl, sym, ap, _∙_}
 use native.Mathlib.Omega.{arith}
+use borrow.Author.Tests.{not-true, not-false}
 use borrow.Author.Needs.{needs}
+use Rattle.rules.specs.Layout.{domainsOf}
+use Rattle.rules.specs.Sound.{known, noNul}
+use Rattle.tables.proofs.Bytes.{bytes-known}
+use Rattle.tables.proofs.WatchGood.{good-free, good-unknown, good-nul, good-misplaced, good-placed, place-agree}
 use Rattle.tables.proofs.watch_soundness.place_good.Statement.{statement}
 use Rattle.tables.proofs.watch_soundness.place_good.Tie as tie
-use Rattle.tables.proofs.watch_soundness.place_good.Reads as reads
-use Rattle.tables.proofs.watch_soundness.place_good.Lts as lts
-use Rattle.tables.proofs.domains.known.Reads as known-reads
-use Rattle.tables.proofs.watch_soundness.good_place.Reads as good-place-reads
-use Rattle.tables.proofs.watch_soundness.no_nul.Reads as no-nul-reads
-use Rattle.tables.proofs.watches.depth.Reads as depth-reads
-use Rattle.tables.proofs.watches.owner.Reads as owner-reads
-use Rattle.tables.proofs.watches.path.Reads as path-reads
-use Rattle.tables.proofs.watches.relative.Reads as relative-reads
-use Rattle.tables.proofs.watches.token.Reads as token-reads
-use Rattle.tables.proofs.watches.used.Reads as used-reads
-use Rattle.tables.proofs.watches.watched_from.Reads as watched-from-reads
 
--- src/watch_soundness.rt:198:9
 used-requires : tie.Need-used-requires
 used-requires c κs = let b = c .before .before in (b .pre .0, b .pre .1 .whole)
 
--- src/watch_soundness.rt:199:9
 returns : tie.Need-returns
 returns c = sym (good-free _ _ _ (sym (c .before .used .ensures) ∙ not-true _ (c .if1 .taken)))
 
--- src/watch_soundness.rt:201:9
 owner-requires : tie.Need-owner-requires
 owner-requires c κs = let b = c .before .before .before .before in record { below = b .pre .0; kept = b .pre .1; used = sym (c .before .used .ensures) ∙ not-false _ (c .if1 .left) }
 
--- src/watch_soundness.rt:202:9
 known-requires : tie.Need-known-requires
 known-requires c κs = c .before .before .before .before .before .pre .2
 
--- src/watch_soundness.rt:203:9
 returns-2 : tie.Need-returns-2
 returns-2 c = let b = c .before .before .before .before .before .before .before in sym (good-unknown _ _ _ (sym (c .before .before .before .before .used .ensures) ∙ not-false _ (c .before .before .before .if1 .left)) (ap (λ o. known o (domainsOf (b .args .domains .now))) (sym (c .before .before .owner .ensures)) ∙ sym (c .before .known .ensures) ∙ not-true _ (c .if2 .taken)))
 
--- src/watch_soundness.rt:205:9
 token-requires : tie.Need-token-requires
 token-requires c κs = let b = c .before .before .before .before .before .before .before in record { below = b .pre .0; kept = b .pre .1; used = sym (c .before .before .before .before .used .ensures) ∙ not-false _ (c .before .before .before .if1 .left) }
 
--- src/watch_soundness.rt:206:9
 no-nul-requires : tie.Need-no-nul-requires
 no-nul-requires c κs = search needs
 
--- src/watch_soundness.rt:207:9
 returns-3 : tie.Need-returns-3
 returns-3 c = let b = c .before .before .before .before .before .before .before .before .before .before in sym (good-nul _ _ _ (sym (c .before .before .before .before .before .before .before .used .ensures) ∙ not-false _ (c .before .before .before .before .before .before .if1 .left)) (ap (λ o. known o (domainsOf (b .args .domains .now))) (sym (c .before .before .before .before .before .owner .ensures)) ∙ sym (c .before .before .before .before .known .ensures) ∙ not-false _ (c .before .before .before .if2 .left)) (ap noNul (sym (c .before .before .token .ensures)) ∙ sym (c .before .no-nul .ensures) ∙ not-true _ (c .if3 .taken)))
 
--- src/watch_soundness.rt:209:9
 path-requires : tie.Need-path-requires
 path-requires c κs = let b = c .before .before .before .before .before .before .before .before .before .before in record { below = b .pre .0; kept = b .pre .1; used = sym (c .before .before .before .before .before .before .before .used .ensures) ∙ not-false _ (c .before .before .before .before .before .before .if1 .left) }
 
--- src/watch_soundness.rt:210:23
 depth-requires : tie.Need-depth-requires
 depth-requires c κs = let b = c .before .before .before .before .before .before .before .before .before .before .before in record { below = b .pre .0; kept = b .pre .1; used = sym (c .before .before .before .before .before .before .before .before .used .ensures) ∙ not-false _ (c .before .before .before .before .before .before .before .if1 .left) }
 
--- src/watch_soundness.rt:210:36
 relative-requires : tie.Need-relative-requires
 relative-requires c κs = let b = c .before .before .before .before .before .before .before .before .before .before .before .before in record { below = b .pre .0; kept = b .pre .1; used = sym (c .before .before .before .before .before .before .before .before .before .used .ensures) ∙ not-false _ (c .before .before .before .before .before .before .before .before .if1 .left) }
 
--- src/watch_soundness.rt:210:9
 good-place-requires : tie.Need-good-place-requires
 good-place-requires c κs = search needs
 
--- src/watch_soundness.rt:211:9
 returns-4 : tie.Need-returns-4
 returns-4 c =
     let b = c .before .before .before .before .before .before .before .before .before .before .before .before .before .before .before in
     let u = sym (c .before .before .before .before .before .before .before .before .before .before .before .before .used .ensures) ∙ not-false _ (c .before .before .before .before .before .before .before .before .before .before .before .if1 .left) in
     sym (good-misplaced _ _ _ u (ap (λ o. known o (domainsOf (b .args .domains .now))) (sym (c .before .before .before .before .before .before .before .before .before .before .owner .ensures)) ∙ sym (c .before .before .before .before .before .before .before .before .before .known .ensures) ∙ not-false _ (c .before .before .before .before .before .before .before .before .if2 .left)) (ap noNul (sym (c .before .before .before .before .before .before .before .token .ensures)) ∙ sym (c .before .before .before .before .before .before .no-nul .ensures) ∙ not-false _ (c .before .before .before .before .before .if3 .left)) (place-agree (c .before .before .before .depth .result) (b .args .s .now) (b .args .k) (b .pre .0) (bytes-known (b .args .s .now) (c .before .before .before .before .before .before .before .before .before .before .before .before .before .before .shared-slice-known .given)) (b .pre .1) u (c .before .before .before .before .before .before .before .before .before .before .owner .ensures) (c .before .before .before .depth .ensures) (c .before .before .relative .ensures) (c .before .before .before .before .path .ensures) ∙ sym (c .before .good-place .ensures) ∙ not-true _ (c .if4 .taken)))
 
--- src/watch_soundness.rt:213:22
 add-watched-from : tie.Need-add-watched-from
 add-watched-from c = search needs
 
--- src/watch_soundness.rt:213:6
 watched-from-requires : tie.Need-watched-from-requires
 watched-from-requires c κs = let b = c .before .before .before .before .before .before .before .before .before .before .before .before .before .before .before in (omega (arith, b .pre .0), b .pre .1)
 
--- src/watch_soundness.rt:194:1
 returns-5 : tie.Need-returns-5
 returns-5 c =
     let b = c .before .before .before .before .before .before .before .before .before .before .before .before .before .before .before .before in

@@ -1,115 +1,81 @@
-use Rattle.tables.proofs.WatchKept.{fields-few}
-use Prim.Native.Nat.{_+_, _-_, _*_, _/_, _%_}
-use lib.Dec.{eqb}
-use lib.ListN.{take, drop}
-use Rattle.tables.specs.WatchKept.{placeSame}
-use Rattle.tables.proofs.WatchKept.{free-kept, kept-long, kept-unplaced, kept-fields, kept-rests}
-use borrow.Author.Tests.{not-true, not-false}
-use Rattle.tables.proofs.Bytes.{bytes-known, and-first, and-rest}
-use mathlib.Core.Path.{_≡_, refl, sym, ap, _∙_}
+use mathlib.Core.Path.{sym, _∙_}
+use Prim.Native.Nat.{_-_}
 use native.Mathlib.Omega.{arith}
+use borrow.Author.Tests.{not-true, not-false}
 use borrow.Author.Needs.{needs}
+use Rattle.tables.proofs.Bytes.{bytes-known, and-first, and-rest}
+use Rattle.tables.proofs.WatchKept.{fields-few, free-kept, kept-long, kept-unplaced, kept-fields, kept-rests}
 use Rattle.tables.proofs.watch_soundness.place_kept.Statement.{statement}
 use Rattle.tables.proofs.watch_soundness.place_kept.Tie as tie
-use Rattle.tables.proofs.watch_soundness.place_kept.Reads as reads
-use Rattle.tables.proofs.watch_soundness.place_kept.Lts as lts
-use Rattle.octets.proofs.compare.all_zero.Reads as all-zero-reads
-use Rattle.tables.proofs.watch_soundness.fields_same.Reads as fields-same-reads
-use Rattle.tables.proofs.watch_soundness.place_same.Reads as place-same-reads
-use Rattle.tables.proofs.texts.rest_zero.Reads as rest-zero-reads
-use Rattle.tables.proofs.watches.path_length.Reads as path-length-reads
-use Rattle.tables.proofs.watches.token_length.Reads as token-length-reads
 
--- src/watch_soundness.rt:104:14
 mul-at : tie.Need-mul-at
 mul-at c = search needs
 
--- src/watch_soundness.rt:105:8
 shared-slice-read-if1 : tie.Need-shared-slice-read-if1
 shared-slice-read-if1 c = search needs
 
--- src/watch_soundness.rt:106:32
 add-all-zero : tie.Need-add-all-zero
 add-all-zero c = search needs
 
--- src/watch_soundness.rt:106:25
 sub-all-zero : tie.Need-sub-all-zero
 sub-all-zero c = search needs
 
--- src/watch_soundness.rt:106:25
 part-all-zero-start : tie.Need-part-all-zero-start
 part-all-zero-start c = search needs
 
--- src/watch_soundness.rt:106:25
 part-all-zero-end : tie.Need-part-all-zero-end
 part-all-zero-end c = search needs
 
--- src/watch_soundness.rt:106:9
 all-zero-requires : tie.Need-all-zero-requires
 all-zero-requires c κs = search needs
 
--- src/watch_soundness.rt:106:9
 returns : tie.Need-returns
 returns c =
     let b = c .before .before .before .before .before in
     c .all-zero .ensures ∙ free-kept (b .args .s .now) (b .args .k) (b .pre .0) (bytes-known (b .args .s .now) (c .before .before .before .before .shared-slice-known .given)) (b .pre .1) (c .before .before .if1 .taken)
 
--- src/watch_soundness.rt:108:9
 path-length-requires : tie.Need-path-length-requires
 path-length-requires c κs = search needs
 
--- src/watch_soundness.rt:110:9
 returns-2 : tie.Need-returns-2
 returns-2 c = let b = c .before .before .before .before .before in sym (kept-long (b .args .s .now) (b .args .k) (b .pre .0) (bytes-known (b .args .s .now) (c .before .before .before .before .shared-slice-known .given)) (b .pre .1) (c .before .before .if1 .left) (rw (← c .before .path-length .ensures) (c .if2 .taken)))
 
--- src/watch_soundness.rt:112:16
 add-from : tie.Need-add-from
 add-from c = search needs
 
--- src/watch_soundness.rt:113:20
 shared-slice-read-place-same : tie.Need-shared-slice-read-place-same
 shared-slice-read-place-same c = search needs
 
--- src/watch_soundness.rt:113:50
 add-place-same : tie.Need-add-place-same
 add-place-same c = search needs
 
--- src/watch_soundness.rt:113:41
 sub-place-same : tie.Need-sub-place-same
 sub-place-same c = search needs
 
--- src/watch_soundness.rt:113:41
 part-place-same-start : tie.Need-part-place-same-start
 part-place-same-start c = search needs
 
--- src/watch_soundness.rt:113:41
 part-place-same-end : tie.Need-part-place-same-end
 part-place-same-end c = search needs
 
--- src/watch_soundness.rt:113:9
 place-same-requires : tie.Need-place-same-requires
 place-same-requires c κs = search needs
 
--- src/watch_soundness.rt:114:9
 returns-3 : tie.Need-returns-3
 returns-3 c =
     let b = c .before .before .before .before .before .before .before .before .before in
     let e = sym (c .before .place-same .ensures) ∙ not-true _ (c .if3 .taken) in
     sym (kept-unplaced (b .args .s .now) (b .args .k) (b .pre .0) (bytes-known (b .args .s .now) (c .before .before .before .before .before .before .before .before .shared-slice-known .given)) (b .pre .1) (c .before .before .before .before .before .before .if1 .left) (rw (c .before .before .before .before .before .path-length .ensures) at e))
 
--- src/watch_soundness.rt:116:9
 fields-same-requires : tie.Need-fields-same-requires
 fields-same-requires c κs = search needs
 
--- src/watch_soundness.rt:117:9
 returns-4 : tie.Need-returns-4
 returns-4 c = let b = c .before .before .before .before .before .before .before .before .before .before .before in sym (kept-fields (b .args .s .now) (b .args .k) (b .pre .0) (bytes-known (b .args .s .now) (c .before .before .before .before .before .before .before .before .before .before .shared-slice-known .given)) (b .pre .1) (c .before .before .before .before .before .before .before .before .if1 .left) (sym (c .before .fields-same .ensures) ∙ not-true _ (c .if4 .taken)))
 
--- src/watch_soundness.rt:119:9
 rest-zero-requires : tie.Need-rest-zero-requires
 rest-zero-requires c κs = let b = c .before .before .before .before .before .before .before .before .before .before .before in (omega arith, omega (arith, b .pre .1, b .pre .0))
 
--- src/watch_soundness.rt:120:9
 returns-5 : tie.Need-returns-5
 returns-5 c =
     let b = c .before .before .before .before .before .before .before .before .before .before .before .before .before in
@@ -118,19 +84,15 @@ returns-5 c =
     let r = sym (c .before .rest-zero .ensures) ∙ not-true _ (c .if5 .taken) in
     sym (kept-rests (b .args .s .now) (b .args .k) (b .pre .0) (bytes-known (b .args .s .now) (c .before .before .before .before .before .before .before .before .before .before .before .before .shared-slice-known .given)) (b .pre .1) (c .before .before .before .before .before .before .before .before .before .before .if1 .left) (rw (← n) (c .before .before .before .before .before .before .before .before .if2 .left)) (rw n at e) (sym (c .before .before .before .fields-same .ensures) ∙ not-false _ (c .before .before .if4 .left)) ∙ and-first _ _ (rw n at r))
 
--- src/watch_soundness.rt:122:18
 add-rest-zero : tie.Need-add-rest-zero
 add-rest-zero c = search needs
 
--- src/watch_soundness.rt:122:33
 token-length-requires : tie.Need-token-length-requires
 token-length-requires c κs = search needs
 
--- src/watch_soundness.rt:122:5
 rest-zero-requires-2 : tie.Need-rest-zero-requires-2
 rest-zero-requires-2 c κs = let b = c .before .before .before .before .before .before .before .before .before .before .before .before .before .before in (rw (c .token-length .ensures) (fields-few _ _ (sym (c .before .before .before .before .fields-same .ensures) ∙ not-false _ (c .before .before .before .if4 .left))), omega (arith, b .pre .1, b .pre .0))
 
--- src/watch_soundness.rt:100:1
 returns-6 : tie.Need-returns-6
 returns-6 c =
     let b = c .before .before .before .before .before .before .before .before .before .before .before .before .before .before .before in

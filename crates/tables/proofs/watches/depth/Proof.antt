@@ -1,41 +1,31 @@
+use mathlib.Core.Path.{sym, _∙_}
 use borrow.Author.Tests.{eq-eqb, ne-eqb}
-use Rattle.tables.proofs.WatchLaws.{depth-read}
-use Rattle.tables.proofs.Bytes.{bytes-known}
-use mathlib.Core.Path.{_≡_, refl, sym, ap, _∙_}
-use native.Mathlib.Omega.{arith}
 use borrow.Author.Needs.{needs}
+use Rattle.tables.proofs.Bytes.{bytes-known}
+use Rattle.tables.proofs.WatchLaws.{depth-read}
 use Rattle.tables.proofs.watches.depth.Statement.{statement}
 use Rattle.tables.proofs.watches.depth.Tie as tie
-use Rattle.tables.proofs.watches.depth.Reads as reads
-use Rattle.tables.proofs.watches.depth.Lts as lts
 
--- src/watches.rt:56:10
 mul-if1 : tie.Need-mul-if1
 mul-if1 c = search needs
 
--- src/watches.rt:56:8
 shared-slice-read-if1 : tie.Need-shared-slice-read-if1
 shared-slice-read-if1 c = search needs
 
--- src/watches.rt:57:28
 mul-t9 : tie.Need-mul-t9
 mul-t9 c = search needs
 
--- src/watches.rt:57:28
 add-t10 : tie.Need-add-t10
 add-t10 c = search needs
 
--- src/watches.rt:57:26
 shared-slice-read-t12 : tie.Need-shared-slice-read-t12
 shared-slice-read-t12 c = search needs
 
--- src/watches.rt:57:9
 returns : tie.Need-returns
 returns c =
     let b = c .before .before .before in
     sym (depth-read (b .args .s .now) (b .args .k) (b .pre .below) (bytes-known (b .args .s .now) (c .shared-slice-known2 .given)) (b .pre .kept .whole) (b .pre .used) ∙ rw (eq-eqb _ _ (c .before .if1 .taken)))
 
--- src/watches.rt:52:1
 returns-2 : tie.Need-returns-2
 returns-2 c =
     let b = c .before .before in

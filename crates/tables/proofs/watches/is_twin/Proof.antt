@@ -1,50 +1,35 @@
-use Rattle.tables.proofs.WatchLaws.{owned-taken, twin-other, twin-path, twin-token}
-use Rattle.rules.specs.Octets.{Octets, same}
+use mathlib.Core.Path.{sym, ap, _∙_}
 use borrow.Author.Tests.{not-true, not-false}
-use mathlib.Core.Path.{_≡_, refl, sym, ap, _∙_}
-use native.Mathlib.Omega.{arith}
 use borrow.Author.Needs.{needs}
+use Rattle.rules.specs.Octets.{same}
+use Rattle.tables.proofs.WatchLaws.{owned-taken, twin-other, twin-path, twin-token}
 use Rattle.tables.proofs.watches.is_twin.Statement.{statement}
 use Rattle.tables.proofs.watches.is_twin.Tie as tie
-use Rattle.tables.proofs.watches.is_twin.Reads as reads
-use Rattle.tables.proofs.watches.is_twin.Lts as lts
-use Rattle.octets.proofs.compare.same.Reads as same-reads
-use Rattle.tables.proofs.watches.owned.Reads as owned-reads
-use Rattle.tables.proofs.watches.path.Reads as path-reads
-use Rattle.tables.proofs.watches.token.Reads as token-reads
 
--- src/watches.rt:115:9
 owned-requires : tie.Need-owned-requires
 owned-requires c κs = let b = c .before .before .before in (b .pre .0, b .pre .1)
 
--- src/watches.rt:116:9
 returns : tie.Need-returns
 returns c = sym (twin-other _ _ _ _ (sym (c .before .owned .ensures) ∙ not-true _ (c .if1 .taken)))
 
--- src/watches.rt:118:17
 path-requires : tie.Need-path-requires
 path-requires c κs = let b = c .before .before .before .before .before in record { below = b .pre .0; kept = b .pre .1; used = owned-taken _ _ (sym (c .before .owned .ensures) ∙ not-false _ (c .if1 .left)) }
 
--- src/watches.rt:118:9
 same-requires : tie.Need-same-requires
 same-requires c κs = search needs
 
--- src/watches.rt:119:9
 returns-2 : tie.Need-returns-2
 returns-2 c =
     let b = c .before .before .before .before .before .before .before .before in
     let o = sym (c .before .before .before .before .owned .ensures) ∙ not-false _ (c .before .before .before .if1 .left) in
     sym (twin-path _ (b .args .p .now) _ _ o (ap (same (b .args .p .now)) (sym (c .before .before .path .ensures)) ∙ sym (c .before .same .ensures) ∙ not-true _ (c .if2 .taken)))
 
--- src/watches.rt:121:13
 token-requires : tie.Need-token-requires
 token-requires c κs = let b = c .before .before .before .before .before .before .before .before in record { below = b .pre .0; kept = b .pre .1; used = owned-taken _ _ (sym (c .before .before .before .before .owned .ensures) ∙ not-false _ (c .before .before .before .if1 .left)) }
 
--- src/watches.rt:121:5
 same-requires-2 : tie.Need-same-requires-2
 same-requires-2 c κs = search needs
 
--- src/watches.rt:111:1
 returns-3 : tie.Need-returns-3
 returns-3 c =
     let b = c .before .before .before .before .before .before .before .before .before .before in

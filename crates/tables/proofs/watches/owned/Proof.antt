@@ -1,30 +1,20 @@
-use Rattle.tables.proofs.Search.{passes-free, passes-taken}
+use mathlib.Core.Path.{sym, ap, _∙_}
 use lib.Dec.{eqb}
-use Rattle.tables.specs.Watch.{ownedBy, nobody}
 use borrow.Author.Tests.{not-true, not-false}
-use mathlib.Core.Path.{_≡_, refl, sym, ap, _∙_}
-use native.Mathlib.Omega.{arith}
-use borrow.Author.Needs.{needs}
+use Rattle.tables.specs.Watch.{ownedBy, nobody}
+use Rattle.tables.proofs.Search.{passes-free, passes-taken}
 use Rattle.tables.proofs.watches.owned.Statement.{statement}
 use Rattle.tables.proofs.watches.owned.Tie as tie
-use Rattle.tables.proofs.watches.owned.Reads as reads
-use Rattle.tables.proofs.watches.owned.Lts as lts
-use Rattle.tables.proofs.watches.owner.Reads as owner-reads
-use Rattle.tables.proofs.watches.used.Reads as used-reads
 
--- src/watches.rt:104:9
 used-requires : tie.Need-used-requires
 used-requires c κs = let b = c .before in (b .pre .0, b .pre .1 .whole)
 
--- src/watches.rt:105:9
 returns : tie.Need-returns
 returns c = sym (passes-free _ _ (sym (c .before .used .ensures) ∙ not-true _ (c .if1 .taken)))
 
--- src/watches.rt:107:10
 owner-requires : tie.Need-owner-requires
 owner-requires c κs = let b = c .before .before .before in record { below = b .pre .0; kept = b .pre .1; used = sym (c .before .used .ensures) ∙ not-false _ (c .if1 .left) }
 
--- src/watches.rt:100:1
 returns-2 : tie.Need-returns-2
 unfolding ownedBy
 returns-2 c =

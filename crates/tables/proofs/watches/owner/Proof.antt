@@ -1,26 +1,18 @@
-use Rattle.tables.proofs.WatchLaws.{owner-read}
-use mathlib.Core.Path.{_≡_, refl, sym, ap, _∙_}
 use native.Mathlib.Omega.{arith}
 use borrow.Author.Needs.{needs}
+use Rattle.tables.proofs.WatchLaws.{owner-read}
 use Rattle.tables.proofs.watches.owner.Statement.{statement}
 use Rattle.tables.proofs.watches.owner.Tie as tie
-use Rattle.tables.proofs.watches.owner.Reads as reads
-use Rattle.tables.proofs.watches.owner.Lts as lts
-use Rattle.tables.proofs.numbers.two.Reads as two-reads
 
--- src/watches.rt:41:12
 mul-two : tie.Need-mul-two
 mul-two c = search needs
 
--- src/watches.rt:41:12
 add-two : tie.Need-add-two
 add-two c = search needs
 
--- src/watches.rt:41:5
 two-requires : tie.Need-two-requires
 two-requires c κs = let b = c .before in omega (arith, b .pre .below, b .pre .kept .whole)
 
--- src/watches.rt:37:1
 returns : tie.Need-returns
 returns c = let b = c .before .before in owner-read (b .args .s .now) (b .args .k) (b .pre .below) (c .two .ensures .bytes) (b .pre .kept .whole) (b .pre .used) _ (c .two .ensures)
 

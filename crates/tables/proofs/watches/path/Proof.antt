@@ -1,43 +1,31 @@
-use Rattle.tables.proofs.WatchLaws.{path-length-within, path-part}
-use Rattle.tables.proofs.Bytes.{bytes-known}
-use mathlib.Core.Path.{_≡_, refl, sym, ap, _∙_}
 use native.Mathlib.Omega.{arith}
 use borrow.Author.Needs.{needs}
+use Rattle.tables.proofs.Bytes.{bytes-known}
+use Rattle.tables.proofs.WatchLaws.{path-length-within, path-part}
 use Rattle.tables.proofs.watches.path.Statement.{statement}
 use Rattle.tables.proofs.watches.path.Tie as tie
-use Rattle.tables.proofs.watches.path.Reads as reads
-use Rattle.tables.proofs.watches.path.Lts as lts
-use Rattle.tables.proofs.watches.path_length.Reads as path-length-reads
 
--- src/watches.rt:85:9
 path-length-requires : tie.Need-path-length-requires
 path-length-requires c κs = let b = c .before in (b .pre .below, b .pre .kept .whole)
 
--- src/watches.rt:86:16
 mul-from : tie.Need-mul-from
 mul-from c = search needs
 
--- src/watches.rt:86:16
 add-from : tie.Need-add-from
 add-from c = search needs
 
--- src/watches.rt:87:14
 add-result : tie.Need-add-result
 add-result c = let b = c .before .before in omega (arith, b .pre .below, c .path-length .ensures, path-length-within (b .args .s .now) (b .args .k) (b .pre .below) (bytes-known (b .args .s .now) (c .before .shared-slice-known .given)) (b .pre .kept) (b .pre .used))
 
--- src/watches.rt:87:5
 sub-result : tie.Need-sub-result
 sub-result c = search needs
 
--- src/watches.rt:87:5
 part-result-start : tie.Need-part-result-start
 part-result-start c = search needs
 
--- src/watches.rt:87:5
 part-result-end : tie.Need-part-result-end
 part-result-end c = let b = c .before .before in omega (arith, b .pre .below, b .pre .kept .whole, c .path-length .ensures, path-length-within (b .args .s .now) (b .args .k) (b .pre .below) (bytes-known (b .args .s .now) (c .before .shared-slice-known .given)) (b .pre .kept) (b .pre .used))
 
--- src/watches.rt:81:1
 returns : tie.Need-returns
 returns c =
     let b = c .before .before .before in

@@ -1,20 +1,15 @@
-use Rattle.tables.proofs.WatchLaws.{used-byte}
-use Rattle.tables.proofs.Bytes.{bytes-known}
 use borrow.Author.Needs.{needs}
+use Rattle.tables.proofs.Bytes.{bytes-known}
+use Rattle.tables.proofs.WatchLaws.{used-byte}
 use Rattle.tables.proofs.watches.used.Statement.{statement}
 use Rattle.tables.proofs.watches.used.Tie as tie
-use Rattle.tables.proofs.watches.used.Reads as reads
-use Rattle.tables.proofs.watches.used.Lts as lts
 
--- src/watches.rt:34:14
 mul-result : tie.Need-mul-result
 mul-result c = search needs
 
--- src/watches.rt:34:12
 shared-slice-read-result : tie.Need-shared-slice-read-result
 shared-slice-read-result c = search needs
 
--- src/watches.rt:30:1
 returns : tie.Need-returns
 returns c = let a = c .before .args in used-byte (a .s .now) (a .k) (c .before .pre .0) (bytes-known (a .s .now) (c .shared-slice-known .given)) (c .before .pre .1)
 

@@ -1,17 +1,13 @@
-use Rattle.tables.proofs.Search.{has-here, has-further, has-over}
-use Rattle.rules.specs.Sound.{twin, watched}
-use borrow.Author.Tests.{not-true, not-false}
-use Rattle.tables.proofs.WatchLaws.{length-watchesOf}
-use Rattle.rules.specs.Layout.{watchesOf}
-use lib.ListN.{drop}
-use native.Mathlib.Omega.{arith}
-use Prim.Native.Nat.{_≤_, _-_, _+_}
 use mathlib.Core.Path.{_≡_, refl, sym, _∙_}
+use Prim.Native.Nat.{_≤_, _-_}
+use native.Mathlib.Omega.{arith}
+use lib.ListN.{drop}
+use Rattle.rules.specs.Layout.{watchesOf}
+use Rattle.rules.specs.Sound.{twin, watched}
+use Rattle.tables.proofs.Search.{has-here, has-further, has-over}
+use Rattle.tables.proofs.WatchLaws.{length-watchesOf}
 use Rattle.tables.proofs.watches.watched_from.Statement.{statement}
 use Rattle.tables.proofs.watches.watched_from.Tie as tie
-use Rattle.tables.proofs.watches.watched_from.Reads as reads
-use Rattle.tables.proofs.watches.watched_from.Lts as lts
-use Rattle.tables.proofs.watches.is_twin.Reads as is-twin-reads
 
 abbrev Inv-loop : tie.InvT-loop
 Inv-loop s from c p t i₀ i = (i ≤ 16) × (watched c p t (drop from (watchesOf s)) ≡ watched c p t (drop i (watchesOf s)))
@@ -19,15 +15,12 @@ Inv-loop s from c p t i₀ i = (i ≤ 16) × (watched c p t (drop from (watchesO
 abbrev μ-loop : tie.MeasureT-loop
 μ-loop s from c p t i₀ i = 16 - i
 
--- src/watches.rt:130:5
 loop-holds : tie.Need-loop-holds Inv-loop μ-loop
 loop-holds c = (omega arith, refl)
 
--- src/watches.rt:131:12
 is-twin-requires : tie.Need-is-twin-requires Inv-loop μ-loop
 is-twin-requires c κs = (c .loop-test .taken, c .before .before .before .before .before .pre .1)
 
--- src/watches.rt:132:13
 returns : tie.Need-returns Inv-loop μ-loop
 unfolding watched
 returns c =
@@ -35,15 +28,12 @@ returns c =
     let a = b .before .before .before .before .args in
     sym (b .loop .inv .1 ∙ has-here (twin (a .c) (a .p .now) (a .t .now)) (watchesOf (a .s .now)) (b .loop .i) (rw (length-watchesOf (a .s .now)) (c .before .before .loop-test .taken)) (sym (c .before .is-twin .ensures) ∙ c .if1 .taken))
 
--- src/watches.rt:134:9
 add-i : tie.Need-add-i Inv-loop μ-loop
 add-i c = omega arith
 
--- src/watches.rt:130:5
 loop-less : tie.Need-loop-less Inv-loop μ-loop
 loop-less c = omega arith
 
--- src/watches.rt:130:5
 loop-again : tie.Need-loop-again Inv-loop μ-loop
 unfolding watched
 loop-again c =
@@ -53,7 +43,6 @@ loop-again c =
       b .loop .inv .1 ∙ has-further (twin (a .c) (a .p .now) (a .t .now)) (watchesOf (a .s .now)) (b .loop .i) (rw (length-watchesOf (a .s .now)) (c .before .before .loop-test .taken)) (sym (c .before .is-twin .ensures) ∙ c .if1 .left),
     )
 
--- src/watches.rt:125:1
 returns-2 : tie.Need-returns-2 Inv-loop μ-loop
 unfolding watched
 returns-2 c =
