@@ -10,4 +10,5 @@ pub mod SoundWorld
 pub mod Soundness
 pub mod SoundCalls
 pub mod Parents
+pub mod Making
 pub mod Gone

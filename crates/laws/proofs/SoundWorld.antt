@@ -101,7 +101,7 @@ table-decoded s h =
     record { good = good-of (tableOf s) (omega (arith, decoded-fits s .long)) (q .1); fitting = decoded-fits s }
 
 -- a node request's table is sound where the one before it was
-asked-sound : (d : Domain) (a : Ask) (ns : Names) (t : Table) → d ≤ lastDomain → AskedGood a ns → TableSound t → TableSound (answer d a ns t .table)
+pub asked-sound : (d : Domain) (a : Ask) (ns : Names) (t : Table) → d ≤ lastDomain → AskedGood a ns → TableSound t → TableSound (answer d a ns t .table)
 asked-sound d a ns t h f s =
     record { good = answer-good d a ns t h (f .entries) (f .names) (f .proper) (s .good); fitting = answer-fits d a ns t (omega arith) (f .fits) (s .fitting) }
 

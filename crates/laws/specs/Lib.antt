@@ -5,4 +5,5 @@ pub mod Refusals
 pub mod Order
 pub mod Soundness
 pub mod Parents
+pub mod Making
 pub mod Gone

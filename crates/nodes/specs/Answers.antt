@@ -16,7 +16,7 @@ use Rattle.rules.specs.Layout.{tableOf, tableBytes}
 use Rattle.rules.specs.Sound.{soundTable}
 use Rattle.slots.specs.Written.{entryIn, othersIn, Given}
 use Rattle.nodes.specs.declared.kinds.Errno.{Errno}
-use Rattle.nodes.specs.declared.kinds.Errno.the-variants.{Access, NoEntry, NoSpace, TooBig}
+use Rattle.nodes.specs.declared.kinds.Errno.the-variants.{Invalid, Access, Exists, NoEntry, NoSpace, TooBig, Again, NoSystem}
 use Rattle.nodes.specs.declared.kinds.Reply.{Reply}
 use Rattle.nodes.specs.declared.kinds.Reply.the-variants.{Done, Refused}
 use Rattle.nodes.specs.declared.kinds.Effect.{Effect}
@@ -72,10 +72,14 @@ Askable SetPerms n access domains = Stored n access domains
 -- ── what is answered ──
 
 abbrev pub errnoMeant : Errno → A.Errno
+errnoMeant Invalid = A.EINVAL
 errnoMeant Access = A.EACCES
+errnoMeant Exists = A.EEXIST
 errnoMeant NoEntry = A.ENOENT
 errnoMeant NoSpace = A.ENOSPC
 errnoMeant TooBig = A.E2BIG
+errnoMeant Again = A.EAGAIN
+errnoMeant NoSystem = A.ENOSYS
 
 abbrev pub refusalMeant : Reply → Option A.Errno
 refusalMeant (Done n) = none

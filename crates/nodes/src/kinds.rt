@@ -3,12 +3,16 @@
 // The payload of a reply stands behind its header.
 pub const HEADER_SIZE: usize = 16;
 
-// EACCES, ENOENT, ENOSPC and E2BIG.
+// EINVAL, EACCES, EEXIST, ENOENT, ENOSPC, E2BIG, EAGAIN and ENOSYS.
 pub enum Errno {
+    Invalid,
     Access,
+    Exists,
     NoEntry,
     NoSpace,
     TooBig,
+    Again,
+    NoSystem,
 }
 
 // How long the payload is that stands behind the reply's header, or the error.

@@ -1,7 +1,7 @@
 // The seven node requests on one table.
+pub mod answers;
 pub mod changing;
 pub mod kinds;
 pub mod looking;
 pub mod permitting;
 pub mod removing;
-pub mod requests;

@@ -1,17 +1,14 @@
 -- Keys: siblings with one name share one, so what differs in keys does not clash.
-use mathlib.Core.Path.{_≡_, refl, sym, ap, _∙_}
-use mathlib.Core.Bool.{Bool, true, false, true≢false, cond, not, _&&_, _||_, and-comm, or-true}
-use mathlib.Core.List.{List, [], _∷_}
+use mathlib.Core.Path.{_≡_, refl}
+use mathlib.Core.Bool.{Bool, true, false, true≢false, cond}
+use mathlib.Core.List.{[], _∷_}
 use mathlib.Core.Option.{Option, none, some}
-use Prim.Native.Nat.{ℕ, zero, suc, _+_, _*_, _-_, _%_, _≤_, _<_}
+use Prim.Native.Nat.{ℕ, _+_, _*_, _-_, _%_, _≤_, _<_}
 use native.Mathlib.Nat.{mod-lt}
-use native.Mathlib.Numerals.{add-one}
 use native.Mathlib.Omega.{arith}
-use native.Mathlib.Decide.{ℕ-discrete}
 use lib.ListN.{length, getD}
 use lib.Dec.{eqb, ltb}
-use borrow.Author.Tests.{eq-eqb, eqb-true, lt-ltb, le-ltb}
-use Rattle.rules.specs.Size.{slots}
+use borrow.Author.Tests.{eqb-true, lt-ltb, le-ltb}
 use Rattle.rules.specs.Octets.{Octets, same}
 use Rattle.rules.specs.Node.{Node, nodeAt}
 use Rattle.rules.specs.Layout.{tableOf}
@@ -19,7 +16,7 @@ use Rattle.rules.specs.Sound.{clash}
 use Rattle.rules.proofs.Compare.{both-true, same-eq}
 use Rattle.slots.specs.Slot.{slotAt, isUsed}
 use Rattle.slots.proofs.Reading.{node-some}
-use Rattle.soundness.specs.Keys.{digestOf, keyOf, listed}
+use Rattle.soundness.specs.Keys.{digestOf, keyOf}
 use Rattle.soundness.proofs.WalkLaws.{used-some}
 
 -- ── the digest ──
@@ -80,29 +77,7 @@ pub keys-parents : (n m : Node) → keyOf (some n) ≡ keyOf (some m) → n .par
 unfolding keyOf
 keys-parents n m e = omega (arith, e, digest-bound (n .name), digest-bound (m .name))
 
--- ── keys that are listed ──
-
-pub listed-next : (k : ℕ) (xs : List ℕ) (n : ℕ) {hit : Bool} → hit ≡ listed k xs n → (hit || eqb (getD xs n 0) k) ≡ listed k xs (n + 1)
-unfolding listed
-listed-next k xs n e = rw (add-one n, e) refl
-
-pub listed-at : (k : ℕ) (xs : List ℕ) (n j : ℕ) → j < n → getD xs j 0 ≡ k → listed k xs n ≡ true
-unfolding listed
-listed-at k xs zero j h e = absurd (omega arith)
-listed-at k xs (suc n) j h e = by (ℕ-discrete j n) (λ l. listed-at k xs n j l e)
-  where
-    by : Dec (j ≡ n) → (j < n → listed k xs n ≡ true) → (listed k xs n || eqb (getD xs n 0) k) ≡ true
-    by (yes q) f = rw (eq-eqb (getD xs n 0) k (ap (λ (m : ℕ). getD xs m 0) (sym q) ∙ e)) (or-true (listed k xs n))
-    by (no q) f = rw (f (omega arith)) refl
-
-pub among-ended : (k : ℕ) (xs : List ℕ) (n : ℕ) {hit : Bool} → hit ≡ listed k xs n → n ≡ slots → (hit && not (eqb k 0)) ≡ not (eqb k 0) && listed k xs slots
-among-ended k xs n {hit} e h = and-comm hit (not (eqb k 0)) ∙ ap (λ (b : Bool). not (eqb k 0) && b) (e ∙ ap (listed k xs) h)
-
 pub digest-none : (s : Octets) → length s ≡ 0 → 0 ≡ digestOf s
 unfolding digestOf
 digest-none [] e = refl
 digest-none (c ∷ s) e = absurd (omega (arith, e))
-
--- a key that is among others is not 0
-pub among-used : {r : Bool} (k : ℕ) (xs : List ℕ) → r ≡ not (eqb k 0) && listed k xs slots → r ≡ true → k ≡ 0 → ⊥
-among-used k xs e f z = true≢false (sym (both-true (not (eqb k 0)) (listed k xs slots) (sym e ∙ f) .0) ∙ ap not (eq-eqb k 0 z))

@@ -1,7 +1,9 @@
 pub mod Tests
 pub mod Entries
+pub mod LoneEntry
 pub mod NameLaws
 pub mod SlotLaws
+pub mod Padding
 pub mod WalkLaws
 pub mod PathTexts
 pub mod KeyLaws

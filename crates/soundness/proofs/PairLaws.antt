@@ -15,15 +15,16 @@ use Rattle.rules.specs.Octets.{Octets, same}
 use Rattle.rules.specs.Node.{Node, nodeAt}
 use Rattle.rules.specs.Layout.{tableOf}
 use Rattle.rules.specs.Sound.{clash, distinct}
+use Rattle.rules.proofs.Compare.{both-true}
 use Rattle.rules.proofs.Places.{At, at-below, is-false, apart-at, at-apart}
 use Rattle.rules.proofs.Slots.{length-tableOf}
 use Rattle.rules.proofs.GoodTables.{distinct-is}
 use Rattle.slots.specs.Slot.{slotAt}
 use Rattle.slots.proofs.Reading.{node-some}
-use Rattle.soundness.specs.Keys.{keyOf, listed}
+use Rattle.soundness.specs.Keys.{keyOf, placeOf}
 use Rattle.soundness.proofs.Tests.{both}
 use Rattle.soundness.proofs.WalkLaws.{used-some}
-use Rattle.soundness.proofs.KeyLaws.{key-used, key-positive, clash-keys, keys-parents, listed-at}
+use Rattle.soundness.proofs.KeyLaws.{key-used, key-positive, clash-keys, keys-parents}
 
 -- the first i of the keys are the slots'
 pub record Keyed (t : Octets) (keys : List ℕ) (i : ℕ) : Type 0 where
@@ -36,6 +37,22 @@ keyed-next t keys i k h e s = record { long = length-set keys i k ∙ s .long; e
     by : (j : ℕ) → j < i + 1 → Dec (j ≡ i) → getD (set keys i k) j 0 ≡ keyOf (slotAt t j)
     by j l (yes q) = rw q (getD-set-same keys i k 0 (omega (arith, s .long)) ∙ e)
     by j l (no q) = getD-set-other keys i j k 0 q ∙ s .each j (omega arith)
+
+-- the places of the first i slots' keys are taken
+pub record Taken (t taken : Octets) (i : ℕ) : Type 0 where
+  pub long : length taken ≡ 1024
+  pub each : (j : ℕ) → j < i → getD taken (placeOf (keyOf (slotAt t j))) 0 ≡ 0 → ⊥
+
+pub taken-next : (t taken : Octets) (i k p : ℕ) → k ≡ keyOf (slotAt t i) → p ≡ placeOf k → p < 1024 → Taken t taken i → Taken t (set taken p 1) (i + 1)
+taken-next t taken i k p e f h s = record { long = length-set taken p 1 ∙ s .long; each = λ j l. by j l (ℕ-discrete (placeOf (keyOf (slotAt t j))) p) }
+  where
+    by : (j : ℕ) → j < i + 1 → Dec (placeOf (keyOf (slotAt t j)) ≡ p) → getD (set taken p 1) (placeOf (keyOf (slotAt t j))) 0 ≡ 0 → ⊥
+    by j l (yes q) z = omega (arith, sym (getD-set-same taken p 1 0 (omega (arith, s .long))) ∙ ap (λ (m : ℕ). getD (set taken p 1) m 0) (sym q) ∙ z)
+    by j l (no q) z = s .each j (before (ℕ-discrete j i)) (sym (getD-set-other taken p (placeOf (keyOf (slotAt t j))) 1 0 q) ∙ z)
+      where
+        before : Dec (j ≡ i) → j < i
+        before (yes w) = absurd (q (ap (λ (m : ℕ). placeOf (keyOf (slotAt t m))) w ∙ ap placeOf (sym e) ∙ sym f))
+        before (no w) = omega arith
 
 -- no two of the first i slots clash
 abbrev pub Apart : Octets → ℕ → Type 0
@@ -72,12 +89,17 @@ row-names t i j d r =
     ap (λ (b : Bool). eqb (n .parent) (m .parent) && b) (sym (ap₂ (λ (x y : Node). same (x .name) (y .name)) (node-some (tableOf t) j n p) (node-some (tableOf t) i m q)) ∙ d)
     ∙ and-false (eqb (n .parent) (m .parent))
 
--- a slot whose key is not among the others'
-pub row-new : (t : Octets) (keys : List ℕ) (i k : ℕ) → Keyed t keys i → i < slots → k ≡ keyOf (slotAt t i) → (not (eqb k 0) && listed k keys slots) ≡ false → Row t i i
-row-new t keys i k s h e f a n m l p q = is-false (clash n m) λ c.
-    let z : k ≡ 0 → ⊥ = λ x. key-positive m (sym (e ∙ ap keyOf q) ∙ x) in
-    let same-key : getD keys a 0 ≡ k = s .each a l ∙ ap keyOf p ∙ clash-keys n m c ∙ sym (e ∙ ap keyOf q) in
-    true≢false (sym (both (ap not (ne-eqb k 0 z)) (listed-at k keys slots a (omega arith) same-key)) ∙ f)
+-- a key that is looked for is not 0
+pub met-key : (taken : Octets) (p k : ℕ) → (not (eqb (getD taken p 0) 0) && not (eqb k 0)) ≡ true → k ≡ 0 → ⊥
+met-key taken p k e z = true≢false (sym (both-true (not (eqb (getD taken p 0) 0)) (not (eqb k 0)) e .1) ∙ ap not (eq-eqb k 0 z))
+
+-- a slot the place of whose key is not taken
+pub row-new : (t taken : Octets) (i k p : ℕ) → Taken t taken i → k ≡ keyOf (slotAt t i) → p ≡ placeOf k → (not (eqb (getD taken p 0) 0) && not (eqb k 0)) ≡ false → Row t i i
+row-new t taken i k p s e f g a n m l x y = is-false (clash n m) λ c.
+    let z : k ≡ 0 → ⊥ = λ o. key-positive m (sym (e ∙ ap keyOf y) ∙ o) in
+    let same-key : keyOf (slotAt t a) ≡ k = ap keyOf x ∙ clash-keys n m c ∙ sym (e ∙ ap keyOf y) in
+    let met : getD taken p 0 ≡ 0 → ⊥ = λ o. s .each a l (ap (λ (q : ℕ). getD taken (placeOf q) 0) same-key ∙ ap (λ (q : ℕ). getD taken q 0) (sym f) ∙ o) in
+    true≢false (sym (both (ap not (ne-eqb (getD taken p 0) 0 met)) (ap not (ne-eqb k 0 z))) ∙ g)
 
 pub all-apart : (t : Octets) (i : ℕ) → slots ≤ i → Apart t i → true ≡ distinct (tableOf t)
 all-apart t i h f =

@@ -1,13 +1,13 @@
 -- What is asked of a slot by itself, part by part.
 use mathlib.Core.Path.{_≡_, refl, sym, ap, _∙_}
 use mathlib.Core.Bool.{Bool, true, false, true≢false, not, _&&_, and-true, and-false, and-comm, and-assoc}
-use mathlib.Core.List.{List, [], _∷_, _++_}
+use mathlib.Core.List.{_∷_, _++_}
 use mathlib.Core.Option.{Option, none, some}
-use Prim.Native.Nat.{ℕ, zero, suc, _+_, _*_, _-_, _/_, _%_, _^_, _≤_, _<_, min}
-use native.Mathlib.Nat.{mod-lt, min-eq-left, min-le-right, add-sub-cancel-left, sub-zero, zero-sub, suc-sub-suc}
+use Prim.Native.Nat.{ℕ, suc, _+_, _*_, _-_, _/_, _%_, _^_, _≤_, _<_, min}
+use native.Mathlib.Nat.{mod-lt, min-eq-left, min-le-right, add-sub-cancel-left}
 use native.Mathlib.Omega.{arith}
 use lib.ListN.{length, getD, take, drop, replicate, length-append, length-replicate, length-take, length-drop, take-append-drop}
-use lib.Seq.{take-take, drop-drop, take-all, length-take-le, take-nil, getD-drop}
+use lib.Seq.{take-take, drop-drop, take-all, length-take-le, getD-drop}
 use lib.Dec.{eqb, leb}
 use borrow.Author.Tests.{eq-eqb, ne-eqb, eqb-true, le-leb, leb-true}
 use Rattle.rules.specs.Size.{slots, tableSize}
@@ -52,12 +52,6 @@ sizes-of t i e =
 of-sizes : (t : Octets) (i : ℕ) → Sizes t i → sized t i ≡ true
 unfolding sized
 of-sizes t i s = both (le-leb (nameLength t i) 32 (s .name)) (both (le-leb (valueLength t i) 64 (s .value)) (both (le-leb 1 (entryCount t i) (s .some)) (le-leb (entryCount t i) 4 (s .few))))
-
-drop-take : {A : Type 0} (n k : ℕ) (l : List A) → drop n (take k l) ≡ take (k - n) (drop n l)
-drop-take zero k l = rw (sub-zero k) refl
-drop-take (suc n) zero l = rw (zero-sub (suc n)) refl
-drop-take (suc n) (suc k) [] = sym (take-nil (suc k - suc n))
-drop-take (suc n) (suc k) (x ∷ l) = drop-take n k l ∙ ap (λ (m : ℕ). take m (drop n l)) (sym (suc-sub-suc k n))
 
 bytes-drop : (n : ℕ) (t : Octets) → Bytes t → Bytes (drop n t)
 bytes-drop n t b k = rw (getD-drop n t k 0) (b (n + k))
@@ -264,13 +258,3 @@ module _ (t : Octets) (bytes : Bytes t) (whole : length t ≡ tableSize) (i : �
 
     pub unused-other : (i ≡ 0 → ⊥) → {b : Bool} → b ≡ allZero (take (i * 108 + 108 - i * 108) (drop (i * 108) t)) → b ≡ goodSlot t i
     unused-other n e = e ∙ sym (unused-slot ∙ rw (ne-eqb i 0 n) (and-true (allZero (take (i * 108 + 108 - i * 108) (drop (i * 108) t)))))
-
--- a part of the table from a place behind a text on, as the code has it
-pub behind : (t : Octets) (at k n : ℕ) → n ≤ k → take (at + k - (at + n)) (drop (at + n) t) ≡ drop n (take k (drop at t))
-behind t at k n h = sym (drop-take n k (drop at t) ∙ rw (drop-drop n at t, fewer) refl)
-  where
-    fewer : k - n ≡ at + k - (at + n)
-    fewer = omega arith
-
-pub zero-from : (t : Octets) (at k m n : ℕ) → m ≡ n → n ≤ k → (b : Bool) → b ≡ allZero (take (at + k - (at + m)) (drop (at + m) t)) → b ≡ allZero (drop n (take k (drop at t)))
-zero-from t at k m n e h b f = f ∙ rw (e, behind t at k n h) refl

@@ -1,10 +1,9 @@
 -- A number for each slot that siblings with one name share.
-use mathlib.Core.Bool.{Bool, false, cond, _||_}
-use mathlib.Core.List.{List}
+use mathlib.Core.Bool.{cond}
 use mathlib.Core.Option.{Option, none, some}
-use Prim.Native.Nat.{ℕ, zero, suc, _+_, _*_, _-_, _%_}
+use Prim.Native.Nat.{ℕ, _+_, _*_, _-_, _/_, _%_}
 use lib.ListN.{length, getD}
-use lib.Dec.{eqb, ltb}
+use lib.Dec.{ltb}
 use Rattle.rules.specs.Octets.{Octets}
 use Rattle.rules.specs.Node.{Node}
 
@@ -19,7 +18,6 @@ unfoldable pub keyOf : Option Node → ℕ
 keyOf none = 0
 keyOf (some n) = 32768 + n .parent * 256 + digestOf (n .name)
 
--- k is among the first n of some numbers
-unfoldable pub listed : ℕ → List ℕ → ℕ → Bool
-listed k xs zero = false
-listed k xs (suc n) = listed k xs n || eqb (getD xs n 0) k
+-- one of 1,024 places
+unfoldable pub placeOf : ℕ → ℕ
+placeOf k = k * 40503 / 64 % 1024

@@ -1,8 +1,7 @@
 // Siblings with one name. Each used slot has a key, which those siblings share, so that names are compared only where keys agree.
 ghost use mathlib.Core.Path.{_≡_};
-ghost use mathlib.Core.Bool.{true, not, _&&_};
+ghost use mathlib.Core.Bool.{true};
 ghost use Prim.Native.Nat.{_+_, _≤_, _<_};
-ghost use lib.Dec.{eqb};
 ghost use lib.ListN.{length};
 ghost use Rattle.rules.specs.Size.{slots};
 ghost use Rattle.rules.specs.Octets.{same};
@@ -10,7 +9,7 @@ ghost use Rattle.rules.specs.Node.{nodeAt};
 ghost use Rattle.rules.specs.Layout.{tableOf};
 ghost use Rattle.rules.specs.Sound.{distinct};
 ghost use Rattle.slots.specs.Slot.{slotAt, isUsed};
-ghost use Rattle.soundness.specs.Keys.{digestOf, keyOf, listed};
+ghost use Rattle.soundness.specs.Keys.{digestOf, keyOf, placeOf};
 ghost use Rattle.soundness.specs.Walks.{Short};
 use octets::compare::same;
 use slots::fields::SLOTS;
@@ -48,17 +47,11 @@ fn key_of(t: &[u8], i: usize) -> u16
     (32768 + p * 256 + digest(name(t, i))) as u16
 }
 
-// Whether a key, which is not 0, is among the keys. Every one is looked at, with one test at the end.
-fn among(keys: &[u16; 128], key: u16) -> bool
-    ensures { λ r. ⌜ r ≡ not (eqb key 0) && listed key (now (keys .entry)) slots ⌝ }
+// A place for a key, one of 1,024.
+fn place_of(key: u16) -> usize
+    ensures { λ r. ⌜ (r ≡ placeOf key) × (r < 1024) ⌝ }
 {
-    let mut hit = false;
-    let mut j = 0;
-    while j < SLOTS {
-        hit = hit | (keys[j] == key);
-        j += 1;
-    }
-    hit & (key != 0)
+    key as usize * 40503 / 64 % 1024
 }
 
 fn same_names(t: &[u8], i: usize, j: usize) -> bool
@@ -70,17 +63,20 @@ fn same_names(t: &[u8], i: usize, j: usize) -> bool
     same(a, b)
 }
 
-// Whether no two siblings have one name. The look ends at the first pair that has.
+// Whether no two siblings have one name. A slot is compared with those before it only where one of them has the place of its key, and
+// the look ends at the first pair that has one name.
 pub fn all_distinct(t: &[u8]) -> bool
     requires { ⌜ Short (now t) ⌝ }
     ensures { λ r. ⌜ r ≡ distinct (tableOf (now (t .entry))) ⌝ }
 {
     let mut keys = [0u16; 128];
+    let mut taken = [0u8; 1024];
     let mut apart = true;
     let mut i = 0;
     'pairs: while i < SLOTS {
         let key = key_of(t, i);
-        if among(&keys, key) {
+        let place = place_of(key);
+        if (taken[place] != 0) & (key != 0) {
             let mut j = 0;
             while j < i {
                 if keys[j] == key {
@@ -93,6 +89,7 @@ pub fn all_distinct(t: &[u8]) -> bool
             }
         }
         keys[i] = key;
+        taken[place] = 1;
         i += 1;
     }
     apart

@@ -1,11 +1,11 @@
 // A slot by itself: its lengths, its entries, its padding and its name.
 ghost use mathlib.Core.Path.{_≡_};
-ghost use mathlib.Core.Bool.{true};
+ghost use mathlib.Core.Bool.{true, _&&_};
 ghost use Prim.Native.Nat.{_+_, _*_, _-_, _≤_, _<_, _^_, _%_};
 ghost use lib.Dec.{eqb};
-ghost use lib.ListN.{length};
+ghost use lib.ListN.{length, getD, take, drop};
 ghost use Rattle.rules.specs.Size.{slots, tableSize};
-ghost use Rattle.rules.specs.Octets.{field};
+ghost use Rattle.rules.specs.Octets.{allZero, field};
 ghost use Rattle.rules.specs.Path.{nameByte, isName};
 ghost use Rattle.rules.specs.Node.{nodeAt};
 ghost use Rattle.rules.specs.Layout.{tableOf};
@@ -84,14 +84,11 @@ fn low_domains(first: u64, rest: u64) -> bool
     rest % 65536 <= LAST_DOMAIN
 }
 
-// Whether the entries past the count are zero.
+// Whether the entries past the count, which is not 1, are zero.
 fn zero_past(rest: u64, count: usize) -> bool
-    requires { ⌜ (1 ≤ count) × (count ≤ 4) ⌝ }
+    requires { ⌜ (2 ≤ count) × (count ≤ 4) ⌝ }
     ensures { λ r. ⌜ r ≡ eqb (rest % 2 ^ (18 * (4 - count))) 0 ⌝ }
 {
-    if count == 1 {
-        return rest % 18014398509481984 == 0;
-    }
     if count == 2 {
         return rest % 68719476736 == 0;
     }
@@ -101,17 +98,58 @@ fn zero_past(rest: u64, count: usize) -> bool
     true
 }
 
+// Whether the only entry's domain is not above the last, and the entries past it are zero; the entries start at `at`.
+fn lone_entry(t: &[u8], at: usize) -> bool
+    requires { ⌜ at + 9 ≤ length (now t) ⌝ }
+    ensures { λ r. ⌜ r ≡ lowDomains (getD (now (t .entry)) at 0) (field (now (t .entry)) (at + 1) 8) && eqb (field (now (t .entry)) (at + 1) 8 % 2 ^ 54) 0 ⌝ }
+{
+    let first = t[at] as u64;
+    let second = t[at + 1] as u64;
+    let third = t[at + 2] as u64;
+    if LAST_DOMAIN < (first * 1024 + second * 4 + third / 64) % 65536 {
+        return false;
+    }
+    if third % 64 != 0 {
+        return false;
+    }
+    let middle = four(t, at + 3);
+    let low = t[at + 7] as u64 * 256 + t[at + 8] as u64;
+    (middle == 0) & (low == 0)
+}
+
+// Whether the domains are not above the last, and the entries past the count are zero.
 fn kept_entries(t: &[u8], i: usize) -> bool
     requires { ⌜ Used (now t) i × (sized (now t) i ≡ true) ⌝ }
     ensures { λ r. ⌜ r ≡ keptEntries (now (t .entry)) i ⌝ }
 {
     let at = i * SLOT_SIZE + 3;
+    let count = entry_count(t, i);
+    if count == 1 {
+        return lone_entry(t, at);
+    }
     let first = t[at] as u64;
     let rest = eight(t, at + 1);
     if !low_domains(first, rest) {
         return false;
     }
-    zero_past(rest, entry_count(t, i))
+    zero_past(rest, count)
+}
+
+// Whether the bytes from `n` on of a part of two halves are zero. Most texts end in the first half; the bytes are then looked at in
+// two pieces of one fixed length, the second half and as many from `n` on.
+fn zero_from(t: &[u8], at: usize, n: usize, half: usize) -> bool
+    requires { ⌜ (n ≤ half + half) × (at + (half + half) ≤ length (now t)) ⌝ }
+    ensures { λ r. ⌜ r ≡ allZero (drop n (take (half + half) (drop at (now (t .entry))))) ⌝ }
+{
+    let from = at + n;
+    let end = at + (half + half);
+    if half < n {
+        return all_zero(&t[from..end]);
+    }
+    if !all_zero(&t[at + half..end]) {
+        return false;
+    }
+    all_zero(&t[from..from + half])
 }
 
 // Whether what stands behind the name and behind the value is zero.
@@ -119,14 +157,11 @@ fn zero_behind(t: &[u8], i: usize) -> bool
     requires { ⌜ (i < slots) × (length (now t) ≡ tableSize) × (sized (now t) i ≡ true) ⌝ }
     ensures { λ r. ⌜ r ≡ zeroBehind (now (t .entry)) i ⌝ }
 {
-    let name_at = i * SLOT_SIZE + 12;
-    let n = name_length(t, i);
-    let value_at = i * SLOT_SIZE + 44;
-    let v = value_length(t, i);
-    if !all_zero(&t[name_at + n..name_at + LONGEST_NAME]) {
+    let at = i * SLOT_SIZE;
+    if !zero_from(t, at + 12, name_length(t, i), LONGEST_NAME / 2) {
         return false;
     }
-    all_zero(&t[value_at + v..value_at + LONGEST_VALUE])
+    zero_from(t, at + 44, value_length(t, i), LONGEST_VALUE / 2)
 }
 
 // Whether a byte may stand in a name, by its value: most are small letters.

@@ -1,37 +1,40 @@
 use Rattle.slots.specs.Slot.{slotAt}
-use Rattle.soundness.proofs.KeyLaws.{key-used, among-used}
+use Rattle.soundness.proofs.KeyLaws.{key-used}
 use mathlib.Core.Path.{_≡_, refl, sym, _∙_}
 use mathlib.Core.Bool.{true}
 use mathlib.Core.Logic.{⊎-elim}
 use Prim.Native.Nat.{_≤_, _-_}
 use native.Mathlib.Omega.{arith}
-use Rattle.soundness.proofs.PairLaws.{row-whole, Keyed, Apart, Row, keyed-next, apart-next, row-differ, row-names, row-new, all-apart, pair-found}
+use Rattle.soundness.proofs.PairLaws.{row-whole, Taken, taken-next, met-key, Keyed, Apart, Row, keyed-next, apart-next, row-differ, row-names, row-new, all-apart, pair-found}
 use Rattle.soundness.proofs.pairs.all_distinct.Statement.{statement}
 use Rattle.soundness.proofs.pairs.all_distinct.Tie as tie
 
 abbrev Inv-loop : tie.InvT-loop
-Inv-loop t keys apart₀ i key j₀ apart j = (j ≤ i) × (apart ≡ true) × Row t i j
+Inv-loop t keys taken apart₀ i key place j₀ apart j = (j ≤ i) × (apart ≡ true) × Row t i j
 
 abbrev μ-loop : tie.MeasureT-loop
-μ-loop t keys apart₀ i key j₀ apart j = i - j
+μ-loop t keys taken apart₀ i key place j₀ apart j = i - j
 
 abbrev Inv-pairs : tie.InvT-pairs
-Inv-pairs t keys₀ apart₀ i₀ keys apart i = (i ≤ 128) × (apart ≡ true) × Keyed t keys i × Apart t i
+Inv-pairs t keys₀ taken₀ apart₀ i₀ keys taken apart i = (i ≤ 128) × (apart ≡ true) × Keyed t keys i × Apart t i × Taken t taken i
 
 abbrev μ-pairs : tie.MeasureT-pairs
-μ-pairs t keys₀ apart₀ i₀ keys apart i = 128 - i
+μ-pairs t keys₀ taken₀ apart₀ i₀ keys taken apart i = 128 - i
 
 pairs-holds : tie.Need-pairs-holds Inv-loop μ-loop Inv-pairs μ-pairs
-pairs-holds c = (omega arith, refl, record { long = refl; each = λ j l. absurd (omega arith) }, λ a b n m l h p q. absurd (omega arith))
+pairs-holds c = (omega arith, refl, record { long = refl; each = λ j l. absurd (omega arith) }, λ a b n m l h p q. absurd (omega arith), record { long = refl; each = λ j l. absurd (omega arith) })
 
 key-of-requires : tie.Need-key-of-requires Inv-loop μ-loop Inv-pairs μ-pairs
 key-of-requires c κs = (omega arith, c .before .before .before .pre)
 
-among-requires : tie.Need-among-requires Inv-loop μ-loop Inv-pairs μ-pairs
-among-requires c κs = tt
+place-of-requires : tie.Need-place-of-requires Inv-loop μ-loop Inv-pairs μ-pairs
+place-of-requires c κs = tt
+
+array-read-if1 : tie.Need-array-read-if1 Inv-loop μ-loop Inv-pairs μ-pairs
+array-read-if1 c = c .place-of .ensures .1
 
 loop-holds : tie.Need-loop-holds Inv-loop μ-loop Inv-pairs μ-pairs
-loop-holds c = (omega arith, c .before .before .before .before .before .pairs .inv .1, λ a n m l p q. absurd (omega arith))
+loop-holds c = (omega arith, c .before .before .before .before .pairs .inv .1, λ a n m l p q. absurd (omega arith))
 
 mul-if2 : tie.Need-mul-if2 Inv-loop μ-loop Inv-pairs μ-pairs
 mul-if2 c = omega arith
@@ -42,10 +45,10 @@ array-read-if2 c = omega arith
 same-names-requires : tie.Need-same-names-requires Inv-loop μ-loop Inv-pairs μ-pairs
 same-names-requires c κs =
     let l = c .before .before in
-    let k = c .before .before .before .before .before .before in
-    let p = c .before .before .before .before .before .before .before .before in
+    let k = c .before .before .before .before .before in
+    let p = c .before .before .before .before .before .before .before in
     let t = p .before .before .args .t .now in
-    let z = among-used (k .key-of .result) (p .pairs .keys) (c .before .before .before .before .among .ensures) (c .before .before .before .if1 .taken) in (
+    let z = met-key (p .pairs .taken) (c .before .before .before .before .place-of .result) (k .key-of .result) (c .before .before .before .if1 .taken) in (
       omega arith,
       k .before .pairs-test .taken,
       p .before .before .pre,
@@ -62,8 +65,8 @@ loop-less c = omega arith
 loop-again : tie.Need-loop-again Inv-loop μ-loop Inv-pairs μ-pairs
 loop-again c =
     let l = c .before .before in
-    let k = c .before .before .before .before .before .before in
-    let p = c .before .before .before .before .before .before .before .before in
+    let k = c .before .before .before .before .before in
+    let p = c .before .before .before .before .before .before .before in
     let t = p .before .before .args .t .now in (
       omega arith,
       l .loop .inv .1,
@@ -79,6 +82,9 @@ mul-keys c = omega arith
 array-write-keys : tie.Need-array-write-keys Inv-loop μ-loop Inv-pairs μ-pairs
 array-write-keys c = omega arith
 
+array-write-taken : tie.Need-array-write-taken Inv-loop μ-loop Inv-pairs μ-pairs
+array-write-taken c = c .before .place-of .ensures .1
+
 add-i : tie.Need-add-i Inv-loop μ-loop Inv-pairs μ-pairs
 add-i c = omega arith
 
@@ -88,16 +94,17 @@ pairs-less c = omega arith
 pairs-again : tie.Need-pairs-again Inv-loop μ-loop Inv-pairs μ-pairs
 pairs-again c =
     let a = c .before in
-    let k = c .before .before .before in
-    let p = c .before .before .before .before .before in
+    let k = c .before .before in
+    let p = c .before .before .before .before in
     let t = p .before .before .args .t .now in (
       omega arith,
       ⊎-elim (λ w. w .3 ∙ w .1 .inv .1) (λ w. w .1 ∙ p .pairs .inv .1) (c .if1 .came),
       keyed-next t (p .pairs .keys) (p .pairs .i) (k .key-of .result) (k .before .pairs-test .taken) (k .key-of .ensures) (p .pairs .inv .2),
       apart-next t (p .pairs .i) (p .pairs .inv .3) (⊎-elim
           (λ w. row-whole t (p .pairs .i) (w .1 .j) (w .1 .inv .0) (w .2 .left) (w .1 .inv .2))
-          (λ w. row-new t (p .pairs .keys) (p .pairs .i) (k .key-of .result) (p .pairs .inv .2) (k .before .pairs-test .taken) (k .key-of .ensures) (sym (a .among .ensures) ∙ w .0 .left))
+          (λ w. row-new t (p .pairs .taken) (p .pairs .i) (k .key-of .result) (a .place-of .result) (p .pairs .inv .4) (k .key-of .ensures) (a .place-of .ensures .0) (w .0 .left))
           (c .if1 .came)),
+      taken-next t (p .pairs .taken) (p .pairs .i) (k .key-of .result) (a .place-of .result) (k .key-of .ensures) (a .place-of .ensures .0) (a .place-of .ensures .1) (p .pairs .inv .4),
     )
 
 returns : tie.Need-returns Inv-loop μ-loop Inv-pairs μ-pairs
@@ -106,10 +113,10 @@ returns c = c .before .pairs .inv .1 ∙ all-apart _ (c .before .pairs .i) (c .p
 returns-2 : tie.Need-returns-2 Inv-loop μ-loop Inv-pairs μ-pairs
 returns-2 c =
     let l = c .before .before .before .before in
-    let k = c .before .before .before .before .before .before .before .before in
-    let p = c .before .before .before .before .before .before .before .before .before .before in
+    let k = c .before .before .before .before .before .before .before in
+    let p = c .before .before .before .before .before .before .before .before .before in
     pair-found (p .before .before .args .t .now) (p .pairs .keys) (p .pairs .i) (l .loop .j) (k .key-of .result) (p .pairs .inv .2) (k .key-of .ensures)
-    (among-used (k .key-of .result) (p .pairs .keys) (c .before .before .before .before .before .before .among .ensures) (c .before .before .before .before .before .if1 .taken))
+    (met-key (p .pairs .taken) (c .before .before .before .before .before .before .place-of .result) (k .key-of .result) (c .before .before .before .before .before .if1 .taken))
     (c .before .before .before .loop-test .taken) (c .before .before .if2 .taken) (sym (c .before .same-names .ensures) ∙ c .if3 .taken)
 
 pub all-distinct-spec : {M : Type 1} → statement M
@@ -122,7 +129,8 @@ all-distinct-spec =
     μ-pairs
     pairs-holds
     key-of-requires
-    among-requires
+    place-of-requires
+    array-read-if1
     loop-holds
     mul-if2
     array-read-if2
@@ -132,6 +140,7 @@ all-distinct-spec =
     loop-again
     mul-keys
     array-write-keys
+    array-write-taken
     add-i
     pairs-less
     pairs-again

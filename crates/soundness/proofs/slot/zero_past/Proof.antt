@@ -10,10 +10,7 @@ returns-2 : tie.Need-returns-2
 returns-2 c = past-count (c .before .before .args .rest) (c .if2 .taken)
 
 returns-3 : tie.Need-returns-3
-returns-3 c = past-count (c .before .before .before .args .rest) (c .if3 .taken)
-
-returns-4 : tie.Need-returns-4
-returns-4 c = past-none (c .before .before .before .args .rest) (omega arith)
+returns-3 c = past-none (c .before .before .args .rest) (omega arith)
 
 pub zero-past-spec : {M : Type 1} → statement M
-zero-past-spec = tie.close (tie.spec returns returns-2 returns-3 returns-4)
+zero-past-spec = tie.close (tie.spec returns returns-2 returns-3)

@@ -4,8 +4,8 @@ use Rattle.nodes.specs.declared.kinds.Ask.{Ask}
 use Rattle.nodes.specs.Answers.{Askable}
 use Rattle.nodes.proofs.ChangingLaws.{answered-as, answered-one}
 use borrow.Author.Needs.{needs}
-use Rattle.nodes.proofs.requests.answer.Statement.{statement}
-use Rattle.nodes.proofs.requests.answer.Tie as tie
+use Rattle.nodes.proofs.answers.answer.Statement.{statement}
+use Rattle.nodes.proofs.answers.answer.Tie as tie
 
 enum-told : tie.Need-enum-told
 enum-told c = search needs
