@@ -1,0 +1,217 @@
+-- Who hears a change: the rule of the rule book, test by test.
+use mathlib.Core.Path.{_≡_, refl, sym, ap, ap₂, _∙_}
+use mathlib.Core.Bool.{Bool, true, false, not, _&&_, _||_}
+use mathlib.Core.List.{[], _∷_}
+use mathlib.Core.Option.{Option, none, some}
+use Prim.Native.Nat.{ℕ, _≤_, _<_}
+use native.Mathlib.Omega.{arith}
+use lib.ListN.{length, getD, drop}
+use lib.Dec.{leb}
+use borrow.Author.Tests.{lt-leb, not-false}
+use Rattle.rules.specs.Size.{mostWatches}
+use Rattle.rules.specs.Octets.{Octets, same, text}
+use Rattle.rules.specs.Entries.{isEmpty}
+use Rattle.rules.specs.Path.{Domain, Names, isFull, namesIn, slashed, pathText, beyond, special, given, introduceName, releaseName}
+use Rattle.rules.specs.Node.{Table, nodeAt}
+use Rattle.rules.specs.Rights.{mayRead, readable}
+use Rattle.rules.specs.Payload.{Place, path, event}
+use Rattle.rules.specs.Answer.{Change}
+use Rattle.rules.specs.Event.{Watch, placeText, deepEnough, mayHear, hearsAt, hears, isEvent}
+use Rattle.rules.specs.Layout.{tableOf, watchesOf}
+use Rattle.rules.proofs.Compare.{same-eq}
+use Rattle.rules.proofs.PathLaws.{given-event, text-names, text-full}
+use Rattle.rules.proofs.EntryLayouts.{PlaceFits, watch-decoded}
+use Rattle.paths.specs.Relation.{levelsOf}
+use Rattle.paths.specs.declared.answer.Beyond.the-variants.{Levels, Not}
+use Rattle.paths.proofs.PieceLaws.{split-first}
+use Rattle.slots.specs.Left.{leftAt}
+use Rattle.lookup.specs.Reach.{Reaches}
+use Rattle.lookup.proofs.ReachLaws.{left-over}
+use Rattle.tables.specs.declared.Depth.{Depth}
+use Rattle.tables.specs.declared.Depth.the-variants.{To, Any}
+use Rattle.tables.specs.Entry.{taken, passes}
+use Rattle.tables.specs.Kept.{KeptWatches}
+use Rattle.tables.specs.Watch.{depthMeant, nobody, watchOf, TakenWatch, watchGiven}
+use Rattle.tables.proofs.Search.{passes-taken}
+use Rattle.tables.proofs.WatchLaws.{is-read, read-narrow}
+use Rattle.events.specs.Stores.{hearsAbove, eventName}
+
+-- ── rights ──
+
+left-some : (p : Octets) (at : ℕ) → at < length p → isEmpty (leftAt p at) ≡ false
+unfolding leftAt isEmpty
+left-some p at h = rw (lt-leb (length p) at h, split-first (drop at p))
+
+module _ (t p : Octets) (d : Domain) (i at : ℕ) (r : Reaches t p i at) where
+  pub unreadable : at < length p → false ≡ readable (tableOf t) d (namesIn p)
+  unfolding readable
+  unreadable h = rw (← r .left, left-some p at h)
+
+  pub readable-there : length p ≤ at → mayRead d (nodeAt (tableOf t) i) ≡ readable (tableOf t) d (namesIn p)
+  unfolding readable isEmpty
+  readable-there h = rw (← r .left, left-over p at h, ← r .there)
+
+module _ (b a : Table) (d : Domain) (ns : Names) where
+  pub heard-before : readable b d ns ≡ true → true ≡ mayHear b a d ns
+  unfolding mayHear
+  heard-before e = rw e
+
+  pub heard-after : readable b d ns ≡ false → readable a d ns ≡ mayHear b a d ns
+  unfolding mayHear
+  heard-after e = rw e
+
+-- ── depth ──
+
+module _ (d : Depth) (n : ℕ) where
+  pub depth-to : (k : ℕ) → d ≡ To k → leb n k ≡ deepEnough (depthMeant d) n
+  unfolding deepEnough
+  depth-to k e = sym (ap (λ (x : Depth). deepEnough (depthMeant x) n) e)
+
+  pub depth-any : d ≡ Any → true ≡ deepEnough (depthMeant d) n
+  unfolding deepEnough
+  depth-any e = sym (ap (λ (x : Depth). deepEnough (depthMeant x) n) e)
+
+-- ── one path and another ──
+
+pub record Levelled (m : Option Names) (n : ℕ) : Type 0 where
+  pub rest : Names
+  pub found : m ≡ some rest
+  pub levels : n ≡ length rest
+
+levelled : (m : Option Names) (n : ℕ) → levelsOf m ≡ Levels n → Levelled m n
+unfolding levelsOf
+levelled none n e = let z : _≡_ {A = ℕ} 0 1 = cc in absurd (omega arith)
+levelled (some rest) n e = record { rest = rest; found = refl; levels = cc }
+
+beside-none : (m : Option Names) → levelsOf m ≡ Not → m ≡ none
+unfolding levelsOf
+beside-none none e = refl
+beside-none (some rest) e = let z : _≡_ {A = ℕ} 0 1 = cc in absurd (omega arith)
+
+module _ (b a : Table) (d : Domain) (own names : Names) (removed : Bool) where
+  abbrev aboveBy : Option Names → Bool
+  aboveBy m = elim m as (λ m. Bool) [ none ↦ false | some rest ↦ removed && mayHear b a d own ]
+
+  pub above-kept : removed ≡ false → false ≡ hearsAbove b a d own names removed
+  unfolding hearsAbove
+  above-kept e = go (beyond names own)
+    where
+      go : (m : Option Names) → false ≡ aboveBy m
+      go none = refl
+      go (some rest) = rw e
+
+  pub above-removed : removed ≡ true → (n : ℕ) → levelsOf (beyond names own) ≡ Levels n → mayHear b a d own ≡ hearsAbove b a d own names removed
+  unfolding hearsAbove
+  above-removed e n l = sym (ap aboveBy (levelled _ n l .found) ∙ rw e)
+
+  pub above-other : levelsOf (beyond names own) ≡ Not → false ≡ hearsAbove b a d own names removed
+  unfolding hearsAbove
+  above-other l = sym (ap aboveBy (beside-none _ l))
+
+module _ (b a : Table) (w : Watch) (own : Names) (c : Change) where
+  abbrev atBy : Option Names → Bool
+  atBy m = elim m as (λ m. Bool) [ some rest ↦ deepEnough (w .depth) (length rest) && mayHear b a (w .owner) (c .names) | none ↦ hearsAbove b a (w .owner) own (c .names) (c .removal) ]
+
+  at-is : hearsAt b a w own c ≡ atBy (beyond own (c .names))
+  unfolding hearsAt hearsAbove
+  at-is = refl
+
+  pub too-deep : (n : ℕ) → levelsOf (beyond own (c .names)) ≡ Levels n → deepEnough (w .depth) n ≡ false → false ≡ hearsAt b a w own c
+  too-deep n l e = let f = levelled _ n l in sym (at-is ∙ ap atBy (f .found) ∙ rw (← f .levels, e))
+
+  pub within-depth : (n : ℕ) → levelsOf (beyond own (c .names)) ≡ Levels n → deepEnough (w .depth) n ≡ true → mayHear b a (w .owner) (c .names) ≡ hearsAt b a w own c
+  within-depth n l e = let f = levelled _ n l in sym (at-is ∙ ap atBy (f .found) ∙ rw (← f .levels, e))
+
+  pub not-below : levelsOf (beyond own (c .names)) ≡ Not → hearsAbove b a (w .owner) own (c .names) (c .removal) ≡ hearsAt b a w own c
+  not-below l = sym (at-is ∙ ap atBy (beside-none _ l))
+
+-- only the owner and the depth of a watch are asked
+pub same-hearing : (b a : Table) (v w : Watch) (own : Names) (c : Change) → v .owner ≡ w .owner → v .depth ≡ w .depth → hearsAt b a v own c ≡ hearsAt b a w own c
+unfolding hearsAt
+same-hearing b a v w own c e f = ap₂ (λ (d : Domain) (m : Option ℕ). hearsAt b a (record { owner = d; place = w .place; depth = m; token = w .token }) own c) e f
+
+-- ── a watch's place ──
+
+slash-first : (ns : Names) → (0 < length (pathText ns)) × (getD (pathText ns) 0 0 ≡ 47)
+unfolding pathText slashed
+slash-first [] = (omega arith, refl)
+slash-first (n ∷ ns) = (omega arith, refl)
+
+event-first : (e : Octets) → given e ≡ special e → getD e 0 0 ≡ 64
+unfolding introduceName releaseName text
+event-first e h = go (same e introduceName) refl (given-event e e h .named)
+  where
+    go : (x : Bool) → same e introduceName ≡ x → (x || same e releaseName) ≡ true → getD e 0 0 ≡ 64
+    go true p q = ap (λ (l : Octets). getD l 0 0) (same-eq e introduceName p)
+    go false p q = ap (λ (l : Octets). getD l 0 0) (same-eq e releaseName q)
+
+no-event : (x : Bool) (ns : Names) → same (eventName x) (pathText ns) ≡ false
+unfolding eventName releaseName introduceName text pathText slashed same
+no-event true [] = refl
+no-event true (n ∷ ns) = refl
+no-event false [] = refl
+no-event false (n ∷ ns) = refl
+
+pub taken-here : {s : Octets} {k : ℕ} → k < mostWatches → KeptWatches s → {u : Bool} → u ≡ taken (getD (watchesOf s) k none) → not u ≡ false → TakenWatch s k
+taken-here h w {u} e f = record { below = h; kept = w; used = sym e ∙ not-false u f }
+
+module _ (s : Octets) (k : ℕ) (h : TakenWatch s k) (own : Octets) (o : own ≡ placeText (watchOf s k .place)) where
+  abbrev w : Watch
+  w = watchOf s k
+
+  place-fits : (w .place ≡ event [] → ⊥) → PlaceFits (w .place)
+  place-fits = rw (is-read s k (h .below) (h .used)) (watch-decoded _ _ .place)
+
+  pub own-short : length own ≤ 264
+  own-short = rw (o, is-read s k (h .below) (h .used)) (read-narrow _ _ .path)
+
+  -- the place of a watch whose text begins with a slash is a full path
+  pub record OnPath : Type 0 where
+    pub relative : Bool
+    pub full : isFull own ≡ true
+    pub place : w .place ≡ path relative (namesIn own)
+
+  pub on-path : (length own ≡ 0 → ⊥) → getD own 0 0 ≡ 47 → OnPath
+  unfolding placeText
+  on-path l f = go (w .place) refl place-fits
+    where
+      go : (p : Place) → w .place ≡ p → ((p ≡ event [] → ⊥) → PlaceFits p) → OnPath
+      go (path r ns) e g =
+          let q = g (λ z. let y : _≡_ {A = ℕ} 0 1 = cc in omega arith) in
+          let short : length (pathText ns) ≤ 3072 = omega (arith, q .1) in
+          let t : own ≡ pathText ns = o ∙ ap placeText e in
+          record { relative = r; full = rw t (text-full ns (q .0) short); place = e ∙ ap (path r) (sym (ap namesIn t ∙ text-names ns (q .0) short)) }
+      go (event x) e g =
+          let t : own ≡ x = o ∙ ap placeText e in
+          let q = g (λ z. l (ap length (o ∙ ap placeText (e ∙ z)))) in
+          let y = event-first x (q .0) in
+          absurd (omega (arith, y, rw t at f))
+
+  module _ (b a : Table) (c : Change) where
+    abbrev hearsBy : Place → Bool
+    hearsBy p = elim p as (λ p. Bool) [ path r wn ↦ hearsAt b a w wn c | event e ↦ false ]
+
+    here : hears b a c w ≡ passes (hears b a c) (getD (watchesOf s) k none)
+    here = sym (passes-taken (hears b a c) nobody (getD (watchesOf s) k none) (h .used))
+
+    -- an event's name begins with no slash
+    pub deaf : ((0 < length own) × (getD own 0 0 ≡ 47) → ⊥) → false ≡ passes (hears b a c) (getD (watchesOf s) k none)
+    unfolding hears placeText
+    deaf f = go (w .place) refl ∙ here
+      where
+        go : (p : Place) → w .place ≡ p → false ≡ hearsBy p
+        go (path r ns) e = absurd (f (rw (o ∙ ap placeText e) (slash-first ns)))
+        go (event x) e = refl
+
+    pub hears-so : OnPath → (d : ℕ) (depth : Depth) → d ≡ w .owner → depthMeant depth ≡ w .depth → hearsAt b a (watchGiven d own true depth []) (namesIn own) c ≡ passes (hears b a c) (getD (watchesOf s) k none)
+    unfolding watchGiven hears
+    hears-so f d depth p q = same-hearing b a (watchGiven d own true depth []) w (namesIn own) c p q ∙ sym (ap hearsBy (f .place)) ∙ here
+
+  -- a watch on the event of a release, or of an introduction
+  pub event-hears : (released : Bool) → same (eventName released) own ≡ passes (isEvent (eventName released)) (getD (watchesOf s) k none)
+  unfolding isEvent placeText
+  event-hears released = go (w .place) refl ∙ sym (passes-taken (isEvent (eventName released)) nobody (getD (watchesOf s) k none) (h .used))
+    where
+      go : (p : Place) → w .place ≡ p → same (eventName released) own ≡ (elim p as (λ p. Bool) [ path r ns ↦ false | event f ↦ same (eventName released) f ])
+      go (path r ns) e = ap (same (eventName released)) (o ∙ ap placeText e) ∙ no-event released ns
+      go (event x) e = ap (same (eventName released)) (o ∙ ap placeText e)

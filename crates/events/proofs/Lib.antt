@@ -1,0 +1,6 @@
+pub mod HearingLaws
+pub mod MaskLaws
+pub mod RecordLaws
+pub mod Fronts
+pub mod SlotPaths
+pub mod ChangeLaws

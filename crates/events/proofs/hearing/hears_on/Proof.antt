@@ -1,0 +1,52 @@
+use mathlib.Core.Path.{sym, _∙_}
+use borrow.Author.Tests.{not-true, not-false}
+use borrow.Author.Needs.{needs}
+use Rattle.tables.specs.Transaction.{changeGiven}
+use Rattle.tables.specs.Watch.{watchGiven}
+use Rattle.events.proofs.HearingLaws.{too-deep, within-depth, not-below}
+use Rattle.events.proofs.hearing.hears_on.Statement.{statement}
+use Rattle.events.proofs.hearing.hears_on.Tie as tie
+
+beyond-requires : tie.Need-beyond-requires
+beyond-requires c κs = search needs
+
+enum-known-levels : tie.Need-enum-known-levels
+enum-known-levels c = search needs
+
+deep-enough-requires : tie.Need-deep-enough-requires
+deep-enough-requires c κs = search needs
+
+returns : tie.Need-returns
+unfolding watchGiven changeGiven
+returns c = too-deep _ _ _ _ _ _ (sym (c .before .before .before .before .before .beyond .ensures) ∙ c .before .before .before .levels .given .1) (sym (c .before .deep-enough .ensures) ∙ not-true _ (c .if1 .taken))
+
+may-hear-requires : tie.Need-may-hear-requires
+may-hear-requires c κs = search needs
+
+enum-told : tie.Need-enum-told
+enum-told c = search needs
+
+hears-above-requires : tie.Need-hears-above-requires
+hears-above-requires c κs = search needs
+
+returns-2 : tie.Need-returns-2
+unfolding watchGiven changeGiven
+returns-2 c = c .may-hear .ensures ∙ within-depth _ _ _ _ _ _ (sym (c .before .before .before .before .before .before .beyond .ensures) ∙ c .before .before .before .before .levels .given .1) (sym (c .before .before .deep-enough .ensures) ∙ not-false _ (c .before .if1 .left))
+
+returns-3 : tie.Need-returns-3
+unfolding watchGiven changeGiven
+returns-3 c = c .hears-above .ensures ∙ not-below _ _ _ _ _ (sym (c .before .before .before .beyond .ensures) ∙ c .before .enum-told .given .1)
+
+pub hears-on-spec : {M : Type 1} → statement M
+hears-on-spec =
+    tie.close
+    (tie.spec
+    beyond-requires
+    enum-known-levels
+    deep-enough-requires
+    returns
+    may-hear-requires
+    enum-told
+    hears-above-requires
+    returns-2
+    returns-3)

@@ -1,0 +1,136 @@
+// Whether a watch hears a change.
+ghost use mathlib.Core.Path.{_≡_};
+ghost use mathlib.Core.Bool.{true};
+ghost use mathlib.Core.List.{[]};
+ghost use mathlib.Core.Option.{none};
+ghost use Prim.Native.Nat.{_<_};
+ghost use lib.ListN.{getD};
+ghost use Rattle.rules.specs.Size.{mostWatches};
+ghost use Rattle.rules.specs.Path.{isFull, namesIn};
+ghost use Rattle.rules.specs.Rights.{readable};
+ghost use Rattle.rules.specs.Event.{deepEnough, mayHear, hearsAt, hears};
+ghost use Rattle.rules.specs.Layout.{tableOf, watchesOf};
+ghost use Rattle.rules.specs.Sound.{soundTable};
+ghost use Rattle.tables.specs.Entry.{passes};
+ghost use Rattle.tables.specs.Watch.{depthMeant, watchGiven};
+ghost use Rattle.tables.specs.Transaction.{changeGiven};
+ghost use Rattle.events.specs.Stores.{Stores, hearsAbove};
+use lookup::reach::reach;
+use lookup::rights::may_read;
+use paths::answer::Beyond;
+use paths::relation::beyond;
+use tables::Depth;
+use tables::watches::depth;
+use tables::watches::owner;
+use tables::watches::path;
+use tables::watches::used;
+
+// Whether a full path is there, and a domain may read it.
+fn readable(t: &[u8], domain: u32, path: &[u8]) -> bool
+    requires { ⌜ (soundTable (now t) ≡ true) × (isFull (now path) ≡ true) ⌝ }
+    ensures { λ r. ⌜ r ≡ readable (tableOf (now (t .entry))) domain (namesIn (now (path .entry))) ⌝ }
+{
+    let reached = reach(t, path);
+    if reached.at < path.len() {
+        return false;
+    }
+    may_read(t, reached.slot, domain)
+}
+
+// The same before the call, or after it.
+fn may_hear(before: &[u8], after: &[u8], domain: u32, path: &[u8]) -> bool
+    requires { ⌜ (soundTable (now before) ≡ true) × (soundTable (now after) ≡ true) × (isFull (now path) ≡ true) ⌝ }
+    ensures { λ r. ⌜ r ≡ mayHear (tableOf (now (before .entry))) (tableOf (now (after .entry))) domain (namesIn (now (path .entry))) ⌝ }
+{
+    if readable(before, domain, path) {
+        return true;
+    }
+    readable(after, domain, path)
+}
+
+fn deep_enough(depth: Depth, levels: usize) -> bool
+    ensures { λ r. ⌜ r ≡ deepEnough (depthMeant depth) levels ⌝ }
+{
+    match depth {
+        Depth::To(most) => levels <= most as usize,
+        Depth::Any => true,
+    }
+}
+
+// Whether a watch of a domain on the full path `own` hears the removal of a path above its own.
+fn hears_above(
+    before: &[u8],
+    after: &[u8],
+    domain: u32,
+    own: &[u8],
+    path: &[u8],
+    removed: bool,
+) -> bool
+    requires { ⌜ (soundTable (now before) ≡ true) × (soundTable (now after) ≡ true) × (isFull (now own) ≡ true) × (isFull (now path) ≡ true) ⌝ }
+    ensures { λ r. ⌜ r ≡ hearsAbove (tableOf (now (before .entry))) (tableOf (now (after .entry))) domain (namesIn (now (own .entry))) (namesIn (now (path .entry))) removed ⌝ }
+{
+    if !removed {
+        return false;
+    }
+    match beyond(path, own) {
+        Beyond::Levels(_) => may_hear(before, after, domain, own),
+        Beyond::Not => false,
+    }
+}
+
+// Whether a watch of a domain on the full path `own` hears a change of a full path.
+fn hears_on(
+    before: &[u8],
+    after: &[u8],
+    domain: u32,
+    own: &[u8],
+    depth: Depth,
+    path: &[u8],
+    removed: bool,
+) -> bool
+    requires { ⌜ (soundTable (now before) ≡ true) × (soundTable (now after) ≡ true) × (isFull (now own) ≡ true) × (isFull (now path) ≡ true) ⌝ }
+    ensures { λ r. ⌜ r ≡ hearsAt (tableOf (now (before .entry))) (tableOf (now (after .entry))) (watchGiven domain (now (own .entry)) true depth []) (namesIn (now (own .entry))) (changeGiven removed (now (path .entry))) ⌝ }
+{
+    match beyond(own, path) {
+        Beyond::Levels(levels) => {
+            if !deep_enough(depth, levels) {
+                return false;
+            }
+            may_hear(before, after, domain, path)
+        }
+        Beyond::Not => hears_above(before, after, domain, own, path, removed),
+    }
+}
+
+// Whether place k has a watch that hears a change of a full path.
+pub fn hears(
+    before: &[u8],
+    after: &[u8],
+    watches: &[u8],
+    k: usize,
+    changed: &[u8],
+    removed: bool,
+) -> bool
+    requires { ⌜ (k < mostWatches) × Stores (now before) (now after) (now watches) × (isFull (now changed) ≡ true) ⌝ }
+    ensures { λ r. ⌜ r ≡ passes (hears (tableOf (now (before .entry))) (tableOf (now (after .entry))) (changeGiven removed (now (changed .entry)))) (getD (watchesOf (now (watches .entry))) k none) ⌝ }
+{
+    if !used(watches, k) {
+        return false;
+    }
+    let own = path(watches, k);
+    if own.len() == 0 {
+        return false;
+    }
+    if own[0] != b'/' {
+        return false;
+    }
+    hears_on(
+        before,
+        after,
+        owner(watches, k),
+        own,
+        depth(watches, k),
+        changed,
+        removed,
+    )
+}

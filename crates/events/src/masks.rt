@@ -1,0 +1,88 @@
+// The watches that an event goes to, as a mask.
+ghost use mathlib.Core.Path.{_≡_};
+ghost use mathlib.Core.Bool.{true};
+ghost use mathlib.Core.Option.{none};
+ghost use Prim.Native.Nat.{_+_, _*_, _<_};
+ghost use lib.ListN.{getD};
+ghost use Rattle.rules.specs.Size.{mostWatches};
+ghost use Rattle.rules.specs.Octets.{bit};
+ghost use Rattle.rules.specs.Path.{isFull};
+ghost use Rattle.rules.specs.Event.{hears, maskOf, isEvent, onlyFrom};
+ghost use Rattle.rules.specs.Layout.{tableOf, watchesOf};
+ghost use Rattle.tables.specs.Entry.{passes};
+ghost use Rattle.tables.specs.Kept.{KeptWatches};
+ghost use Rattle.tables.specs.Transaction.{changeGiven};
+ghost use Rattle.events.specs.Records.{Mask};
+ghost use Rattle.events.specs.Stores.{Stores, eventName};
+use crate::hearing::hears;
+use octets::compare::same;
+use tables::watches::WATCHES;
+use tables::watches::path;
+use tables::watches::used;
+
+// A mask with one more bit.
+fn with_bit(mask: u32, on: bool) -> u32
+    requires { ⌜ mask < 65536 ⌝ }
+    ensures { λ r. ⌜ r ≡ mask * 2 + bit on ⌝ }
+{
+    if on {
+        return mask * 2 + 1;
+    }
+    mask * 2
+}
+
+// Those that hear a change of a full path.
+pub fn of_change(before: &[u8], after: &[u8], watches: &[u8], changed: &[u8], removed: bool) -> u32
+    requires { ⌜ Stores (now before) (now after) (now watches) × (isFull (now changed) ≡ true) ⌝ }
+    ensures { λ r. ⌜ Mask (maskOf (hears (tableOf (now (before .entry))) (tableOf (now (after .entry))) (changeGiven removed (now (changed .entry)))) (watchesOf (now (watches .entry)))) r ⌝ }
+{
+    let mut mask: u32 = 0;
+    let mut k = 0;
+    while k < WATCHES {
+        mask = with_bit(mask, hears(before, after, watches, k, changed, removed));
+        k += 1;
+    }
+    mask
+}
+
+// Whether place k has a watch on the event of a release, or of an introduction.
+fn is_event(watches: &[u8], k: usize, released: bool) -> bool
+    requires { ⌜ (k < mostWatches) × KeptWatches (now watches) ⌝ }
+    ensures { λ r. ⌜ r ≡ passes (isEvent (eventName released)) (getD (watchesOf (now (watches .entry))) k none) ⌝ }
+{
+    if !used(watches, k) {
+        return false;
+    }
+    let own = path(watches, k);
+    if released {
+        return same(b"@releaseDomain", own);
+    }
+    same(b"@introduceDomain", own)
+}
+
+// Those on the event of a release, or of an introduction.
+pub fn of_event(watches: &[u8], released: bool) -> u32
+    requires { ⌜ KeptWatches (now watches) ⌝ }
+    ensures { λ r. ⌜ Mask (maskOf (isEvent (eventName released)) (watchesOf (now (watches .entry)))) r ⌝ }
+{
+    let mut mask: u32 = 0;
+    let mut k = 0;
+    while k < WATCHES {
+        mask = with_bit(mask, is_event(watches, k, released));
+        k += 1;
+    }
+    mask
+}
+
+// That in place k alone.
+pub fn only(watches: &[u8], k: usize) -> u32
+    ensures { λ r. ⌜ Mask (onlyFrom k 0 (watchesOf (now (watches .entry)))) r ⌝ }
+{
+    let mut mask: u32 = 0;
+    let mut i = 0;
+    while i < WATCHES {
+        mask = with_bit(mask, k == i);
+        i += 1;
+    }
+    mask
+}

@@ -1,0 +1,22 @@
+use Rattle.message.proofs.RecordLaws.{length-read}
+use borrow.Author.Needs.{needs}
+use Rattle.message.proofs.record.path_length.Statement.{statement}
+use Rattle.message.proofs.record.path_length.Tie as tie
+
+mul-two : tie.Need-mul-two
+mul-two c = search needs
+
+add-two : tie.Need-add-two
+add-two c = search needs
+
+two-requires : tie.Need-two-requires
+two-requires c κs = search needs
+
+cast-result : tie.Need-cast-result
+cast-result c = search needs
+
+returns : tie.Need-returns
+returns c = let b = c .before .before in length-read (b .args .events .now) (b .args .i) (c .two .result) (c .two .ensures .0) (c .two .ensures .1)
+
+pub path-length-spec : {M : Type 1} → statement M
+path-length-spec = tie.close (tie.spec mul-two add-two two-requires cast-result returns)
