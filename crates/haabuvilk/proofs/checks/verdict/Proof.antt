@@ -1,0 +1,77 @@
+use mathlib.Core.Path.{_≡_, sym, _∙_}
+use mathlib.Core.Bool.{true}
+use borrow.Author.Tests.{not-true, not-false}
+use Rattle.rules.specs.Call.{Tables, sizedTables, sound}
+use Rattle.haabuvilk.specs.Lent.{lent}
+use Rattle.haabuvilk.proofs.FreshLaws.{tables-sized}
+use Rattle.haabuvilk.proofs.CheckLaws.{unsized-tables, unsized-reply, unsized-events, unsound-tables, unknown-sender, frame-left}
+use borrow.Author.Needs.{needs}
+use Rattle.haabuvilk.proofs.checks.verdict.Statement.{statement}
+use Rattle.haabuvilk.proofs.checks.verdict.Tie as tie
+
+sized-tables-requires : tie.Need-sized-tables-requires
+sized-tables-requires c κs = search needs
+
+abbrev start : tie.Else1 → tie.Start
+start c = c .before .before .before .before .before .before .before .before .before .before
+
+abbrev tables : tie.Start → Tables
+tables b = lent (b .args .nodes .now) (b .args .copies .now) (b .args .watches .now) (b .args .transactions .now) (b .args .domains .now)
+
+sized : (c : tie.Else1) → sizedTables (tables (start c)) ≡ true
+sized c = sym (c .before .sized-tables .ensures) ∙ not-false _ (c .if1 .left)
+
+sound-all : (c : tie.Else4) → sound (tables (start (c .before .before .before .before))) ≡ true
+sound-all c = sym (c .before .sound-tables .ensures) ∙ not-false _ (c .if4 .left)
+
+returns : tie.Need-returns
+returns c = sym (unsized-tables _ _ _ _ _ (sym (c .before .sized-tables .ensures) ∙ not-true _ (c .if1 .taken)))
+
+returns-2 : tie.Need-returns-2
+returns-2 c = sym (unsized-reply _ _ _ _ _ (sized (c .before)) (c .if2 .taken))
+
+returns-3 : tie.Need-returns-3
+returns-3 c = sym (unsized-events _ _ _ _ _ (sized (c .before .before)) (c .before .if2 .left) (c .if3 .taken))
+
+sound-tables-requires : tie.Need-sound-tables-requires
+sound-tables-requires c κs = sized (c .before .before)
+
+returns-4 : tie.Need-returns-4
+returns-4 c =
+    let e = c .before .before in
+    sym (unsound-tables _ _ _ _ _ (sized (e .before .before)) (e .before .if2 .left) (e .if3 .left) (sym (c .before .sound-tables .ensures) ∙ not-true _ (c .if4 .taken)))
+
+known-requires : tie.Need-known-requires
+known-requires c κs = tables-sized _ (sized (c .before .before .before .before)) .domains
+
+returns-5 : tie.Need-returns-5
+returns-5 c =
+    let s = c .before .before in
+    let e = s .before .before in
+    sym (unknown-sender _ _ _ _ _ (sized (e .before .before)) (e .before .if2 .left) (e .if3 .left) (sound-all s) (sym (c .before .known .ensures) ∙ not-true _ (c .if5 .taken)))
+
+frame-requires : tie.Need-frame-requires
+frame-requires c κs = search needs
+
+returns-6 : tie.Need-returns-6
+returns-6 c =
+    let k = c .before in
+    let s = k .before .before in
+    let e = s .before .before in
+    c .frame .ensures
+    ∙ sym (frame-left _ _ _ _ _ (sized (e .before .before)) (e .before .if2 .left) (e .if3 .left) (sound-all s) (sym (k .before .known .ensures) ∙ not-false _ (k .if5 .left)))
+
+pub verdict-spec : {M : Type 1} → statement M
+verdict-spec =
+    tie.close
+    (tie.spec
+    sized-tables-requires
+    returns
+    returns-2
+    returns-3
+    sound-tables-requires
+    returns-4
+    known-requires
+    returns-5
+    frame-requires
+    returns-6)

@@ -1,0 +1,41 @@
+// The event message of one record for one watch.
+ghost use mathlib.Core.Path.{_≡_};
+ghost use Rattle.rules.specs.Message.{eventCall};
+ghost use Rattle.haabuvilk.specs.Lent.{delivered};
+use crate::sizes::sized_message;
+use message::Sent;
+use tables::domains::sound_domains;
+use tables::watch_soundness::sound_watches;
+
+// Puts the event message to the front of the lent buffer, and answers 0; or 1, 2 or 6 with the buffer unaltered.
+#[no_mangle]
+pub extern "C" fn haabuvilk_event_message<'a>(
+    watches: &'a [u8],
+    domains: &[u8],
+    events: &'a [u8],
+    event_count: u32,
+    record: u32,
+    watch: u32,
+    message: &mut [u8],
+    message_length: &mut u32,
+) -> u32
+    ensures { λ r. ⌜ delivered r (now («message_length» .exit)) (now (message .exit)) ≡ eventCall (now (watches .entry)) (now (domains .entry)) (now (events .entry)) (now (message .entry)) «event_count» «record» watch ⌝ }
+{
+    *message_length = 0;
+    if !sized_message(watches, domains, events, message) {
+        return 1;
+    }
+    if !sound_domains(domains) {
+        return 2;
+    }
+    if !sound_watches(watches, domains) {
+        return 2;
+    }
+    match message::message::message(watches, events, event_count, record, watch, message) {
+        Sent::Message(n) => {
+            *message_length = n;
+            0
+        }
+        Sent::Nothing => 6,
+    }
+}

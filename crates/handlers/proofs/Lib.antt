@@ -1,0 +1,10 @@
+pub mod Ways
+pub mod WatchingLaws
+pub mod AboutLaws
+pub mod StartLaws
+pub mod Answers
+pub mod AskingLaws
+pub mod PlainLaws
+pub mod EndLaws
+pub mod DomainLaws
+pub mod ReleaseLaws

@@ -1,0 +1,45 @@
+use mathlib.Core.Path.{sym, ap, _∙_}
+use Rattle.rules.specs.World.{staled}
+use Rattle.rules.specs.Layout.{Transactions, transactionsBytes}
+use Rattle.tables.proofs.TransactionChanges.{close-kept}
+use Rattle.handlers.proofs.EndLaws.{committed-still, committed-stale}
+use borrow.Author.Needs.{needs}
+use Rattle.handlers.proofs.transacting.close_committed.Statement.{statement}
+use Rattle.handlers.proofs.transacting.close_committed.Tie as tie
+
+changes-requires : tie.Need-changes-requires
+changes-requires c κs = search needs
+
+close-requires : tie.Need-close-requires
+close-requires c κs = search needs
+
+same-length : tie.Need-same-length
+same-length c = search needs
+
+returns : tie.Need-returns
+returns c = committed-still _ _ _ (sym (c .before .before .before .before .before .changes .ensures .0) ∙ c .before .before .before .before .if1 .taken) (c .before .before .close .ensures)
+
+close-requires-2 : tie.Need-close-requires-2
+close-requires-2 c κs = search needs
+
+stale-all-requires : tie.Need-stale-all-requires
+stale-all-requires c κs = close-kept _ (c .before .before .before .before .before .before .before .before .before .pre .kept) _ (c .before .before .before .before .before .before .before .before .before .pre .below) _ (c .before .before .before .close2 .ensures) .0
+
+same-length-2 : tie.Need-same-length-2
+same-length-2 c = search needs
+
+returns-2 : tie.Need-returns-2
+returns-2 c = committed-stale _ _ _ (λ e. c .before .before .before .before .before .before .before .before .if1 .left (c .before .before .before .before .before .before .before .before .before .changes .ensures .0 ∙ e)) (c .before .before .stale-all .ensures ∙ ap (λ (y : Transactions). transactionsBytes (staled y)) (close-kept _ (c .before .before .before .before .before .before .before .before .before .before .before .before .pre .kept) _ (c .before .before .before .before .before .before .before .before .before .before .before .before .pre .below) _ (c .before .before .before .before .before .before .close2 .ensures) .1))
+
+pub close-committed-spec : {M : Type 1} → statement M
+close-committed-spec =
+    tie.close
+    (tie.spec
+    changes-requires
+    close-requires
+    same-length
+    returns
+    close-requires-2
+    stale-all-requires
+    same-length-2
+    returns-2)

@@ -1,0 +1,5 @@
+pub mod Leaves
+pub mod Asking
+pub mod Watching
+pub mod Transacting
+pub mod Releasing

@@ -1,0 +1,104 @@
+// WATCH, UNWATCH and RESET_WATCHES.
+ghost use mathlib.Core.Path.{_≡_};
+ghost use mathlib.Core.Bool.{Bool, _&&_};
+ghost use Prim.Native.Nat.{_<_};
+ghost use lib.Dec.{leb};
+ghost use lib.ListN.{length};
+ghost use Rattle.rules.specs.Size.{replySize, eventsSize, longestToken};
+ghost use Rattle.rules.specs.Octets.{Octets};
+ghost use Rattle.rules.specs.Payload.{Place};
+ghost use Rattle.rules.specs.Event.{placeText};
+ghost use Rattle.rules.specs.Layout.{placeIn, watchesOf, transactionsOf};
+ghost use Rattle.rules.specs.World.{World, placeFits, watching, unwatching, resetting};
+ghost use Rattle.tables.specs.Kept.{KeptWatches, KeptTransactions};
+ghost use Rattle.replies.specs.Handled.{Handled};
+ghost use Rattle.tables.specs.Entry.{entryOr};
+ghost use Rattle.tables.specs.Watch.{depthMeant};
+ghost use Rattle.handlers.specs.Watching.{PlacedAs, NamedSo};
+ghost use Rattle.handlers.specs.Leaves.{tables, itsNodes, itsCopies, itsTransactions, itsDomains};
+use events::others::first;
+use nodes::kinds::Errno;
+use nodes::kinds::Reply;
+use paths::names::fits;
+use replies::kinds::Outcome;
+use replies::kinds::okay;
+use replies::kinds::with_events;
+use tables::Depth;
+use tables::transaction_changes::remove_of as end_all_of;
+use tables::watch_changes::add;
+use tables::watch_changes::remove_of;
+use tables::watch_changes::remove_twin;
+use tables::watches::WATCHES;
+use tables::watches::lowest_free;
+use tables::watches::watched;
+
+const LONGEST_TOKEN: usize = 32;
+
+// Whether a watch of a path, or of an event's name, fits with its token.
+fn is_short(path: &[u8], special: bool, token: &[u8]) -> bool
+    requires { ⌜ PlacedAs special (now path) ⌝ }
+    ensures { λ r. ⌜ ((w : World) (relative : Bool) → r ≡ (placeFits w (placeIn relative (now (path .entry))) && leb (length (now (token .entry))) longestToken)) ⌝ }
+{
+    if LONGEST_TOKEN < token.len() {
+        return false;
+    }
+    if special {
+        return true;
+    }
+    fits(path)
+}
+
+// Gives a connection a watch of a full path, or of an event's name, and its first event.
+pub fn watch(
+    watches: &mut [u8],
+    c: u32,
+    path: &[u8],
+    special: bool,
+    relative: bool,
+    depth: Depth,
+    token: &[u8],
+    reply: &mut [u8],
+    events: &mut [u8],
+) -> Outcome
+    requires { ⌜ KeptWatches (now watches) × (c < 65536) × PlacedAs special (now path) × NamedSo special relative × (entryOr 0 (depthMeant depth) < 256) × (length (now reply) ≡ replySize) × (length (now events) ≡ eventsSize) ⌝ }
+    ensures { λ r. ⌜ ((w : World) → w .watches ≡ watchesOf (now (watches .entry)) →
+        Handled (watching w c (placeIn relative (now (path .entry))) (now (token .entry)) (depthMeant depth)) (tables (itsNodes w) (itsCopies w) (now (watches .exit)) (itsTransactions w) (itsDomains w)) (now (reply .entry)) (now (reply .exit)) (now (events .entry)) (now (events .exit)) r) ⌝ }
+{
+    if watched(watches, c, path, token) {
+        return with_events(Reply::Refused(Errno::Exists), 0);
+    }
+    if !is_short(path, special, token) {
+        return with_events(Reply::Refused(Errno::NoSpace), 0);
+    }
+    let k = lowest_free(watches);
+    if WATCHES <= k {
+        return with_events(Reply::Refused(Errno::NoSpace), 0);
+    }
+    add(watches, k, c, path, relative, depth, token);
+    let n = first(watches, k, events);
+    with_events(okay(reply), n)
+}
+
+// Drops a connection's watch of a full path, or an event's name, and a token.
+pub fn unwatch(watches: &mut [u8], c: u32, path: &[u8], token: &[u8], reply: &mut [u8]) -> Outcome
+    requires { ⌜ KeptWatches (now watches) × (length (now reply) ≡ replySize) ⌝ }
+    ensures { λ r. ⌜ ((w : World) → w .watches ≡ watchesOf (now (watches .entry)) → (p : Place) → placeText p ≡ now (path .entry) → (events : Octets) →
+        Handled (unwatching w c p (now (token .entry))) (tables (itsNodes w) (itsCopies w) (now (watches .exit)) (itsTransactions w) (itsDomains w)) (now (reply .entry)) (now (reply .exit)) events events r) ⌝ }
+{
+    if !watched(watches, c, path, token) {
+        return with_events(Reply::Refused(Errno::NoEntry), 0);
+    }
+    remove_twin(watches, c, path, token);
+    with_events(okay(reply), 0)
+}
+
+// Drops a connection's watches and transactions.
+pub fn reset(watches: &mut [u8], transactions: &mut [u8], c: u32, reply: &mut [u8]) -> Outcome
+    requires { ⌜ KeptWatches (now watches) × KeptTransactions (now transactions) × (length (now reply) ≡ replySize) ⌝ }
+    ensures { λ r. ⌜ ((w : World) → w .watches ≡ watchesOf (now (watches .entry)) → w .transactions ≡ transactionsOf (now (transactions .entry)) → (events : Octets) →
+        Handled (resetting w c) (tables (itsNodes w) (itsCopies w) (now (watches .exit)) (now (transactions .exit)) (itsDomains w)) (now (reply .entry)) (now (reply .exit)) events events r) ⌝ }
+{
+    remove_of(watches, c);
+    end_all_of(transactions, c);
+    with_events(okay(reply), 0)
+}

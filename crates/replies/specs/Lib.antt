@@ -1,0 +1,2 @@
+pub mod Framed
+pub mod Handled

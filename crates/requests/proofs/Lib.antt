@@ -1,0 +1,4 @@
+pub mod PlaceLaws
+pub mod AskedLaws
+pub mod NodeLaws
+pub mod HandleLaws
