@@ -1,0 +1,59 @@
+// Which watch hears what.
+use crate::print::print;
+use crate::print::print_number;
+use crate::print::print_octets;
+use crate::words::part;
+use haabuvilk::event_message::haabuvilk_event_message;
+
+// Prints the payload of the event message of a record for a watch, if there is one.
+fn print_event<'a>(
+    watches: &'a [u8],
+    domains: &[u8],
+    events: &'a [u8],
+    event_count: u32,
+    record: u32,
+    watch: u32,
+) {
+    let mut message = [0u8; 314];
+    let mut length: u32 = 0;
+    let call = haabuvilk_event_message(
+        watches,
+        domains,
+        events,
+        event_count,
+        record,
+        watch,
+        &mut message,
+        &mut length,
+    );
+    if call != 0 {
+        return;
+    }
+    print_number(b"    watch ", watch);
+    print(b" hears ");
+    print_octets(part(&message, 16, length as usize));
+    print(b"\n");
+}
+
+fn print_record<'a>(
+    watches: &'a [u8],
+    domains: &[u8],
+    events: &'a [u8],
+    event_count: u32,
+    record: u32,
+) {
+    let mut watch: u32 = 0;
+    while watch < 16 {
+        print_event(watches, domains, events, event_count, record, watch);
+        watch += 1;
+    }
+}
+
+// Prints a line for each watch and each record that it hears.
+pub fn print_events<'a>(watches: &'a [u8], domains: &[u8], events: &'a [u8], event_count: u32) {
+    let mut record: u32 = 0;
+    while record < event_count {
+        print_record(watches, domains, events, event_count, record);
+        record += 1;
+    }
+}
