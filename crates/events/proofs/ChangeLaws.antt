@@ -16,12 +16,13 @@ use Rattle.rules.specs.Event.{Watches, Record, hears, maskOf, anyBit, kept, hea
 use Rattle.rules.specs.Layout.{tableOf}
 use Rattle.rules.proofs.Cases.{cond-case}
 use Rattle.rules.proofs.PathLaws.{full, text-full, text-names}
+use Rattle.rules.proofs.Tables.{flat-append}
 use Rattle.tables.specs.Transaction.{changeGiven, transactionOf, changeOf, OpenTransaction, HasChange}
 use Rattle.tables.proofs.ChangeLaws.{change-fits}
 use Rattle.lookup.specs.Rights.{Asked}
 use Rattle.events.specs.Records.{Recorded, Room}
 use Rattle.events.specs.Stores.{removalOf}
-use Rattle.events.proofs.RecordLaws.{flat-append, recorded-none, recorded-more, recorded-length}
+use Rattle.events.proofs.RecordLaws.{recorded-none, recorded-more, recorded-length}
 use Rattle.events.proofs.SlotPaths.{slot-text}
 
 -- ── one change ──

@@ -1,13 +1,13 @@
 -- Who hears a change: the rule of the rule book, test by test.
 use mathlib.Core.Path.{_≡_, refl, sym, ap, ap₂, _∙_}
-use mathlib.Core.Bool.{Bool, true, false, not, _&&_, _||_}
+use mathlib.Core.Bool.{Bool, true, false, not, _&&_, _||_, or-self}
 use mathlib.Core.List.{[], _∷_}
 use mathlib.Core.Option.{Option, none, some}
 use Prim.Native.Nat.{ℕ, _≤_, _<_}
 use native.Mathlib.Omega.{arith}
-use lib.ListN.{length, getD, drop}
+use lib.ListN.{length, getD}
 use lib.Dec.{leb}
-use borrow.Author.Tests.{lt-leb, not-false}
+use borrow.Author.Tests.{not-false}
 use Rattle.rules.specs.Size.{mostWatches}
 use Rattle.rules.specs.Octets.{Octets, same, text}
 use Rattle.rules.specs.Entries.{isEmpty}
@@ -20,45 +20,37 @@ use Rattle.rules.specs.Event.{Watch, placeText, deepEnough, mayHear, hearsAt, h
 use Rattle.rules.specs.Layout.{tableOf, watchesOf}
 use Rattle.rules.proofs.Compare.{same-eq}
 use Rattle.rules.proofs.PathLaws.{given-event, text-names, text-full}
-use Rattle.rules.proofs.EntryLayouts.{PlaceFits, watch-decoded}
+use Rattle.rules.proofs.EntryLayouts.{PlaceFits}
+use Rattle.rules.proofs.DecodedEntries.{watch-decoded}
 use Rattle.paths.specs.Relation.{levelsOf}
 use Rattle.paths.specs.declared.answer.Beyond.the-variants.{Levels, Not}
-use Rattle.paths.proofs.PieceLaws.{split-first}
-use Rattle.slots.specs.Left.{leftAt}
+use Rattle.slots.proofs.LeftLaws.{left-over}
 use Rattle.lookup.specs.Reach.{Reaches}
-use Rattle.lookup.proofs.ReachLaws.{left-over}
+use Rattle.lookup.proofs.ReachLaws.{left-first}
 use Rattle.tables.specs.declared.Depth.{Depth}
 use Rattle.tables.specs.declared.Depth.the-variants.{To, Any}
 use Rattle.tables.specs.Entry.{taken, passes}
 use Rattle.tables.specs.Kept.{KeptWatches}
 use Rattle.tables.specs.Watch.{depthMeant, nobody, watchOf, TakenWatch, watchGiven}
 use Rattle.tables.proofs.Search.{passes-taken}
-use Rattle.tables.proofs.WatchLaws.{is-read, read-narrow}
+use Rattle.tables.proofs.WatchLaws.{is-read}
+use Rattle.tables.proofs.WatchBytes.{read-narrow}
 use Rattle.events.specs.Stores.{hearsAbove, eventName}
 
 -- ── rights ──
 
-left-some : (p : Octets) (at : ℕ) → at < length p → isEmpty (leftAt p at) ≡ false
-unfolding leftAt isEmpty
-left-some p at h = rw (lt-leb (length p) at h, split-first (drop at p))
-
 module _ (t p : Octets) (d : Domain) (i at : ℕ) (r : Reaches t p i at) where
   pub unreadable : at < length p → false ≡ readable (tableOf t) d (namesIn p)
-  unfolding readable
-  unreadable h = rw (← r .left, left-some p at h)
+  unfolding readable isEmpty
+  unreadable h = rw (← r .left, left-first p at h)
 
   pub readable-there : length p ≤ at → mayRead d (nodeAt (tableOf t) i) ≡ readable (tableOf t) d (namesIn p)
   unfolding readable isEmpty
   readable-there h = rw (← r .left, left-over p at h, ← r .there)
 
-module _ (b a : Table) (d : Domain) (ns : Names) where
-  pub heard-before : readable b d ns ≡ true → true ≡ mayHear b a d ns
-  unfolding mayHear
-  heard-before e = rw e
-
-  pub heard-after : readable b d ns ≡ false → readable a d ns ≡ mayHear b a d ns
-  unfolding mayHear
-  heard-after e = rw e
+pub hear-once : (t : Table) (d : Domain) (ns : Names) → readable t d ns ≡ mayHear t t d ns
+unfolding mayHear
+hear-once t d ns = sym (or-self (readable t d ns))
 
 -- ── depth ──
 

@@ -1,7 +1,7 @@
 -- Event records as bytes, one behind the other.
 use mathlib.Core.Path.{_≡_, refl, sym, ap, ap₂, _∙_}
 use mathlib.Core.Bool.{Bool}
-use mathlib.Core.List.{List, [], _∷_, _++_, flatMap, append-nil, append-assoc}
+use mathlib.Core.List.{List, [], _∷_, _++_, flatMap, append-nil}
 use Prim.Native.Nat.{ℕ, _+_, _*_, _-_, _/_, _%_, _≤_}
 use native.Mathlib.Nat.{add-zero}
 use native.Mathlib.Omega.{arith}
@@ -12,15 +12,11 @@ use Rattle.rules.specs.Layout.{maskBits, recordBytes}
 use Rattle.rules.proofs.Paste.{paste-four, paste-append, paste-nil, length-paste}
 use Rattle.rules.proofs.Joined.{paste-behind}
 use Rattle.rules.proofs.Slots.{length-padded}
+use Rattle.rules.proofs.Tables.{flat-append}
 use Rattle.events.specs.Records.{recordOf, Recorded, Room, Mask}
 use Rattle.events.proofs.MaskLaws.{pack-append, empty-mask, some-mask}
 
 -- ── lists of lists ──
-
-pub flat-append : {A B : Type 0} (f : A → List B) (xs ys : List A) → flatMap f (xs ++ ys) ≡ flatMap f xs ++ flatMap f ys
-unfolding flatMap
-flat-append f [] ys = refl
-flat-append f (x ∷ xs) ys = ap (λ r. f x ++ r) (flat-append f xs ys) ∙ sym (append-assoc (f x) (flatMap f xs) (flatMap f ys))
 
 -- ── one record ──
 

@@ -11,7 +11,12 @@ use Rattle.rules.specs.Event.{mayHear}
 use Rattle.rules.specs.Sound.{soundTable}
 use Rattle.tables.specs.Kept.{KeptWatches}
 
--- both node tables are sound, and the watches' bytes are those of what they mean
+-- the node table is sound, and the watches' bytes are those of what they mean
+pub record Store (t watches : Octets) : Type 0 where
+  pub sound : soundTable t ≡ true
+  pub kept : KeptWatches watches
+
+-- the same of the tables before and after
 pub record Stores (before after watches : Octets) : Type 0 where
   pub was : soundTable before ≡ true
   pub is : soundTable after ≡ true

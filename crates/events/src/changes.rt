@@ -6,20 +6,41 @@ ghost use Prim.Native.Nat.{_≤_};
 ghost use lib.ListN.{length, take};
 ghost use Rattle.rules.specs.Size.{longestPath, mostRecords, eventsSize};
 ghost use Rattle.rules.specs.Path.{isFull};
-ghost use Rattle.rules.specs.Event.{heardChange, heard};
+ghost use Rattle.rules.specs.Node.{Table};
+ghost use Rattle.rules.specs.Event.{hears, maskOf, heardChange, heard};
 ghost use Rattle.rules.specs.Layout.{tableOf, watchesOf};
 ghost use Rattle.tables.specs.Transaction.{changeGiven, transactionOf, OpenTransaction};
 ghost use Rattle.lookup.specs.Children.{AllAsked};
 ghost use Rattle.lookup.specs.Rights.{Asked};
-ghost use Rattle.events.specs.Records.{Recorded, Room};
-ghost use Rattle.events.specs.Stores.{Stores, removalOf};
-use crate::masks::of_change;
+ghost use Rattle.events.specs.Records.{Recorded, Room, Mask};
+ghost use Rattle.events.specs.Stores.{Store, Stores, removalOf};
+use crate::masks::in_store;
+use crate::masks::of_change_since;
 use crate::records::keep;
 use soundness::chain::path_of;
 use tables::transactions::path;
 use tables::transactions::removed;
 
-// Records a change of a full path behind n records, if some watch hears it; answers how many records there are then.
+// Records a change of a full path behind n records, if some watch hears it, in the store as it was before or after it; answers how many
+// records there are then.
+pub fn change_since(
+    heard: u32,
+    after: &[u8],
+    watches: &[u8],
+    changed: &[u8],
+    removed: bool,
+    n: usize,
+    events: &mut [u8],
+) -> usize
+    requires { ⌜ Store (now after) (now watches) × (isFull (now changed) ≡ true) × (length (now changed) ≤ longestPath) × Room (now events) n 1 ⌝ }
+    ensures { λ r. ⌜ ((before : Table) → Mask (maskOf (hears before before (changeGiven removed (now (changed .entry)))) (watchesOf (now (watches .entry)))) heard →
+        Recorded n (heardChange before (tableOf (now (after .entry))) (watchesOf (now (watches .entry))) (changeGiven removed (now (changed .entry)))) (now (events .entry)) (now (events .exit)) r) ⌝ }
+{
+    let mask = of_change_since(heard, after, watches, changed, removed);
+    keep(events, n, mask, changed)
+}
+
+// The same, where the store before stands.
 pub fn change(
     before: &[u8],
     after: &[u8],
@@ -32,8 +53,8 @@ pub fn change(
     requires { ⌜ Stores (now before) (now after) (now watches) × (isFull (now changed) ≡ true) × (length (now changed) ≤ longestPath) × Room (now events) n 1 ⌝ }
     ensures { λ r. ⌜ Recorded n (heardChange (tableOf (now (before .entry))) (tableOf (now (after .entry))) (watchesOf (now (watches .entry))) (changeGiven removed (now (changed .entry)))) (now (events .entry)) (now (events .exit)) r ⌝ }
 {
-    let mask = of_change(before, after, watches, changed, removed);
-    keep(events, n, mask, changed)
+    let heard = in_store(before, watches, changed, removed);
+    change_since(heard, after, watches, changed, removed, n, events)
 }
 
 // Records the changes of the open transaction in place k, in order, from the first record on; answers how many records there are.

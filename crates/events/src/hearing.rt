@@ -8,13 +8,13 @@ ghost use lib.ListN.{getD};
 ghost use Rattle.rules.specs.Size.{mostWatches};
 ghost use Rattle.rules.specs.Path.{isFull, namesIn};
 ghost use Rattle.rules.specs.Rights.{readable};
-ghost use Rattle.rules.specs.Event.{deepEnough, mayHear, hearsAt, hears};
+ghost use Rattle.rules.specs.Event.{deepEnough, hearsAt, hears};
 ghost use Rattle.rules.specs.Layout.{tableOf, watchesOf};
 ghost use Rattle.rules.specs.Sound.{soundTable};
 ghost use Rattle.tables.specs.Entry.{passes};
 ghost use Rattle.tables.specs.Watch.{depthMeant, watchGiven};
 ghost use Rattle.tables.specs.Transaction.{changeGiven};
-ghost use Rattle.events.specs.Stores.{Stores, hearsAbove};
+ghost use Rattle.events.specs.Stores.{Store, hearsAbove};
 use lookup::reach::reach;
 use lookup::rights::may_read;
 use paths::answer::Beyond;
@@ -37,17 +37,6 @@ fn readable(t: &[u8], domain: u32, path: &[u8]) -> bool
     may_read(t, reached.slot, domain)
 }
 
-// The same before the call, or after it.
-fn may_hear(before: &[u8], after: &[u8], domain: u32, path: &[u8]) -> bool
-    requires { ⌜ (soundTable (now before) ≡ true) × (soundTable (now after) ≡ true) × (isFull (now path) ≡ true) ⌝ }
-    ensures { λ r. ⌜ r ≡ mayHear (tableOf (now (before .entry))) (tableOf (now (after .entry))) domain (namesIn (now (path .entry))) ⌝ }
-{
-    if readable(before, domain, path) {
-        return true;
-    }
-    readable(after, domain, path)
-}
-
 fn deep_enough(depth: Depth, levels: usize) -> bool
     ensures { λ r. ⌜ r ≡ deepEnough (depthMeant depth) levels ⌝ }
 {
@@ -58,61 +47,39 @@ fn deep_enough(depth: Depth, levels: usize) -> bool
 }
 
 // Whether a watch of a domain on the full path `own` hears the removal of a path above its own.
-fn hears_above(
-    before: &[u8],
-    after: &[u8],
-    domain: u32,
-    own: &[u8],
-    path: &[u8],
-    removed: bool,
-) -> bool
-    requires { ⌜ (soundTable (now before) ≡ true) × (soundTable (now after) ≡ true) × (isFull (now own) ≡ true) × (isFull (now path) ≡ true) ⌝ }
-    ensures { λ r. ⌜ r ≡ hearsAbove (tableOf (now (before .entry))) (tableOf (now (after .entry))) domain (namesIn (now (own .entry))) (namesIn (now (path .entry))) removed ⌝ }
+fn hears_above(t: &[u8], domain: u32, own: &[u8], path: &[u8], removed: bool) -> bool
+    requires { ⌜ (soundTable (now t) ≡ true) × (isFull (now own) ≡ true) × (isFull (now path) ≡ true) ⌝ }
+    ensures { λ r. ⌜ r ≡ hearsAbove (tableOf (now (t .entry))) (tableOf (now (t .entry))) domain (namesIn (now (own .entry))) (namesIn (now (path .entry))) removed ⌝ }
 {
     if !removed {
         return false;
     }
     match beyond(path, own) {
-        Beyond::Levels(_) => may_hear(before, after, domain, own),
+        Beyond::Levels(_) => readable(t, domain, own),
         Beyond::Not => false,
     }
 }
 
 // Whether a watch of a domain on the full path `own` hears a change of a full path.
-fn hears_on(
-    before: &[u8],
-    after: &[u8],
-    domain: u32,
-    own: &[u8],
-    depth: Depth,
-    path: &[u8],
-    removed: bool,
-) -> bool
-    requires { ⌜ (soundTable (now before) ≡ true) × (soundTable (now after) ≡ true) × (isFull (now own) ≡ true) × (isFull (now path) ≡ true) ⌝ }
-    ensures { λ r. ⌜ r ≡ hearsAt (tableOf (now (before .entry))) (tableOf (now (after .entry))) (watchGiven domain (now (own .entry)) true depth []) (namesIn (now (own .entry))) (changeGiven removed (now (path .entry))) ⌝ }
+fn hears_on(t: &[u8], domain: u32, own: &[u8], depth: Depth, path: &[u8], removed: bool) -> bool
+    requires { ⌜ (soundTable (now t) ≡ true) × (isFull (now own) ≡ true) × (isFull (now path) ≡ true) ⌝ }
+    ensures { λ r. ⌜ r ≡ hearsAt (tableOf (now (t .entry))) (tableOf (now (t .entry))) (watchGiven domain (now (own .entry)) true depth []) (namesIn (now (own .entry))) (changeGiven removed (now (path .entry))) ⌝ }
 {
     match beyond(own, path) {
         Beyond::Levels(levels) => {
             if !deep_enough(depth, levels) {
                 return false;
             }
-            may_hear(before, after, domain, path)
+            readable(t, domain, path)
         }
-        Beyond::Not => hears_above(before, after, domain, own, path, removed),
+        Beyond::Not => hears_above(t, domain, own, path, removed),
     }
 }
 
-// Whether place k has a watch that hears a change of a full path.
-pub fn hears(
-    before: &[u8],
-    after: &[u8],
-    watches: &[u8],
-    k: usize,
-    changed: &[u8],
-    removed: bool,
-) -> bool
-    requires { ⌜ (k < mostWatches) × Stores (now before) (now after) (now watches) × (isFull (now changed) ≡ true) ⌝ }
-    ensures { λ r. ⌜ r ≡ passes (hears (tableOf (now (before .entry))) (tableOf (now (after .entry))) (changeGiven removed (now (changed .entry)))) (getD (watchesOf (now (watches .entry))) k none) ⌝ }
+// Whether place k has a watch that hears a change of a full path, by what its owner may read in one store.
+pub fn hears(t: &[u8], watches: &[u8], k: usize, changed: &[u8], removed: bool) -> bool
+    requires { ⌜ (k < mostWatches) × Store (now t) (now watches) × (isFull (now changed) ≡ true) ⌝ }
+    ensures { λ r. ⌜ r ≡ passes (hears (tableOf (now (t .entry))) (tableOf (now (t .entry))) (changeGiven removed (now (changed .entry)))) (getD (watchesOf (now (watches .entry))) k none) ⌝ }
 {
     if !used(watches, k) {
         return false;
@@ -125,8 +92,7 @@ pub fn hears(
         return false;
     }
     hears_on(
-        before,
-        after,
+        t,
         owner(watches, k),
         own,
         depth(watches, k),

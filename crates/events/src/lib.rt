@@ -1,6 +1,6 @@
 // Who hears a change, and the event records of a call.
 pub mod changes;
 pub mod hearing;
-mod masks;
+pub mod masks;
 pub mod others;
 mod records;

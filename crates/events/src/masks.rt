@@ -1,19 +1,21 @@
 // The watches that an event goes to, as a mask.
 ghost use mathlib.Core.Path.{_≡_};
-ghost use mathlib.Core.Bool.{true};
+ghost use mathlib.Core.Bool.{Bool, true, _||_};
 ghost use mathlib.Core.Option.{none};
 ghost use Prim.Native.Nat.{_+_, _*_, _<_};
+ghost use lib.Dec.{leb};
 ghost use lib.ListN.{getD};
 ghost use Rattle.rules.specs.Size.{mostWatches};
 ghost use Rattle.rules.specs.Octets.{bit};
 ghost use Rattle.rules.specs.Path.{isFull};
-ghost use Rattle.rules.specs.Event.{hears, maskOf, isEvent, onlyFrom};
+ghost use Rattle.rules.specs.Node.{Table};
+ghost use Rattle.rules.specs.Event.{Watch, hears, maskOf, isEvent, onlyFrom};
 ghost use Rattle.rules.specs.Layout.{tableOf, watchesOf};
 ghost use Rattle.tables.specs.Entry.{passes};
 ghost use Rattle.tables.specs.Kept.{KeptWatches};
 ghost use Rattle.tables.specs.Transaction.{changeGiven};
 ghost use Rattle.events.specs.Records.{Mask};
-ghost use Rattle.events.specs.Stores.{Stores, eventName};
+ghost use Rattle.events.specs.Stores.{Store, eventName};
 use crate::hearing::hears;
 use octets::compare::same;
 use tables::watches::WATCHES;
@@ -31,18 +33,62 @@ fn with_bit(mask: u32, on: bool) -> u32
     mask * 2
 }
 
-// Those that hear a change of a full path.
-pub fn of_change(before: &[u8], after: &[u8], watches: &[u8], changed: &[u8], removed: bool) -> u32
-    requires { ⌜ Stores (now before) (now after) (now watches) × (isFull (now changed) ≡ true) ⌝ }
-    ensures { λ r. ⌜ Mask (maskOf (hears (tableOf (now (before .entry))) (tableOf (now (after .entry))) (changeGiven removed (now (changed .entry)))) (watchesOf (now (watches .entry)))) r ⌝ }
+// Whether place k has a watch that heard a change already, by the highest of 16 bits, or hears it in a store.
+fn hears_beside(
+    heard: u32,
+    t: &[u8],
+    watches: &[u8],
+    k: usize,
+    changed: &[u8],
+    removed: bool,
+) -> bool
+    requires { ⌜ (k < mostWatches) × Store (now t) (now watches) × (isFull (now changed) ≡ true) ⌝ }
+    ensures { λ r. ⌜ r ≡ (leb 32768 heard || passes (hears (tableOf (now (t .entry))) (tableOf (now (t .entry))) (changeGiven removed (now (changed .entry)))) (getD (watchesOf (now (watches .entry))) k none)) ⌝ }
+{
+    if 32768 <= heard {
+        return true;
+    }
+    hears(t, watches, k, changed, removed)
+}
+
+// Those that heard a change of a full path already, and those that hear it in a store.
+fn beside(heard: u32, t: &[u8], watches: &[u8], changed: &[u8], removed: bool) -> u32
+    requires { ⌜ Store (now t) (now watches) × (isFull (now changed) ≡ true) ⌝ }
+    ensures { λ r. ⌜ ((f : Watch → Bool) → Mask (maskOf f (watchesOf (now (watches .entry)))) heard →
+        Mask (maskOf (λ w. f w || hears (tableOf (now (t .entry))) (tableOf (now (t .entry))) (changeGiven removed (now (changed .entry))) w) (watchesOf (now (watches .entry)))) r) ⌝ }
 {
     let mut mask: u32 = 0;
+    let mut rest = heard;
     let mut k = 0;
     while k < WATCHES {
-        mask = with_bit(mask, hears(before, after, watches, k, changed, removed));
+        mask = with_bit(mask, hears_beside(rest, t, watches, k, changed, removed));
+        rest = rest % 32768 * 2;
         k += 1;
     }
     mask
+}
+
+// Those that hear a change of a full path in one store.
+pub fn in_store(t: &[u8], watches: &[u8], changed: &[u8], removed: bool) -> u32
+    requires { ⌜ Store (now t) (now watches) × (isFull (now changed) ≡ true) ⌝ }
+    ensures { λ r. ⌜ Mask (maskOf (hears (tableOf (now (t .entry))) (tableOf (now (t .entry))) (changeGiven removed (now (changed .entry)))) (watchesOf (now (watches .entry)))) r ⌝ }
+{
+    beside(0, t, watches, changed, removed)
+}
+
+// Those that hear a change of a full path, given those that hear it in the store as it was before.
+pub fn of_change_since(
+    heard: u32,
+    after: &[u8],
+    watches: &[u8],
+    changed: &[u8],
+    removed: bool,
+) -> u32
+    requires { ⌜ Store (now after) (now watches) × (isFull (now changed) ≡ true) ⌝ }
+    ensures { λ r. ⌜ ((before : Table) → Mask (maskOf (hears before before (changeGiven removed (now (changed .entry)))) (watchesOf (now (watches .entry)))) heard →
+        Mask (maskOf (hears before (tableOf (now (after .entry))) (changeGiven removed (now (changed .entry)))) (watchesOf (now (watches .entry)))) r) ⌝ }
+{
+    beside(heard, after, watches, changed, removed)
 }
 
 // Whether place k has a watch on the event of a release, or of an introduction.

@@ -1,7 +1,7 @@
 -- The checks before a request is looked at, one by one.
 use mathlib.Core.Path.{_≡_, refl, sym, ap, _∙_}
 use mathlib.Core.Bool.{true, false, _&&_}
-use mathlib.Core.List.{List, [], _∷_, map}
+use mathlib.Core.List.{List, [], _∷_}
 use mathlib.Core.Option.{Option, none, some}
 use Prim.Native.Nat.{ℕ, _+_, _*_, _-_, _<_, _≤_}
 use native.Mathlib.Nat.{add-sub-cancel-left}
@@ -16,7 +16,7 @@ use Rattle.rules.specs.Layout.{Transaction, Transactions, transactionsOf, domai
 use Rattle.rules.specs.Sound.{soundTable, soundDomains, soundWatches, known}
 use Rattle.rules.specs.Call.{Tables, callNumber, sizedTables, sound, lenOf, frameVerdict, requestVerdict}
 use Rattle.rules.proofs.Tables.{length-chunks, decoded-at}
-use Rattle.rules.proofs.EntryLayouts.{whole}
+use Rattle.rules.proofs.EntryLayouts.{whole, map-whole}
 use Rattle.tables.specs.Entry.{taken}
 use Rattle.tables.specs.Entries.{soundEntries, soundCopies}
 use Rattle.tables.specs.Transaction.{opened}
@@ -44,10 +44,6 @@ copies-cons : (x : Option Transaction) (copy : Octets) (xs : Transactions) (copi
 unfolding soundCopies soundCopy
 copies-cons none copy xs copies = refl
 copies-cons (some x) copy xs copies = refl
-
-map-whole : (xs : List Octets) → map whole xs ≡ xs
-map-whole [] = refl
-map-whole (x ∷ xs) = ap (λ (l : List Octets). x ∷ l) (map-whole xs)
 
 module _ (copies transactions : Octets) (i : ℕ) where
   copy-at : i < 3 → getD (chunks mostTransactions tableSize copies) i [] ≡ take tableSize (drop (i * tableSize) copies)

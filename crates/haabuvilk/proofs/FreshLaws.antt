@@ -1,12 +1,11 @@
 -- The fresh tables' bytes, and what the fresh call answers.
 use mathlib.Core.Path.{_≡_, refl, sym, ap, _∙_}
 use mathlib.Core.Bool.{true, false}
-use mathlib.Core.List.{_∷_, _++_, flatMap, append-nil}
+use mathlib.Core.List.{_∷_, _++_, flatMap}
 use mathlib.Core.Option.{none, some}
 use Prim.Native.Nat.{ℕ, zero, suc, _+_, _*_}
 use native.Mathlib.Nat.{zero-mul, suc-mul, add-comm}
-use native.Mathlib.Omega.{arith}
-use lib.ListN.{length, set, replicate, drop-of-length-le, length-replicate, replicate-append-replicate}
+use lib.ListN.{length, set, replicate, length-replicate, replicate-append-replicate}
 use lib.Dec.{eqb}
 use borrow.Author.Tests.{eqb-true}
 use Rattle.rules.specs.Size.{tableSize, copiesSize, watchesSize, transactionsSize, domainsSize, watchSize, transactionSize, domainSize}
@@ -16,16 +15,13 @@ use Rattle.rules.specs.Layout.{entryBits, nodeBits, slotBytes, tableBytes, doma
 use Rattle.rules.specs.World.{freshWorld}
 use Rattle.rules.specs.Call.{Tables, callNumber, sizedTables, tablesOf, freshCall}
 use Rattle.rules.proofs.Compare.{both-true}
+use Rattle.rules.proofs.Paste.{paste-whole}
 use Rattle.haabuvilk.specs.Lent.{lent, refreshed}
 
 -- ── bytes ──
 
-pub paste-whole : (xs ys : Octets) → length ys ≡ length xs → paste 0 ys xs ≡ ys
-unfolding paste
-paste-whole xs ys h = rw (drop-of-length-le xs {i = 0 + length ys} (omega arith)) (append-nil ys)
-
 pub cleared : (s t : Octets) → t ≡ paste 0 (replicate (length s) 0) s → t ≡ replicate (length s) 0
-cleared s t e = e ∙ paste-whole s (replicate (length s) 0) (length-replicate (length s) 0)
+cleared s t e = e ∙ paste-whole (replicate (length s) 0) s (length-replicate (length s) 0)
 
 -- entries that are all zeros
 zeros : {A : Type 0} (encode : A → Octets) (x : A) (k : ℕ) → encode x ≡ replicate k 0 → (n : ℕ) → flatMap encode (replicate n x) ≡ replicate (n * k) 0

@@ -1,6 +1,6 @@
 -- What a node request's answer leaves: a sound table, a path within the sizes, and `OK` where it changed something.
 use mathlib.Core.Path.{_≡_, refl, sym, ap, subst, _∙_}
-use mathlib.Core.Bool.{Bool, true, false, not, _&&_, and-eq-true-iff}
+use mathlib.Core.Bool.{Bool, true, false, cond, not, _&&_, and-eq-true-iff}
 use mathlib.Core.List.{List, [], _∷_}
 use mathlib.Core.Option.{none, some, Option·none-ne-some}
 use Prim.Native.Nat.{ℕ, suc, _≤_}
@@ -26,51 +26,85 @@ use Rattle.rules.proofs.PathLaws.{full, fits-length}
 use Rattle.rules.proofs.GoodAnswers.{AskGood, change-good}
 use Rattle.rules.proofs.GoodRequests.{AskedGood}
 use Rattle.laws.proofs.SoundWorld.{asked-sound, table-encoded, table-decoded}
+use Rattle.tables.specs.Transaction.{changeGiven}
+use Rattle.nodes.specs.Answers.{effectMeant}
 use Rattle.nodes.specs.declared.kinds.Ask.{Ask}
+use Rattle.nodes.specs.declared.kinds.Effect.{Effect}
+use Rattle.nodes.specs.declared.kinds.Effect.the-variants.{Wrote, Removed}
 use Rattle.handlers.specs.Asking.{Lettered, GoodAsk, Asking}
 
 -- ── a change is told by `OK`, and without one the table stays ──
 
+-- whether a change that a request makes is a removal
+abbrev pub Does : P.Ask → Bool → Type 0
+Does P.directory b = ⊥
+Does P.read b = ⊥
+Does P.getPerms b = ⊥
+Does (P.write v) b = b ≡ false
+Does P.mkdir b = b ≡ false
+Does P.rm b = b ≡ true
+Does (P.setPerms o es) b = b ≡ false
+
 module _ (d : Domain) (ns : Names) (t : Table) where
-  abbrev Okay : Answer → Type 0
-  Okay a = ((c : Change) → a .change ≡ some c → a .reply ≡ OK) × (a .change ≡ none → a .table ≡ t)
+  abbrev Okay : (Bool → Type 0) → Answer → Type 0
+  Okay K a = ((c : Change) → a .change ≡ some c → (a .reply ≡ OK) × K (c .removal)) × (a .change ≡ none → a .table ≡ t)
 
-  still : (r : Reply) → Okay (unchanged d ns t r)
-  unfolding unchanged
-  still r = (λ c e. absurd (Option·none-ne-some c e), λ e. refl)
+  module _ (K : Bool → Type 0) where
+    still : (r : Reply) → Okay K (unchanged d ns t r)
+    unfolding unchanged
+    still r = (λ c e. absurd (Option·none-ne-some c e), λ e. refl)
 
-  done : (removal : Bool) (after : Table) → Okay (changed d ns t removal after)
-  unfolding changed
-  done removal after = (λ c e. refl, λ e. absurd (Option·none-ne-some _ (sym e)))
+    done : (removal : Bool) → K removal → (after : Table) → Okay K (changed d ns t removal after)
+    unfolding changed
+    done removal k after = (λ c e. (refl, subst K (let q : removal ≡ c .removal = cc in q) k), λ e. absurd (Option·none-ne-some _ (sym e)))
 
-  created-okay : (r : Reached) (v : Octets) → Okay (created d ns t r v)
-  unfolding created
-  created-okay r v = cond-case Okay (mayWrite d (nodeAt t (r .slot))) _ _ (cond-case Okay (room d ns t (r .left) v) _ _ (done false _) (still _)) (still _)
+    either : (b : Bool) (x y : Answer) → Okay K x → Okay K y → Okay K (cond b x y)
+    either = cond-case (Okay K)
 
-  answered-okay : (a : P.Ask) (l : Names) (i : ℕ) → Okay (answered d ns t a (record { slot = i; left = l }))
+    created-okay : K false → (r : Reached) (v : Octets) → Okay K (created d ns t r v)
+    unfolding created
+    created-okay k r v = either (mayWrite d (nodeAt t (r .slot))) _ _ (either (room d ns t (r .left) v) _ _ (done false k _) (still _)) (still _)
+
+  answered-okay : (a : P.Ask) (l : Names) (i : ℕ) → Okay (Does a) (answered d ns t a (record { slot = i; left = l }))
   unfolding answered looked written directoryMade taken permitted
-  answered-okay P.directory [] i = still _
-  answered-okay P.directory (n ∷ l) i = still _
-  answered-okay P.read [] i = still _
-  answered-okay P.read (n ∷ l) i = still _
-  answered-okay P.getPerms [] i = still _
-  answered-okay P.getPerms (n ∷ l) i = still _
-  answered-okay (P.write v) [] i = cond-case Okay (mayWrite d (nodeAt t i)) _ _ (cond-case Okay (leb (length v) longestValue) _ _ (done false _) (still _)) (still _)
-  answered-okay (P.write v) (n ∷ l) i = created-okay _ v
-  answered-okay P.mkdir [] i = still _
-  answered-okay P.mkdir (n ∷ l) i = created-okay _ []
-  answered-okay P.rm [] i = cond-case Okay (mayWrite d (nodeAt t i)) _ _ (done true _) (still _)
-  answered-okay P.rm (n ∷ l) i = still _
-  answered-okay (P.setPerms o es) [] i = cond-case Okay (maySet d ns t (nodeAt t i) o) _ _ (cond-case Okay (leb (suc (length es)) mostEntries) _ _ (done false _) (still _)) (still _)
-  answered-okay (P.setPerms o es) (n ∷ l) i = still _
+  answered-okay P.directory [] i = still _ _
+  answered-okay P.directory (n ∷ l) i = still _ _
+  answered-okay P.read [] i = still _ _
+  answered-okay P.read (n ∷ l) i = still _ _
+  answered-okay P.getPerms [] i = still _ _
+  answered-okay P.getPerms (n ∷ l) i = still _ _
+  answered-okay (P.write v) [] i = either _ (mayWrite d (nodeAt t i)) _ _ (either _ (leb (length v) longestValue) _ _ (done _ false refl _) (still _ _)) (still _ _)
+  answered-okay (P.write v) (n ∷ l) i = created-okay _ refl _ v
+  answered-okay P.mkdir [] i = still _ _
+  answered-okay P.mkdir (n ∷ l) i = created-okay _ refl _ []
+  answered-okay P.rm [] i = either _ (mayWrite d (nodeAt t i)) _ _ (done _ true refl _) (still _ _)
+  answered-okay P.rm (n ∷ l) i = still _ _
+  answered-okay (P.setPerms o es) [] i = either _ (maySet d ns t (nodeAt t i) o) _ _ (either _ (leb (suc (length es)) mostEntries) _ _ (done _ false refl _) (still _ _)) (still _ _)
+  answered-okay (P.setPerms o es) (n ∷ l) i = still _ _
 
-  pub change-okay : (a : P.Ask) (c : Change) → answer d a ns t .change ≡ some c → answer d a ns t .reply ≡ OK
-  unfolding answer
-  change-okay a c e = answered-okay a (reach t ns .left) (reach t ns .slot) .0 c e
+  module _ (a : P.Ask) where
+    pub change-okay : (c : Change) → answer d a ns t .change ≡ some c → answer d a ns t .reply ≡ OK
+    unfolding answer
+    change-okay c e = answered-okay a (reach t ns .left) (reach t ns .slot) .0 c e .0
 
-  pub table-still : (a : P.Ask) → answer d a ns t .change ≡ none → answer d a ns t .table ≡ t
-  unfolding answer
-  table-still a e = answered-okay a (reach t ns .left) (reach t ns .slot) .1 e
+    pub change-does : (c : Change) → answer d a ns t .change ≡ some c → Does a (c .removal)
+    unfolding answer
+    change-does c e = answered-okay a (reach t ns .left) (reach t ns .slot) .0 c e .1
+
+    pub table-still : answer d a ns t .change ≡ none → answer d a ns t .table ≡ t
+    unfolding answer
+    table-still e = answered-okay a (reach t ns .left) (reach t ns .slot) .1 e
+
+-- ── the effect of a change ──
+
+abbrev pub madeBy : Bool → Effect
+madeBy false = Wrote
+madeBy true = Removed
+
+pub change-made : (removed : Bool) (path : Octets) (x : Effect) → x ≡ madeBy removed → effectMeant x (namesIn path) ≡ some (changeGiven removed path)
+unfolding changeGiven
+change-made false path x e = ap (λ (y : Effect). effectMeant y (namesIn path)) e
+change-made true path x e = ap (λ (y : Effect). effectMeant y (namesIn path)) e
 
 -- ── a request in its bounds ──
 

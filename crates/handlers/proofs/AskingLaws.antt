@@ -1,15 +1,16 @@
 -- A node request in a transaction: what is left where it changed nothing, a change was entered, or a ninth refused.
 use mathlib.Core.Path.{_≡_, refl, sym, ap, ap₂, subst, _∙_}
 use mathlib.Core.Bool.{Bool}
-use mathlib.Core.List.{List, [], _∷_, _++_, append-nil, map, flatMap}
-use mathlib.Core.Option.{none, some}
+use mathlib.Core.List.{List, [], _∷_, _++_, flatMap}
+use mathlib.Core.Option.{Option, none, some}
 use Prim.Native.Nat.{ℕ, _+_, _-_, _*_, _≤_, _<_}
-use native.Mathlib.Nat.{zero-add, add-sub-cancel-left}
+use native.Mathlib.Nat.{add-sub-cancel-left}
 use native.Mathlib.Omega.{arith}
-use lib.ListN.{length, take, drop, set, getD, length-take, length-drop}
-use lib.Seq.{length-take-le, drop-length, take-at, drop-at, drop-drop}
+use lib.ListN.{length, take, drop, set, getD}
+use lib.Seq.{length-take-le, take-at, drop-at, drop-drop}
 use borrow.Author.Tests.{lt-ltb, le-ltb}
-use Rattle.rules.specs.Size.{replySize, tableSize, copiesSize, mostTransactions, mostChanges}
+use borrow.Rule.Slice.PartMut.{putMid, post-is}
+use Rattle.rules.specs.Size.{replySize, tableSize, mostTransactions, mostChanges}
 use Rattle.rules.specs.Octets.{Octets, text, nul, chunks, paste}
 use Rattle.rules.specs.Domain.{Domain}
 use Rattle.rules.specs.Path.{namesIn}
@@ -21,7 +22,9 @@ use Rattle.rules.specs.Layout.{Transaction, Transactions, tableBytes, tableOf, 
 use Rattle.rules.specs.World as W
 use Rattle.rules.specs.World.{World, left, to, copyOf}
 use Rattle.rules.proofs.Tables.{decoded-at}
-use Rattle.rules.proofs.EntryLayouts.{whole, rows-joined}
+use Rattle.rules.proofs.Paste.{paste-own}
+use Rattle.rules.proofs.EntryLayouts.{whole, rows-joined, map-whole}
+use Rattle.slots.proofs.Canonical.{sound-canonical}
 use Rattle.tables.specs.Transaction.{transactionOf, changeGiven, changedBy}
 use Rattle.tables.proofs.TransactionChanges.{kept-transactions}
 use Rattle.nodes.specs.Answers.{effectMeant, Replies, Answers, Asks, AnsweredAs}
@@ -36,17 +39,12 @@ use Rattle.replies.specs.Framed.{Told}
 use Rattle.replies.specs.Handled.{Handled}
 use Rattle.replies.specs.declared.kinds.Outcome.{Outcome}
 use Rattle.handlers.specs.Leaves.{tables, itsNodes, itsWatches, itsDomains}
-use Rattle.handlers.specs.Asking.{copyIn, Asking, InCopy, Changing, Recorded, entered, full}
+use Rattle.handlers.specs.Asking.{copyIn, Asking, InCopy, Changing, ninthReply}
 use Rattle.handlers.proofs.Ways.{outcomeOf, same-tables, done-so}
 use Rattle.handlers.proofs.StartLaws.{copy-put}
-use Rattle.handlers.proofs.Answers.{change-okay, path-short}
+use Rattle.handlers.proofs.Answers.{change-okay, table-still, madeBy, change-made, left-sound, path-short}
 
 -- ── bytes ──
-
--- a whole buffer put in place of another
-pub paste-whole : (x l : Octets) → length x ≡ length l → paste 0 x l ≡ x
-unfolding paste
-paste-whole x l e = ap (λ (y : Octets). x ++ y) (ap (λ (n : ℕ). drop n l) (zero-add (length x) ∙ e) ∙ drop-length l) ∙ append-nil x
 
 -- a longer text put over one that was put in the same place
 pub paste-over : (i : ℕ) (x y l : Octets) → length x ≤ length y → i + length y ≤ length l → paste i y (paste i x l) ≡ paste i y l
@@ -64,19 +62,15 @@ paste-over i x y l h k =
     ∙ (b ∙ (drop-drop m (i + length x) l ∙ ap (λ (j : ℕ). drop j l) (let e : i + length x + m ≡ i + length y = omega arith in e)))) in
     rw (take-at p (x ++ q) i n, d) refl
 
-map-whole : (xs : List Octets) → map whole xs ≡ xs
-map-whole [] = refl
-map-whole (x ∷ xs) = ap (λ (l : List Octets). x ∷ l) (map-whole xs)
+-- copy k, as a part of the copies
+pub copy-part : (cs : Octets) (k : ℕ) → take (k * 13824 + 13824 - k * 13824) (drop (k * 13824) cs) ≡ copyIn cs k
+copy-part cs k = ap (λ (n : ℕ). take n (drop (k * 13824) cs)) (add-sub-cancel-left (k * 13824) 13824)
 
--- the bytes of copy k, taken into a buffer of its size
-pub copy-taken : (cs : Octets) (k : ℕ) (before t : Octets) → length cs ≡ copiesSize → k < 3 → length before ≡ tableSize →
-    t ≡ paste 0 (take (k * 13824 + 13824 - k * 13824) (drop (k * 13824) cs)) before → t ≡ copyIn cs k
-copy-taken cs k before t l h b e =
-    let n : length (copyIn cs k) ≡ tableSize = length-take-le tableSize (drop (k * tableSize) cs) (rw (length-drop, l) (omega arith)) in
-    e ∙ (ap (λ (j : ℕ). paste 0 (take j (drop (k * 13824) cs)) before) (add-sub-cancel-left (k * 13824) 13824) ∙ paste-whole (copyIn cs k) before (n ∙ sym b))
-
-pub part-fits : (cs : Octets) (k : ℕ) (l : Octets) → length l ≡ tableSize → 0 + length (take (k * 13824 + 13824 - k * 13824) (drop (k * 13824) cs)) ≤ length l
-part-fits cs k l e = simp length-take (omega (arith, e))
+-- the copies, with another table in its place
+part-put : (cs t : Octets) (k : ℕ) → length t ≡ tableSize → putMid (k * 13824) (k * 13824 + 13824 - k * 13824) cs t ≡ paste (k * 13824) t cs
+unfolding paste
+part-put cs t k l =
+    ap (λ (x : Octets). take (k * 13824) cs ++ (t ++ x)) (post-is (k * 13824) (k * 13824 + 13824) cs (omega arith) ∙ ap (λ (n : ℕ). drop (k * 13824 + n) cs) (sym l))
 
 -- as the rule book has it
 pub copy-of : (w : World) (cs : Octets) (k : ℕ) → w .copies ≡ chunks mostTransactions tableSize cs → k < 3 → copyOf w k ≡ tableOf (copyIn cs k)
@@ -93,6 +87,48 @@ replied (refused e) r before after h = (h .0, ap (paste 16 (errnoText e ++ nul))
 over-told : (r : Reply) (before after : Octets) → length before ≡ replySize → Replies OK r before after → Told (refused ENOSPC) (Refused NoSpace) before after
 unfolding OK text errnoText
 over-told r before after l h = (refl, ap (paste 16 (errnoText ENOSPC ++ nul)) (h .1) ∙ paste-over 16 _ _ before (omega arith) (rw l (omega arith)))
+
+-- ── a ninth change ──
+
+module _ (a : A.Answer) where
+  still-reply : a .change ≡ none → ninthReply a ≡ a .reply
+  unfolding ninthReply
+  still-reply e = rw e refl
+
+  ninth-reply : (c : Change) → a .change ≡ some c → ninthReply a ≡ refused ENOSPC
+  unfolding ninthReply
+  ninth-reply c e = rw e refl
+
+-- what is told in a transaction that has eight changes, by an answer on a table of the copy's bytes
+module _ (d : Domain) (ask : Ask) (path v : Octets) (n : ℕ) (access domains : List ℕ) (copied t t′ reply reply′ : Octets) (here : t ≡ copied) (r : Answer)
+    (told : AnsweredAs d ask v n access domains path t t′ reply reply′ r) (o : Outcome) where
+  abbrev Eighth : Type 0
+  Eighth = ((a : P.Ask) → Asks ask v n access domains a → Told (ninthReply (answer d a (namesIn path) (tableOf copied))) (o .reply) reply reply′) × (o ≡ outcomeOf (o .reply) 0)
+
+  answered-here : (a : P.Ask) → Asks ask v n access domains a → Answers (namesIn path) (answer d a (namesIn path) (tableOf copied)) t′ reply reply′ r
+  answered-here a is = subst (λ (x : Octets). Answers (namesIn path) (answer d a (namesIn path) (tableOf x)) t′ reply reply′ r) here (told a is)
+
+  pub eight-still : r .effect ≡ Nothing → o ≡ outcomeOf (r .reply) 0 → Eighth
+  eight-still e p =
+      rw p (
+        λ a is.
+            let z = answered-here a is in
+            let q = still-reply (answer d a (namesIn path) (tableOf copied)) (sym (z .change) ∙ ap (λ (y : Effect). effectMeant y (namesIn path)) e) in
+            subst (λ (y : A.Reply). Told y (r .reply) reply reply′) (sym q) (replied (answer d a (namesIn path) (tableOf copied) .reply) (r .reply) reply reply′ (z .reply)),
+        refl,
+      )
+
+  pub eight-refused : length reply ≡ replySize → (removed : Bool) → r .effect ≡ madeBy removed → o ≡ outcomeOf (Refused NoSpace) 0 → Eighth
+  eight-refused l removed x p =
+      rw p (
+        λ a is.
+            let z = answered-here a is in
+            let e = sym (z .change) ∙ change-made removed path (r .effect) x in
+            let y = change-okay d (namesIn path) (tableOf copied) a (changeGiven removed path) e in
+            subst (λ (u : A.Reply). Told u (Refused NoSpace) reply reply′) (sym (ninth-reply (answer d a (namesIn path) (tableOf copied)) (changeGiven removed path) e))
+            (over-told (r .reply) reply reply′ l (subst (λ (u : A.Reply). Replies u (r .reply) reply reply′) y (z .reply))),
+        refl,
+      )
 
 -- ── in a transaction ──
 
@@ -117,52 +153,71 @@ module _ (w : World) (k : ℕ) (x : Transaction) (a : A.Answer) where
   unfolding W.inside
   inside-done c e h = rw (e, lt-ltb (length (x .changes)) mostChanges h) refl
 
+  pub inside-full : mostChanges ≤ length (x .changes) → W.inside w k x a ≡ to w (ninthReply a) w []
+  inside-full h = go (a .change) refl
+    where
+      go : (m : Option Change) → a .change ≡ m → W.inside w k x a ≡ to w (ninthReply a) w []
+      go none e = inside-still e ∙ ap (λ (r : A.Reply). to w r w []) (sym (still-reply a e))
+      go (some c) e = inside-ninth c e h ∙ ap (λ (r : A.Reply). to w r w []) (sym (ninth-reply a c e))
+
+module _ (cs xs : Octets) (k : ℕ) (reply : Octets) (s : InCopy cs xs k reply) (w : World) (cw : w .copies ≡ chunks mostTransactions tableSize cs) (xw : w .transactions ≡ transactionsOf xs) where
+  transactions-back : xs ≡ transactionsBytes (w .transactions)
+  transactions-back = sym (kept-transactions xs (s .place .kept)) ∙ ap transactionsBytes (sym xw)
+
+  copies-back : cs ≡ flatMap whole (w .copies)
+  copies-back = sym (rows-joined mostTransactions tableSize cs (s .whole)) ∙ ap (flatMap whole) (sym cw)
+
+  -- it has eight changes
+  pub full-handled : (a : N.Table → A.Answer) → mostChanges ≤ length (transactionOf xs k .changes) → (events reply′ : Octets) (o : Outcome)
+      → Told (ninthReply (a (tableOf (take (k * 13824 + 13824 - k * 13824) (drop (k * 13824) cs))))) (o .reply) reply reply′ →
+      o ≡ outcomeOf (o .reply) 0 → Handled (W.inside w k (transactionOf xs k) (a (copyOf w k))) (tables (itsNodes w) cs (itsWatches w) xs (itsDomains w)) reply reply′ events events o
+  full-handled a many events reply′ o t p =
+      done-so w _ reply o events (ninthReply (a (copyOf w k))) w reply′ (o .reply) _ (inside-full w k (transactionOf xs k) (a (copyOf w k)) many) p
+      (subst (λ (y : N.Table). Told (ninthReply (a y)) (o .reply) reply reply′) (ap tableOf (copy-part cs k) ∙ sym (copy-of w cs k cw (s .place .below))) t) (same-tables refl copies-back refl transactions-back refl)
+
 module _ {d : Domain} {ask : Ask} {path v : Octets} {n : ℕ} {access domains : List ℕ} (q : Asking d ask path v n access domains) where
   module _ (cs xs : Octets) (k : ℕ) (reply : Octets) (s : InCopy cs xs k reply) (t t′ reply′ : Octets) (r : Answer) (here : t ≡ copyIn cs k)
       (told : AnsweredAs d ask v n access domains path t t′ reply reply′ r) where
     -- what a change's entry wants
-    pub changing : (c : Change) → effectMeant (r .effect) (namesIn path) ≡ some c → length t′ ≡ tableSize → Changing cs t′ xs k path
-    changing c e l =
-        let a = told (q .request) (q .asks) in
-        record {
-          whole = s .whole;
-          table = l;
-          place = s .place;
-          full = q .full;
-          short = path-short q t (rw here (s .sound)) c (sym (a .change) ∙ e);
-        }
+    pub changing : length (transactionOf xs k .changes) < mostChanges → (removed : Bool) → r .effect ≡ madeBy removed → Changing xs k path
+    changing few removed e =
+        let short = path-short q t (rw here (s .sound)) (changeGiven removed path) (sym (told (q .request) (q .asks) .change) ∙ change-made removed path (r .effect) e) in
+        record { place = s .place; few = few; full = q .full; short = short }
 
     module _ (w : World) (cw : w .copies ≡ chunks mostTransactions tableSize cs) (xw : w .transactions ≡ transactionsOf xs) (a : P.Ask) (is : Asks ask v n access domains a) (events : Octets)
         (o : Outcome) where
+      abbrev cs′ : Octets
+      cs′ = putMid (k * 13824) (k * 13824 + 13824 - k * 13824) cs t′
+
+      long : length t′ ≡ tableSize
+      long = left-sound q t (rw here (s .sound)) t′ (told (q .request) (q .asks) .table) .1
+
       abbrev z : A.Answer
       z = answer d a (namesIn path) (copyOf w k)
 
+      copied : tableOf t ≡ copyOf w k
+      copied = ap tableOf here ∙ sym (copy-of w cs k cw (s .place .below))
+
       answered : Answers (namesIn path) z t′ reply reply′ r
-      answered = subst (λ (y : N.Table). Answers (namesIn path) (answer d a (namesIn path) y) t′ reply reply′ r) (ap tableOf here ∙ sym (copy-of w cs k cw (s .place .below))) (told a is)
+      answered = subst (λ (y : N.Table). Answers (namesIn path) (answer d a (namesIn path) y) t′ reply reply′ r) copied (told a is)
 
-      transactions-back : xs ≡ transactionsBytes (w .transactions)
-      transactions-back = sym (kept-transactions xs (s .place .kept)) ∙ ap transactionsBytes (sym xw)
-
-      copies-back : cs ≡ flatMap whole (w .copies)
-      copies-back = sym (rows-joined mostTransactions tableSize cs (s .whole)) ∙ ap (flatMap whole) (sym cw)
-
-      pub nothing-handled : r .effect ≡ Nothing → o ≡ outcomeOf (r .reply) 0 → Handled (W.inside w k (transactionOf xs k) z) (tables (itsNodes w) cs (itsWatches w) xs (itsDomains w)) reply reply′ events events o
+      pub nothing-handled : r .effect ≡ Nothing → o ≡ outcomeOf (r .reply) 0 → Handled (W.inside w k (transactionOf xs k) z) (tables (itsNodes w) cs′ (itsWatches w) xs (itsDomains w)) reply reply′ events events o
       nothing-handled e p =
-          done-so w _ reply o events (z .reply) w reply′ (r .reply) _ (inside-still w k _ z (sym (answered .change) ∙ ap (λ (y : Effect). effectMeant y (namesIn path)) e)) p
-          (replied (z .reply) (r .reply) reply reply′ (answered .reply)) (same-tables refl copies-back refl transactions-back refl)
+          let f : z .change ≡ none = sym (answered .change) ∙ ap (λ (y : Effect). effectMeant y (namesIn path)) e in
+          let u : t′ ≡ copyIn cs k =
+          answered .table ∙ ap tableBytes (table-still d (namesIn path) (copyOf w k) a f ∙ copy-of w cs k cw (s .place .below)) ∙ sound-canonical (copyIn cs k) (s .sound) .kept in
+          done-so w _ reply o events (z .reply) w reply′ (r .reply) _ (inside-still w k _ z f) p (replied (z .reply) (r .reply) reply reply′ (answered .reply))
+          (same-tables refl
+          (part-put cs t′ k long ∙ ap (λ (y : Octets). paste (k * 13824) y cs) u ∙ paste-own (k * 13824) 13824 cs (omega (arith, s .whole, s .place .below)) ∙ copies-back cs xs k reply s w cw xw) refl
+          (transactions-back cs xs k reply s w cw xw) refl)
 
-      pub change-handled : (removed : Bool) → effectMeant (r .effect) (namesIn path) ≡ some (changeGiven removed path) → length t′ ≡ tableSize → (cs′ xs′ : Octets) → Recorded cs t′ xs k removed path (r .reply) cs′ xs′ o →
+      pub change-handled : (removed : Bool) → r .effect ≡ madeBy removed → length (transactionOf xs k .changes) < mostChanges → (xs′ : Octets) →
+          xs′ ≡ transactionsBytes (set (transactionsOf xs) k (some (changedBy (transactionOf xs k) removed path))) → o ≡ outcomeOf (r .reply) 0 →
           Handled (W.inside w k (transactionOf xs k) z) (tables (itsNodes w) cs′ (itsWatches w) xs′ (itsDomains w)) reply reply′ events events o
       unfolding changedBy
-      change-handled removed e l cs′ xs′ (entered few c b p) =
-          done-so w _ reply o events (z .reply) _ reply′ (r .reply) _ (inside-done w k (transactionOf xs k) z (changeGiven removed path) (sym (answered .change) ∙ e) few) p
+      change-handled removed e few xs′ b p =
+          done-so w _ reply o events (z .reply) _ reply′ (r .reply) _ (inside-done w k (transactionOf xs k) z (changeGiven removed path) (sym (answered .change) ∙ change-made removed path (r .effect) e) few) p
           (replied (z .reply) (r .reply) reply reply′ (answered .reply))
           (same-tables refl
-          (copy-put cs k t′ cs′ (s .whole) l (s .place .below) c ∙ ap₂ (λ (y : List Octets) (u : Octets). flatMap whole (set y k u)) (sym cw) (answered .table)) refl
+          (copy-put cs k t′ cs′ (s .whole) long (s .place .below) (part-put cs t′ k long) ∙ ap₂ (λ (y : List Octets) (u : Octets). flatMap whole (set y k u)) (sym cw) (answered .table)) refl
           (b ∙ ap (λ (y : Transactions). transactionsBytes (set y k (some (changedBy (transactionOf xs k) removed path)))) (sym xw)) refl)
-      change-handled removed e l cs′ xs′ (full many c b p) =
-          let h = inside-ninth w k (transactionOf xs k) z (changeGiven removed path) (sym (answered .change) ∙ e) many in
-          let y = change-okay d (namesIn path) (copyOf w k) a (changeGiven removed path) (sym (answered .change) ∙ e) in
-          done-so w _ reply o events (refused ENOSPC) w reply′ (Refused NoSpace) _ h p
-          (over-told (r .reply) reply reply′ (s .long) (subst (λ (u : A.Reply). Replies u (r .reply) reply reply′) y (answered .reply)))
-          (same-tables refl (c ∙ copies-back) refl (b ∙ transactions-back) refl)

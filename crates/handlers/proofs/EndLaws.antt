@@ -16,6 +16,7 @@ use Rattle.rules.specs.Event.{Record, heard}
 use Rattle.rules.specs.Layout.{Transaction, Transactions, tableBytes, tableOf, watchesOf, transactionsBytes, transactionsOf, recordBytes}
 use Rattle.rules.specs.World as W
 use Rattle.rules.specs.World.{World, left, to, staled, staledIf, closing, committing, ending, copyOf}
+use Rattle.rules.proofs.Paste.{paste-whole}
 use Rattle.tables.specs.Entry.{taken, passes, entryOr}
 use Rattle.tables.specs.Kept.{KeptTransactions}
 use Rattle.tables.specs.Transaction.{transactionOf, heldBy, OpenTransaction}
@@ -30,7 +31,7 @@ use Rattle.handlers.specs.Leaves.{tables, itsCopies, itsWatches, itsDoma
 use Rattle.handlers.specs.Asking.{copyIn}
 use Rattle.handlers.specs.Transacting.{Holds, HeldOr, Committable}
 use Rattle.handlers.proofs.Ways.{outcomeOf, same-tables, heard-so}
-use Rattle.handlers.proofs.AskingLaws.{copy-taken, copy-of}
+use Rattle.handlers.proofs.AskingLaws.{copy-part, copy-of}
 use Rattle.handlers.proofs.PlainLaws.{recorded-first}
 use Rattle.handlers.proofs.StartLaws.{three-transactions}
 
@@ -154,27 +155,40 @@ module _ (w : World) (k : ℕ) (x : Transaction) where
   commit-done = refl
 
 -- the node table takes the copy's bytes
-module _ (nodes cs ws xs reply events : Octets) (s : Committable nodes cs ws xs reply events) (k : ℕ) (o : OpenTransaction xs k) (nodes′ : Octets)
-    (taken : nodes′ ≡ paste 0 (take (k * 13824 + 13824 - k * 13824) (drop (k * 13824) cs)) nodes) where
-  copied : nodes′ ≡ copyIn cs k
-  copied = copy-taken cs k nodes nodes′ (s .whole) (o .below) (sound-canonical nodes (s .sound) .whole) taken
+module _ (nodes cs ws xs reply events : Octets) (s : Committable nodes cs ws xs reply events) (k : ℕ) (o : OpenTransaction xs k) where
+  abbrev t : Octets
+  t = take (k * 13824 + 13824 - k * 13824) (drop (k * 13824) cs)
+
+  here : t ≡ copyIn cs k
+  here = copy-part cs k
+
+  table-long : length nodes ≡ tableSize
+  table-long = sound-canonical nodes (s .sound) .whole
+
+  copy-long : length t ≡ tableSize
+  copy-long = ap length here ∙ sound-canonical (copyIn cs k) (s .copy k o) .whole
 
   -- what the records of its changes want
-  pub committing-stores : (before : Octets) → before ≡ nodes → Stores before nodes′ ws
-  committing-stores before b = record { was = rw b (s .sound); is = rw copied (s .copy k o); kept = s .watching }
+  pub committing-stores : Stores nodes t ws
+  committing-stores = record { was = s .sound; is = rw here (s .copy k o); kept = s .watching }
 
-  module _ (w : World) (nw : w .nodes ≡ tableOf nodes) (cw : w .copies ≡ chunks mostTransactions tableSize cs) (ww : w .watches ≡ watchesOf ws) (xw : w .transactions ≡ transactionsOf xs) where
-    pub commit-handled : (before : Octets) → before ≡ nodes → (xs′ reply′ events′ : Octets) (n : ℕ) (r : Reply.Reply) (out : Outcome)
+  -- what its copying wants
+  pub copy-fits : 0 + length t ≤ length nodes
+  copy-fits = omega (arith, copy-long, table-long)
+
+  module _ (nodes′ : Octets) (put : nodes′ ≡ paste 0 t nodes) (w : World) (nw : w .nodes ≡ tableOf nodes) (cw : w .copies ≡ chunks mostTransactions tableSize cs) (ww : w .watches ≡ watchesOf ws)
+      (xw : w .transactions ≡ transactionsOf xs) where
+    pub commit-handled : (xs′ reply′ events′ : Octets) (n : ℕ) (r : Reply.Reply) (out : Outcome)
         → xs′ ≡ transactionsBytes (staledIf (not (isEmpty (transactionOf xs k .changes))) (set (transactionsOf xs) k none))
-        → Events.Recorded 0 (heard (tableOf before) (tableOf nodes′) (watchesOf ws) (transactionOf xs k .changes)) events events′ n
+        → Events.Recorded 0 (heard (tableOf nodes) (tableOf t) (watchesOf ws) (transactionOf xs k .changes)) events events′ n
         → Told OK r reply reply′ → out ≡ outcomeOf r n
         → Handled (committing w k (transactionOf xs k)) (tables nodes′ (itsCopies w) (itsWatches w) xs′ (itsDomains w)) reply reply′ events events′ out
-    commit-handled before b xs′ reply′ events′ n r out e h t p =
+    commit-handled xs′ reply′ events′ n r out e h told p =
         let f = recorded-first _ _ _ _ h in
-        let c : tableOf nodes′ ≡ copyOf w k = ap tableOf copied ∙ sym (copy-of w cs k cw (o .below)) in
-        let same : heard (tableOf before) (tableOf nodes′) (watchesOf ws) (transactionOf xs k .changes) ≡ heard (w .nodes) (copyOf w k) (w .watches) (transactionOf xs k .changes) =
-        rw (b, c, nw, ww) refl in
-        heard-so w _ reply out OK _ _ reply′ events events′ r n _ (commit-done w k (transactionOf xs k)) p t
+        let c : tableOf t ≡ copyOf w k = ap tableOf here ∙ sym (copy-of w cs k cw (o .below)) in
+        let same : heard (tableOf nodes) (tableOf t) (watchesOf ws) (transactionOf xs k .changes) ≡ heard (w .nodes) (copyOf w k) (w .watches) (transactionOf xs k .changes) =
+        rw (c, nw, ww) refl in
+        heard-so w _ reply out OK _ _ reply′ events events′ r n _ (commit-done w k (transactionOf xs k)) p told
         (f .0 ∙ ap (λ (rs : List Record). paste 0 (flatMap recordBytes rs) events) same) (f .1 ∙ ap length same)
-        (same-tables (copied ∙ (sym (sound-canonical (copyIn cs k) (s .copy k o) .kept) ∙ ap tableBytes (sym (copy-of w cs k cw (o .below))))) refl refl
+        (same-tables (put ∙ paste-whole t nodes (copy-long ∙ sym table-long) ∙ here ∙ (sym (sound-canonical (copyIn cs k) (s .copy k o) .kept) ∙ ap tableBytes (sym (copy-of w cs k cw (o .below))))) refl refl
         (e ∙ ap (λ (y : Transactions). transactionsBytes (staledIf (not (isEmpty (transactionOf xs k .changes))) (set y k none))) (sym xw)) refl)

@@ -19,10 +19,11 @@ use Rattle.rules.specs.Layout.{Transaction, Transactions, Domains, tableBytes, 
 use Rattle.rules.specs.Sound.{introduced}
 use Rattle.rules.specs.World as W
 use Rattle.rules.specs.World.{World, left, to, staled, staledIf, speaksFor, withoutWatches, withoutTransactions, releasing}
-use Rattle.rules.proofs.GoodAnswers.{withoutAll-good}
+use Rattle.rules.proofs.GoodNodes.{withoutAll-good}
 use Rattle.rules.proofs.Fitting.{withoutAll-fits}
 use Rattle.rules.proofs.Slots.{table-read}
-use Rattle.laws.proofs.SoundWorld.{TableSound, table-encoded, table-decoded, owned-fine}
+use Rattle.laws.proofs.SoundWorld.{TableSound, table-encoded, table-decoded}
+use Rattle.laws.proofs.SoundEntries.{owned-fine}
 use Rattle.lookup.specs.Children.{AllAsked}
 use Rattle.walk.specs.Walk.{Owned}
 use Rattle.tables.specs.Kept.{KeptWatches, KeptTransactions}

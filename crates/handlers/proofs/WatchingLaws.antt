@@ -26,7 +26,7 @@ use Rattle.tables.specs.Kept.{KeptWatches}
 use Rattle.tables.specs.Watch as tables
 use Rattle.tables.specs.Watch.{depthMeant, nobody, watchOf, TakenWatch, FitWatch, named, watchGiven}
 use Rattle.tables.specs.declared.Depth.{Depth}
-use Rattle.tables.proofs.WatchLaws.{length-watchesOf}
+use Rattle.tables.proofs.WatchBytes.{length-watchesOf}
 use Rattle.tables.proofs.WatchChanges.{put-kept}
 use Rattle.handlers.specs.Watching.{PlacedAs, NamedSo}
 use Rattle.rules.proofs.Compare.{same-eq}

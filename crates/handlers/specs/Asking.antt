@@ -1,29 +1,30 @@
--- A node request in a transaction: what it works on, and what is entered.
+-- A node request: what it works on, who hears it, and what is entered.
 use mathlib.Core.Path.{_≡_}
-use mathlib.Core.Bool.{Bool, true}
+use mathlib.Core.Bool.{true, false}
 use mathlib.Core.List.{List, [], _∷_}
-use mathlib.Core.Option.{some}
+use mathlib.Core.Option.{none, some}
 use Prim.Native.Nat.{ℕ, _*_, _<_, _≤_}
-use lib.ListN.{length, take, drop, set}
+use lib.ListN.{length, take, drop}
 use Rattle.rules.specs.Size.{lastDomain, replySize, tableSize, copiesSize, eventsSize, longestPath, mostChanges}
-use Rattle.rules.specs.Octets.{Octets, paste}
+use Rattle.rules.specs.Octets.{Octets}
 use Rattle.rules.specs.Domain.{Domain}
 use Rattle.rules.specs.Path.{isFull, namesIn}
-use Rattle.rules.specs.Node.{Entry}
+use Rattle.rules.specs.Node.{Entry, Table}
 use Rattle.rules.specs.Payload as P
-use Rattle.rules.specs.Answer.{Change}
-use Rattle.rules.specs.Event.{heardChange}
+use Rattle.rules.specs.Answer as A
+use Rattle.rules.specs.Answer.{Change, ENOSPC, refused}
+use Rattle.rules.specs.Event.{Watches, hears, maskOf, heardChange}
 use Rattle.rules.specs.Layout.{tableOf, watchesOf, transactionsBytes, transactionsOf}
 use Rattle.rules.specs.Sound.{goodEntries, soundTable}
 use Rattle.rules.specs.World.{staled}
 use Rattle.tables.specs.Kept.{KeptWatches, KeptTransactions}
 use Rattle.events.specs.Records as Events
-use Rattle.tables.specs.Transaction.{transactionOf, changedBy, OpenTransaction}
+use Rattle.events.specs.Records.{Mask}
+use Rattle.tables.specs.Transaction.{transactionOf, changeGiven, OpenTransaction}
 use Rattle.nodes.specs.Answers.{Askable, Asks}
 use Rattle.nodes.specs.declared.kinds.Ask.{Ask}
-use Rattle.nodes.specs.declared.kinds.Errno.the-variants.{NoSpace}
+use Rattle.nodes.specs.declared.kinds.Ask.the-variants.{Directory, Read, GetPerms, Write, Mkdir, Rm, SetPerms}
 use Rattle.nodes.specs.declared.kinds.Reply.{Reply}
-use Rattle.nodes.specs.declared.kinds.Reply.the-variants.{Refused}
 use Rattle.replies.specs.declared.kinds.Outcome.{Outcome}
 
 -- the bytes of copy k
@@ -63,11 +64,21 @@ pub record OnStore (nodes watches transactions reply events : Octets) : Type 0 w
   pub long : length reply ≡ replySize
   pub room : length events ≡ eventsSize
 
+-- the mask of those that hear in a store the change that a request would make
+abbrev pub Hearing : Ask → Table → Watches → Octets → ℕ → Type 0
+Hearing Directory t ws path m = Unit {0}
+Hearing Read t ws path m = Unit {0}
+Hearing GetPerms t ws path m = Unit {0}
+Hearing Write t ws path m = Mask (maskOf (hears t t (changeGiven false path)) ws) m
+Hearing Mkdir t ws path m = Mask (maskOf (hears t t (changeGiven false path)) ws) m
+Hearing Rm t ws path m = Mask (maskOf (hears t t (changeGiven true path)) ws) m
+Hearing SetPerms t ws path m = Mask (maskOf (hears t t (changeGiven false path)) ws) m
+
 -- all open transactions are stale, and the change is recorded
-pub record Changed (before nodes watches transactions : Octets) (c : Change) (r : Reply) (events transactions′ events′ : Octets) (o : Outcome) : Type 0 where
+pub record Changed (before : Table) (nodes watches transactions : Octets) (c : Change) (r : Reply) (events transactions′ events′ : Octets) (o : Outcome) : Type 0 where
   pub stale : transactions′ ≡ transactionsBytes (staled (transactionsOf transactions))
   pub count : ℕ
-  pub heard : Events.Recorded 0 (heardChange (tableOf before) (tableOf nodes) (watchesOf watches) c) events events′ count
+  pub heard : Events.Recorded 0 (heardChange before (tableOf nodes) (watchesOf watches) c) events events′ count
   pub outcome : o ≡ record { reply = r; events = count; page = 0; channel = 0 }
 
 -- the open transaction in place k, whose copy is sound
@@ -77,18 +88,13 @@ pub record InCopy (copies transactions : Octets) (k : ℕ) (reply : Octets) : Ty
   pub sound : soundTable (copyIn copies k) ≡ true
   pub long : length reply ≡ replySize
 
--- a table to take as its copy, and the path of the change
-pub record Changing (copies t transactions : Octets) (k : ℕ) (path : Octets) : Type 0 where
-  pub whole : length copies ≡ copiesSize
-  pub table : length t ≡ tableSize
+-- room for one change more in it, and the path of the change
+pub record Changing (transactions : Octets) (k : ℕ) (path : Octets) : Type 0 where
   pub place : OpenTransaction transactions k
+  pub few : length (transactionOf transactions k .changes) < mostChanges
   pub full : isFull path ≡ true
   pub short : length path ≤ longestPath
 
--- the change is entered, or it is the ninth
-pub data Recorded (copies t transactions : Octets) (k : ℕ) (removed : Bool) (path : Octets) (r : Reply) (copies′ transactions′ : Octets) (o : Outcome) : Type 0 where
-  entered : length (transactionOf transactions k .changes) < mostChanges → copies′ ≡ paste (k * tableSize) t copies →
-      transactions′ ≡ transactionsBytes (set (transactionsOf transactions) k (some (changedBy (transactionOf transactions k) removed path))) →
-      o ≡ record { reply = r; events = 0; page = 0; channel = 0 } → Recorded copies t transactions k removed path r copies′ transactions′ o
-  full : mostChanges ≤ length (transactionOf transactions k .changes) → copies′ ≡ copies → transactions′ ≡ transactions →
-      o ≡ record { reply = Refused NoSpace; events = 0; page = 0; channel = 0 } → Recorded copies t transactions k removed path r copies′ transactions′ o
+-- "a ninth is refused with ENOSPC": the reply of a request in a transaction that has eight
+unfoldable pub ninthReply : A.Answer → A.Reply
+ninthReply a = elim (a .change) [ none ↦ a .reply | some c ↦ refused ENOSPC ]

@@ -1,25 +1,32 @@
 // A node request on the store, or in a transaction on its copy.
 ghost use mathlib.Core.Path.{_≡_};
 ghost use mathlib.Core.Bool.{true};
+ghost use mathlib.Core.Option.{some};
 ghost use Prim.Native.Nat.{_≤_};
-ghost use lib.ListN.{length};
-ghost use Rattle.rules.specs.Size.{tableSize, eventsSize, longestPath, mostTransactions};
+ghost use lib.ListN.{length, set};
+ghost use Rattle.rules.specs.Size.{tableSize, replySize, eventsSize, longestPath, mostTransactions};
 ghost use Rattle.rules.specs.Octets.{Octets, chunks};
 ghost use Rattle.rules.specs.Payload as P;
 ghost use Rattle.rules.specs.Path.{isFull, namesIn};
+ghost use Rattle.rules.specs.Node.{Table};
 ghost use Rattle.rules.specs.Answer.{answer};
-ghost use Rattle.rules.specs.Layout.{tableOf, watchesOf, transactionsOf};
+ghost use Rattle.rules.specs.Event.{hears, maskOf};
+ghost use Rattle.rules.specs.Layout.{tableOf, watchesOf, transactionsOf, transactionsBytes};
+ghost use Rattle.rules.specs.Sound.{soundTable};
 ghost use Rattle.rules.specs.World as W;
 ghost use Rattle.rules.specs.World.{World, copyOf};
 ghost use Rattle.tables.specs.Kept.{KeptTransactions};
-ghost use Rattle.tables.specs.Transaction.{transactionOf, changeGiven};
-ghost use Rattle.events.specs.Stores.{Stores};
+ghost use Rattle.tables.specs.Transaction.{transactionOf, changeGiven, changedBy};
+ghost use Rattle.events.specs.Records.{Mask};
+ghost use Rattle.events.specs.Stores.{Store};
 ghost use Rattle.nodes.specs.Answers.{Asks};
+ghost use Rattle.replies.specs.Framed.{Told};
 ghost use Rattle.replies.specs.Handled.{Handled};
 ghost use Rattle.handlers.specs.Leaves.{tables, itsNodes, itsCopies, itsWatches, itsDomains};
-ghost use Rattle.handlers.specs.Asking.{GoodAsk, Asking, OnStore, InCopy, Changing, Changed, Recorded};
+ghost use Rattle.handlers.specs.Asking.{GoodAsk, Asking, OnStore, Hearing, Changed, InCopy, Changing, ninthReply};
 use crate::transacting::TABLE_SIZE;
-use events::changes::change;
+use events::changes::change_since;
+use events::masks::in_store;
 use nodes::answers::answer;
 use nodes::kinds::Ask;
 use nodes::kinds::Effect;
@@ -34,9 +41,25 @@ use tables::transactions::changes;
 
 const MOST_CHANGES: usize = 8;
 
-// Makes all open transactions stale after a change of the store, and enters who hears it.
+// The mask of those that hear, in the store as it stands, a change that a request would make; a request that only looks makes none.
+fn hearing(ask: Ask, nodes: &[u8], watches: &[u8], path: &[u8]) -> u32
+    requires { ⌜ Store (now nodes) (now watches) × (isFull (now path) ≡ true) ⌝ }
+    ensures { λ r. ⌜ Hearing ask (tableOf (now (nodes .entry))) (watchesOf (now (watches .entry))) (now (path .entry)) r ⌝ }
+{
+    match ask {
+        Ask::Directory => 0,
+        Ask::Read => 0,
+        Ask::GetPerms => 0,
+        Ask::Write => in_store(nodes, watches, path, false),
+        Ask::Mkdir => in_store(nodes, watches, path, false),
+        Ask::Rm => in_store(nodes, watches, path, true),
+        Ask::SetPerms => in_store(nodes, watches, path, false),
+    }
+}
+
+// Makes all open transactions stale after a change of the store, and enters who hears it, given those that heard it in the store before.
 fn tell(
-    before: &[u8],
+    heard: u32,
     nodes: &[u8],
     watches: &[u8],
     transactions: &mut [u8],
@@ -45,11 +68,12 @@ fn tell(
     r: Reply,
     events: &mut [u8],
 ) -> Outcome
-    requires { ⌜ Stores (now before) (now nodes) (now watches) × KeptTransactions (now transactions) × (isFull (now path) ≡ true) × (length (now path) ≤ longestPath) × (length (now events) ≡ eventsSize) ⌝ }
-    ensures { λ o. ⌜ Changed (now (before .entry)) (now (nodes .entry)) (now (watches .entry)) (now (transactions .entry)) (changeGiven removed (now (path .entry))) r (now (events .entry)) (now (transactions .exit)) (now (events .exit)) o ⌝ }
+    requires { ⌜ Store (now nodes) (now watches) × KeptTransactions (now transactions) × (isFull (now path) ≡ true) × (length (now path) ≤ longestPath) × (length (now events) ≡ eventsSize) ⌝ }
+    ensures { λ o. ⌜ ((before : Table) → Mask (maskOf (hears before before (changeGiven removed (now (path .entry)))) (watchesOf (now (watches .entry)))) heard →
+        Changed before (now (nodes .entry)) (now (watches .entry)) (now (transactions .entry)) (changeGiven removed (now (path .entry))) r (now (events .entry)) (now (transactions .exit)) (now (events .exit)) o) ⌝ }
 {
     stale_all(transactions);
-    let n = change(before, nodes, watches, path, removed, 0, events);
+    let n = change_since(heard, nodes, watches, path, removed, 0, events);
     with_events(r, n)
 }
 
@@ -72,8 +96,7 @@ pub fn plainly(
     ensures { λ r. ⌜ ((w : World) → w .nodes ≡ tableOf (now (nodes .entry)) → w .watches ≡ watchesOf (now (watches .entry)) → w .transactions ≡ transactionsOf (now (transactions .entry)) → (a : P.Ask) → Asks ask (now (value .entry)) count (now (access .entry)) (now (domains .entry)) a → GoodAsk a →
         Handled (W.plainly w (answer domain a (namesIn (now (path .entry))) (w .nodes))) (tables (now (nodes .exit)) (itsCopies w) (itsWatches w) (now (transactions .exit)) (itsDomains w)) (now (reply .entry)) (now (reply .exit)) (now (events .entry)) (now (events .exit)) r) ⌝ }
 {
-    let mut before = [0u8; 13824];
-    copy(&mut before, 0, nodes);
+    let heard = hearing(ask, nodes, watches, path);
     let a = answer(
         nodes,
         domain,
@@ -89,37 +112,53 @@ pub fn plainly(
     let effect = a.effect;
     match effect {
         Effect::Nothing => with_events(r, 0),
-        Effect::Wrote => tell(
-            &before,
-            nodes,
-            watches,
-            transactions,
-            path,
-            false,
-            r,
-            events,
-        ),
-        Effect::Removed => tell(&before, nodes, watches, transactions, path, true, r, events),
+        Effect::Wrote => tell(heard, nodes, watches, transactions, path, false, r, events),
+        Effect::Removed => tell(heard, nodes, watches, transactions, path, true, r, events),
     }
 }
 
-// Takes a changed table as copy k and enters the change; a ninth is refused.
-fn enter(
-    copies: &mut [u8],
-    t: &[u8],
-    transactions: &mut [u8],
-    k: usize,
-    removed: bool,
+// A domain's request in a transaction that has eight changes, on its copy: one more is refused.
+fn with_eight(
+    copied: &[u8],
+    domain: u32,
+    ask: Ask,
     path: &[u8],
-    r: Reply,
+    value: &[u8],
+    count: usize,
+    access: &[u32],
+    domains: &[u32],
+    reply: &mut [u8],
 ) -> Outcome
-    requires { ⌜ Changing (now copies) (now t) (now transactions) k (now path) ⌝ }
-    ensures { λ o. ⌜ Recorded (now (copies .entry)) (now (t .entry)) (now (transactions .entry)) k removed (now (path .entry)) r (now (copies .exit)) (now (transactions .exit)) o ⌝ }
+    requires { ⌜ (soundTable (now copied) ≡ true) × Asking domain ask (now path) (now value) count (now access) (now domains) × (length (now reply) ≡ replySize) ⌝ }
+    ensures { λ r. ⌜ ((a : P.Ask) → Asks ask (now (value .entry)) count (now (access .entry)) (now (domains .entry)) a → Told (ninthReply (answer domain a (namesIn (now (path .entry))) (tableOf (now (copied .entry))))) (r .reply) (now (reply .entry)) (now (reply .exit))) × (r ≡ record { reply = r .reply; events = 0; page = 0; channel = 0 }) ⌝ }
 {
-    if MOST_CHANGES <= changes(transactions, k) {
-        return with_events(Reply::Refused(Errno::NoSpace), 0);
+    let mut t = [0u8; TABLE_SIZE];
+    copy(&mut t, 0, copied);
+    let a = answer(
+        &mut t,
+        domain,
+        ask,
+        path,
+        value,
+        count,
+        access,
+        domains,
+        reply,
+    );
+    let r = a.reply;
+    let effect = a.effect;
+    match effect {
+        Effect::Nothing => with_events(r, 0),
+        Effect::Wrote => with_events(Reply::Refused(Errno::NoSpace), 0),
+        Effect::Removed => with_events(Reply::Refused(Errno::NoSpace), 0),
     }
-    copy(copies, k * TABLE_SIZE, t);
+}
+
+// Enters a change in the transaction in place k.
+fn enter(transactions: &mut [u8], k: usize, removed: bool, path: &[u8], r: Reply) -> Outcome
+    requires { ⌜ Changing (now transactions) k (now path) ⌝ }
+    ensures { λ o. ⌜ (now (transactions .exit) ≡ transactionsBytes (set (transactionsOf (now (transactions .entry))) k (some (changedBy (transactionOf (now (transactions .entry)) k) removed (now (path .entry)))))) × (o ≡ record { reply = r; events = 0; page = 0; channel = 0 }) ⌝ }
+{
     add_change(transactions, k, removed, path);
     with_events(r, 0)
 }
@@ -142,11 +181,23 @@ pub fn inside(
     ensures { λ r. ⌜ ((w : World) → w .copies ≡ chunks mostTransactions tableSize (now (copies .entry)) → w .transactions ≡ transactionsOf (now (transactions .entry)) → (a : P.Ask) → Asks ask (now (value .entry)) count (now (access .entry)) (now (domains .entry)) a → (events : Octets) →
         Handled (W.inside w k (transactionOf (now (transactions .entry)) k) (answer domain a (namesIn (now (path .entry))) (copyOf w k))) (tables (itsNodes w) (now (copies .exit)) (itsWatches w) (now (transactions .exit)) (itsDomains w)) (now (reply .entry)) (now (reply .exit)) events events r) ⌝ }
 {
-    let mut t = [0u8; 13824];
     let from = k * TABLE_SIZE;
-    copy(&mut t, 0, &copies[from..from + TABLE_SIZE]);
+    let end = from + TABLE_SIZE;
+    if MOST_CHANGES <= changes(transactions, k) {
+        return with_eight(
+            &copies[from..end],
+            domain,
+            ask,
+            path,
+            value,
+            count,
+            access,
+            domains,
+            reply,
+        );
+    }
     let a = answer(
-        &mut t,
+        &mut copies[from..end],
         domain,
         ask,
         path,
@@ -160,7 +211,7 @@ pub fn inside(
     let effect = a.effect;
     match effect {
         Effect::Nothing => with_events(r, 0),
-        Effect::Wrote => enter(copies, &t, transactions, k, false, path, r),
-        Effect::Removed => enter(copies, &t, transactions, k, true, path, r),
+        Effect::Wrote => enter(transactions, k, false, path, r),
+        Effect::Removed => enter(transactions, k, true, path, r),
     }
 }

@@ -99,11 +99,10 @@ fn commit(
     ensures { λ r. ⌜ ((w : World) → w .nodes ≡ tableOf (now (nodes .entry)) → w .copies ≡ chunks mostTransactions tableSize (now (copies .entry)) → w .watches ≡ watchesOf (now (watches .entry)) → w .transactions ≡ transactionsOf (now (transactions .entry)) →
         Handled (committing w k (transactionOf (now (transactions .entry)) k)) (tables (now (nodes .exit)) (itsCopies w) (itsWatches w) (now (transactions .exit)) (itsDomains w)) (now (reply .entry)) (now (reply .exit)) (now (events .entry)) (now (events .exit)) r) ⌝ }
 {
-    let mut before = [0u8; 13824];
-    copy(&mut before, 0, nodes);
     let from = k * TABLE_SIZE;
-    copy(nodes, 0, &copies[from..from + TABLE_SIZE]);
-    let n = changes(&before, nodes, watches, transactions, k, events);
+    let copied = &copies[from..from + TABLE_SIZE];
+    let n = changes(nodes, copied, watches, transactions, k, events);
+    copy(nodes, 0, copied);
     close_committed(transactions, k);
     with_events(okay(reply), n)
 }

@@ -26,10 +26,12 @@ use Rattle.rules.proofs.Tables.{Each}
 use Rattle.rules.proofs.Cases.{cond-case}
 use Rattle.rules.proofs.Places.{nothing, some-is, is-false, At, has-not, at-without, without-at}
 use Rattle.rules.proofs.GoodTables.{Good, nodeAt-is}
-use Rattle.rules.proofs.GoodAnswers.{reaches-cases, reaches-zero, parent-used, stayed, removed-good}
+use Rattle.rules.proofs.GoodNodes.{stayed, removed-good}
+use Rattle.rules.proofs.RootWays.{reaches-cases, reaches-zero, parent-used}
 use Rattle.rules.proofs.Compare.{same-refl}
 use Rattle.laws.specs.Gone.{Gone, Hears, GoneIsGone}
-use Rattle.laws.proofs.SoundWorld.{SoundWorld, NotRoot, owned-fine, unstaled}
+use Rattle.laws.proofs.SoundWorld.{SoundWorld}
+use Rattle.laws.proofs.SoundEntries.{NotRoot, owned-fine, unstaled}
 use Rattle.laws.specs.History.{run}
 use Rattle.laws.proofs.Calls.{served-is, request-good}
 use Rattle.laws.proofs.SoundCalls.{fresh-sound, run-keeps}

@@ -1,6 +1,6 @@
 -- Making: the proofs.
 use mathlib.Core.Path.{_≡_, refl, sym, ap, _∙_}
-use mathlib.Core.Bool.{true, false, false≢true}
+use mathlib.Core.Bool.{true, false≢true}
 use mathlib.Core.List.{[], _∷_}
 use mathlib.Core.Option.{Option, none, some}
 use Prim.Native.Nat.{ℕ, suc, _<_, _≤_}
@@ -15,7 +15,7 @@ use Rattle.rules.specs.Octets.{Octets}
 use Rattle.rules.specs.Entries.{isEmpty, lowest, freeCount}
 use Rattle.rules.specs.Path.{Name, Domain, Names, fits}
 use Rattle.rules.specs.Node.{Node, Table, Reached, nodeAt, child, reachFrom, reach, newNode, lastValue, made, withValue}
-use Rattle.rules.specs.Payload.{Ask, write, mkdir, onRoot, proper}
+use Rattle.rules.specs.Payload.{write, mkdir, onRoot}
 use Rattle.rules.specs.Rights.{mayWrite}
 use Rattle.rules.specs.Answer.{Answer, answer, answered, created, changed, unchanged, room, written, directoryMade}
 use Rattle.rules.proofs.Cases.{cond-case, cond-known}
@@ -24,6 +24,7 @@ use Rattle.rules.proofs.Places.{At, nothing, lowest-free}
 use Rattle.rules.proofs.Fitting.{lowest-below, free-fewer, reach-below}
 use Rattle.rules.proofs.GoodTables.{Good, good-of, nodeAt-is, child-some, child-back}
 use Rattle.rules.proofs.GoodAnswers.{answer-good}
+use Rattle.rules.proofs.GoodRequests.{proper-open}
 use Rattle.laws.specs.History.{succeeds, isThere}
 use Rattle.laws.specs.Making.{WithParents, WrittenIsThere, MadeIsThere}
 use Rattle.laws.proofs.Parents.{parents-are-there}
@@ -146,18 +147,12 @@ module _ (d : Domain) (ns : Names) (t : Table) (v : Octets) where
 with-parents : (t : Table) (ns : Names) → isThere t ns ≡ true → WithParents t ns
 with-parents t ns h = record { path = h; parents = λ above below e. parents-are-there t above below (ap (isThere t) (sym e) ∙ h) }
 
--- these two may be asked of every path
-always : (a : Ask) (ns : Names) → onRoot a ≡ true → proper a ns ≡ true
-unfolding proper
-always a [] e = e
-always a (n ∷ ns) e = refl
-
 -- the table after is good, and the path leads to a slot of the table
 pub written-is-there : WrittenIsThere
 unfolding answer isThere isEmpty reach onRoot
 written-is-there d ns v t h =
     let g = good-of t (omega (arith, h .long)) (h .good) in
-    let good = answer-good d (write v) ns t (h .domain) tt (h .names) (always (write v) ns refl) g in
+    let good = answer-good d (write v) ns t (h .domain) tt (h .names) (proper-open (write v) ns refl) g in
     let end = written-there d ns t v (reach t ns .left) (reach t ns .slot) (reach-below ns t 0 (omega (arith, h .long))) refl good (h .answered) in
     (with-parents (answer d (write v) ns t .table) ns (ap isEmpty (end .left)), end .value)
 
@@ -165,7 +160,7 @@ pub made-is-there : MadeIsThere
 unfolding answer answered directoryMade unchanged isThere isEmpty reach onRoot
 made-is-there d ns t h =
     let g = good-of t (omega (arith, h .long)) (h .good) in
-    let good = answer-good d mkdir ns t (h .domain) tt (h .names) (always mkdir ns refl) g in
+    let good = answer-good d mkdir ns t (h .domain) tt (h .names) (proper-open mkdir ns refl) g in
     with-parents (answer d mkdir ns t .table) ns (go (reach t ns .left) (reach t ns .slot) refl good (h .answered))
   where
     go : (l : Names) (i : ℕ) → reach t ns ≡ record { slot = i; left = l } → let a = answered d ns t mkdir (record { slot = i; left = l }) in

@@ -24,7 +24,8 @@ use Rattle.rules.proofs.GoodTables.{good-of}
 use Rattle.laws.specs.History.{Call, History, requestOf, served, after, run}
 use Rattle.laws.specs.Soundness.{Lendable, FreshIsSound, CallsKeepSound, SoundBytesStay, CallsOnBytes, HistoriesAreSound, Lent, runBytes, Roomy, HistoriesOnBytes}
 use Rattle.laws.proofs.Calls.{served-is, served-known, request-good}
-use Rattle.laws.proofs.SoundWorld.{SoundWorld, outcome-keeps}
+use Rattle.laws.proofs.SoundWorld.{SoundWorld}
+use Rattle.laws.proofs.SoundRequests.{outcome-keeps}
 use Rattle.laws.proofs.Soundness.{encoded, world-back, decoded, bytes-back}
 
 -- ── the fresh store ──

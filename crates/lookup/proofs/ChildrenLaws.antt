@@ -18,6 +18,7 @@ use Rattle.rules.proofs.Slots.{length-tableOf}
 use Rattle.rules.proofs.Paste.{paste-nil, length-paste, paste-before, getD-paste-before}
 use Rattle.rules.specs.Node.{Node, Table, nodeAt, insert, hasParent, childrenFrom, children}
 use Rattle.rules.specs.Layout.{tableOf}
+use Rattle.octets.proofs.Padding.{drop-take}
 use Rattle.slots.specs.Slot.{slotAt, isUsed, nameLength}
 use Rattle.slots.proofs.Reading.{node-some}
 use Rattle.slots.proofs.Canonical.{sound-canonical, name-short}
@@ -164,11 +165,6 @@ all-insert t ts j [] a rest = (a, tt)
 all-insert t ts j (k ∷ ks) a rest =
     cond-case (AllAsked t) (less (nodeAt ts j .name) (nodeAt ts k .name)) (j ∷ k ∷ ks) (k ∷ insert ts j ks) (a, rest) (rest .0, all-insert t ts j ks a (rest .1))
 
-drop-take : (k n : ℕ) (l : List ℕ) → k ≤ n → n ≤ length l → drop k (take n l) ≡ take (n - k) (drop k l)
-drop-take k n l h long =
-    let e : n ≡ k + (n - k) = omega arith in
-    ap (λ (m : ℕ). drop k (take m l)) e ∙ ap (drop k) (Seq.take-add k (n - k) l) ∙ Seq.drop-at (take k l) (take (n - k) (drop k l)) k (Seq.length-take-le k l (omega arith))
-
 -- what is put into place k of the first n
 put-at : (list : List ℕ) (n k j : ℕ) → k ≤ n → n < length list → take (n + 1) (paste k (j ∷ take (n - k) (drop k list)) list) ≡ take k (take n list) ++ (j ∷ drop k (take n list))
 unfolding paste
@@ -178,7 +174,7 @@ put-at list n k j h long =
     length-append (take k list) part ∙ ap₂ _+_ (Seq.length-take-le k list (omega arith)) (ap suc (Seq.length-take-le (n - k) (drop k list) (rw length-drop (omega arith)))) ∙ omega arith in
     ap (take (n + 1)) (sym (append-assoc (take k list) part (drop (k + length part) list)))
     ∙ Seq.take-at (take k list ++ part) (drop (k + length part) list) (n + 1) size
-    ∙ ap₂ (λ (x y : List ℕ). x ++ (j ∷ y)) (sym (Seq.take-take k n list h)) (sym (drop-take k n list h (omega arith)))
+    ∙ ap₂ (λ (x y : List ℕ). x ++ (j ∷ y)) (sym (Seq.take-take k n list h)) (sym (drop-take k n list))
 
 pub gather-none : (t : Octets) (p : ℕ) (list : List ℕ) → length list ≡ slots → Gathered t p slots 0 list
 gather-none t p list long =

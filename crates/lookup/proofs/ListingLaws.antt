@@ -1,6 +1,6 @@
 -- What is written of a list of slots or entries, one after the other.
 use mathlib.Core.Path.{_≡_, refl, sym, ap, _∙_}
-use mathlib.Core.List.{List, [], _∷_, _++_, flatMap, append-nil, append-assoc}
+use mathlib.Core.List.{List, [], _∷_, _++_, flatMap, append-assoc}
 use Prim.Native.Nat.{ℕ, suc, _+_, _*_, _-_, _≤_, _<_}
 use native.Mathlib.Nat.{add-zero, add-assoc}
 use native.Mathlib.Numerals.{add-one}
@@ -16,6 +16,7 @@ use Rattle.rules.proofs.Decimals.{length-decimal-lt}
 use Rattle.rules.proofs.Paste.{paste-nil, length-paste}
 use Rattle.rules.proofs.Joined.{paste-behind, set-paste}
 use Rattle.rules.proofs.Fitting.{nodeAt-fits, decoded-fits}
+use Rattle.rules.proofs.Tables.{flat-append, flat-last}
 use Rattle.octets.specs.Numbers.{Put}
 use Rattle.slots.specs.Slot.{slotAt, nameLength, entryOf}
 use Rattle.slots.proofs.Reading.{node-some}
@@ -25,18 +26,12 @@ use Rattle.lookup.proofs.RightsLaws.{few}
 
 -- ── one more of a list ──
 
-pub flat-append : {A : Type 0} (f : A → Octets) (xs ys : List A) → flatMap f (xs ++ ys) ≡ flatMap f xs ++ flatMap f ys
-unfolding flatMap
-flat-append f [] ys = refl
-flat-append f (x ∷ xs) ys = ap (λ (r : Octets). f x ++ r) (flat-append f xs ys) ∙ sym (append-assoc (f x) (flatMap f xs) (flatMap f ys))
-
 pub flat-next : {A : Type 0} (f : A → Octets) (xs : List A) (k : ℕ) (d : A) → k < length xs → flatMap f (take (k + 1) xs) ≡ flatMap f (take k xs) ++ f (getD xs k d)
 unfolding flatMap
 flat-next f xs k d h =
     ap (λ (j : ℕ). flatMap f (take j xs)) (add-one k)
     ∙ ap (flatMap f) (Seq.take-suc xs k d h)
-    ∙ flat-append f (take k xs) (getD xs k d ∷ [])
-    ∙ ap (λ (r : Octets). flatMap f (take k xs) ++ r) (append-nil (f (getD xs k d)))
+    ∙ flat-last f (take k xs) (getD xs k d)
 
 pub names-next : (ts : Table) (is : List ℕ) (k : ℕ) → k < length is → nameList ts (take (k + 1) is) ≡ nameList ts (take k is) ++ (nodeAt ts (getD is k 0) .name ++ nul)
 unfolding nameList

@@ -10,7 +10,7 @@ use native.Mathlib.Omega.{arith}
 use lib.ListN.{length, getD, take, drop, drop-of-length-le, length-drop}
 use lib.Seq.{drop-cons, take-all}
 use lib.Dec.{eqb}
-use borrow.Author.Tests.{eq-eqb, ne-eqb, le-leb, lt-leb}
+use borrow.Author.Tests.{eq-eqb, ne-eqb}
 use Rattle.rules.specs.Octets.{Octets, same}
 use Rattle.rules.specs.Path.{Name, Names, split, isName, allNames, isFull, namesIn}
 use Rattle.rules.specs.Node.{Node, Table, nodeAt, isChild, childFrom, child, Reached, reach, reachFrom}
@@ -22,9 +22,10 @@ use Rattle.slots.specs.Left.{leftAt}
 use Rattle.slots.specs.Slot.{slotAt, isUsed}
 use Rattle.rules.proofs.Compare.{both-true}
 use Rattle.rules.proofs.PathLaws.{no-empty-name, full-split, full-root, full-slash}
-use Rattle.paths.proofs.PieceLaws.{last-name, next-name}
-use Rattle.paths.specs.Names.{nameEnd}
+use Rattle.paths.proofs.PieceLaws.{last-name, next-name, split-first}
+use Rattle.paths.specs.Names.{nameEnd, firstPiece, otherPieces}
 use Rattle.slots.proofs.Reading.{node-some}
+use Rattle.slots.proofs.LeftLaws.{left-over, left-below}
 
 -- ── one slot ──
 
@@ -91,13 +92,8 @@ pub reach-end : (ts : Table) (i : ℕ) → reachFrom [] ts i ≡ record { slot =
 unfolding reachFrom
 reach-end ts i = refl
 
-pub left-over : (p : Octets) (at : ℕ) → length p ≤ at → leftAt p at ≡ []
-unfolding leftAt
-left-over p at h = rw (le-leb (length p) at h)
-
-left-below : (p : Octets) (at : ℕ) → at < length p → leftAt p at ≡ split (drop at p)
-unfolding leftAt
-left-below p at h = rw (lt-leb (length p) at h)
+pub left-first : (p : Octets) (at : ℕ) → at < length p → leftAt p at ≡ firstPiece (drop at p) ∷ otherPieces (drop at p)
+left-first p at h = left-below p at h ∙ split-first (drop at p)
 
 -- a full path has no empty name behind a last slash
 no-last : (x : Name) (s : Octets) (e : ℕ) → length s ≤ e → allNames (x ∷ split (drop e s)) ≡ true → ⊥

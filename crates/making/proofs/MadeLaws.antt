@@ -8,7 +8,7 @@ use native.Mathlib.Omega.{arith}
 use lib.ListN.{length, getD, take, drop, set, length-drop}
 use lib.Seq.{getD-set-same, take-all}
 use lib.Dec.{leb}
-use borrow.Author.Tests.{le-leb, lt-leb, leb-true}
+use borrow.Author.Tests.{le-leb, leb-true}
 use Rattle.rules.specs.Size.{slots, longestName}
 use Rattle.rules.specs.Octets.{Octets}
 use Rattle.rules.specs.Entries.{lowest, freeCount}
@@ -22,6 +22,7 @@ use Rattle.paths.proofs.PieceLaws.{split-first, last-name, next-name}
 use Rattle.slots.specs.Slot.{Canonical, slotAt, isUsed}
 use Rattle.slots.specs.Left.{leftAt}
 use Rattle.slots.proofs.Put.{written}
+use Rattle.slots.proofs.LeftLaws.{left-over, left-below}
 
 -- names from a place of the path on are still to be made below slot p, and then the table is the whole
 pub record ToMake (path value : Octets) (domain : ℕ) (whole : Table) (p from : ℕ) (t : Octets) : Type 0 where
@@ -35,23 +36,15 @@ pub record ToMake (path value : Octets) (domain : ℕ) (whole : Table) (p from :
 
 -- ── where it begins ──
 
-pub left-none : (path : Octets) (at : ℕ) → length path ≤ at → leftAt path at ≡ []
-unfolding leftAt
-left-none path at h = rw (le-leb (length path) at h)
-
-pub left-some : (path : Octets) (at : ℕ) → at < length path → leftAt path at ≡ split (drop at path)
-unfolding leftAt
-left-some path at h = rw (lt-leb (length path) at h)
-
 pub made-none : (path v t : Octets) (d p at : ℕ) → Canonical t → length path ≤ at → t ≡ tableBytes (made (leftAt path at) p d v (tableOf t))
 unfolding made
-made-none path v t d p at k h = sym (ap (λ (ns : Names). tableBytes (made ns p d v (tableOf t))) (left-none path at h) ∙ k .kept)
+made-none path v t d p at k h = sym (ap (λ (ns : Names). tableBytes (made ns p d v (tableOf t))) (left-over path at h) ∙ k .kept)
 
 pub to-make : (path v t : Octets) (d p at : ℕ) → at < length path → Canonical t → p < slots → isUsed (slotAt t p) ≡ true →
     shortNames (leftAt path at) ≡ true → length (leftAt path at) ≤ freeCount (tableOf t) →
     ToMake path v d (made (leftAt path at) p d v (tableOf t)) p at t
 to-make path v t d p at h k hp u hs hf =
-    let e = left-some path at h in
+    let e = left-below path at h in
     record {
       canonical = k;
       slot = hp;

@@ -14,11 +14,11 @@ use Rattle.rules.specs.Event.{Watch}
 use Rattle.rules.specs.Layout.{watchesOf}
 use Rattle.rules.specs.Message.{recordAt, maskBit, pathLength, pathIn, concerns, reported, eventMessage, messageFor, messageOf, sent, refusedWith}
 use Rattle.rules.proofs.Compare.{both-true}
+use Rattle.rules.proofs.Slots.{text-few}
 use Rattle.octets.specs.Numbers.{Put}
 use Rattle.tables.specs.Entry.{taken, passes, entryOr}
 use Rattle.tables.specs.Watch.{nobody, watchOf}
 use Rattle.tables.proofs.Search.{passes-free, passes-taken}
-use Rattle.tables.proofs.WatchLaws.{text-few}
 use Rattle.message.specs.Asked.{dueFor, due, sentAs, sentOver}
 use Rattle.message.specs.declared.Sent.the-variants.{Message, Nothing}
 

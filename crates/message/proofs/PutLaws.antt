@@ -6,6 +6,7 @@ use native.Mathlib.Omega.{arith}
 use lib.ListN.{length, set, length-append}
 use Rattle.rules.specs.Octets.{Octets, nul, paste, fourBytes}
 use Rattle.rules.specs.Message.{eventMessage}
+use Rattle.rules.proofs.Joined as Joined
 use Rattle.rules.proofs.Joined.{paste-behind, set-paste}
 use Rattle.rules.proofs.Paste.{length-paste}
 use Rattle.octets.specs.Numbers.{Put}
@@ -13,12 +14,11 @@ use Rattle.message.specs.Asked.{header}
 
 pub header-put : (n : ℕ) (l l₁ l₂ l₃ l₄ : Octets) → l₁ ≡ paste 0 (fourBytes 15) l → l₂ ≡ paste 4 (fourBytes 0) l₁ → l₃ ≡ paste 8 (fourBytes 0) l₂
     → l₄ ≡ paste 12 (fourBytes n) l₃ → l₄ ≡ paste 0 (header n) l
-unfolding header fourBytes
+unfolding header fourBytes paste
 header-put n l l₁ l₂ l₃ l₄ p q r s =
-    let z : 0 ≤ length l = omega arith in
-    let a : l₂ ≡ paste 0 (fourBytes 15 ++ fourBytes 0) l = q ∙ rw p (paste-behind 0 4 (fourBytes 15) (fourBytes 0) l z refl) in
-    let b : l₃ ≡ paste 0 ((fourBytes 15 ++ fourBytes 0) ++ fourBytes 0) l = r ∙ rw a (paste-behind 0 8 (fourBytes 15 ++ fourBytes 0) (fourBytes 0) l z refl) in
-    s ∙ rw b (paste-behind 0 12 ((fourBytes 15 ++ fourBytes 0) ++ fourBytes 0) (fourBytes n) l z refl)
+    let h : 4 ≤ length l₁ = rw p (omega arith) in
+    let ids : l₃ ≡ paste 4 (fourBytes 0 ++ fourBytes 0) l₁ = r ∙ rw q (paste-behind 4 8 (fourBytes 0) (fourBytes 0) l₁ h refl) in
+    Joined.header-put 15 (fourBytes 0 ++ fourBytes 0) n refl l l₁ l₃ l₄ p ids s
 
 pub string-put : (at : ℕ) (s l l₁ : Octets) → at + length s < length l → l₁ ≡ paste at s l → Put at (s ++ nul) l (set l₁ (at + length s) 0) (at + length s + 1)
 string-put at s l l₁ h p =
@@ -30,7 +30,7 @@ string-put at s l l₁ h p =
 
 header-length : (n : ℕ) → length (header n) ≡ 16
 unfolding header fourBytes
-header-length n = refl
+header-length n = Joined.header-length 15 (fourBytes 0 ++ fourBytes 0) n refl
 
 parts : (p t : Octets) (n : ℕ) → n ≡ length (p ++ (nul ++ (t ++ nul))) → header n ++ ((p ++ nul) ++ (t ++ nul)) ≡ eventMessage p t
 unfolding header eventMessage fourBytes

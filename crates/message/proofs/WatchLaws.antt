@@ -15,10 +15,11 @@ use Rattle.rules.specs.Path.{domainOf}
 use Rattle.rules.specs.Sound.{known, noNul, goodPlace, goodWatch, watched, goodWatches, soundWatches}
 use Rattle.rules.proofs.Compare.{both-true}
 use Rattle.rules.proofs.Tables.{each-at}
-use Rattle.rules.proofs.EntryLayouts.{WatchFits, MaybeWatch, sound-watches-fit}
+use Rattle.rules.proofs.EntryLayouts.{WatchFits, MaybeWatch}
+use Rattle.rules.proofs.DecodedEntries.{sound-watches-fit}
 use Rattle.tables.specs.Watch.{TakenWatch, nobody, watchOf}
 use Rattle.tables.proofs.Search.{taken-some}
-use Rattle.tables.proofs.WatchLaws.{length-watchesOf}
+use Rattle.tables.proofs.WatchBytes.{length-watchesOf}
 use Rattle.tables.proofs.WatchChanges.{sound-kept}
 use Rattle.message.specs.Asked.{UsedWatch}
 

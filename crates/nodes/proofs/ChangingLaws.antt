@@ -16,13 +16,14 @@ use Rattle.rules.specs.Payload as P
 use Rattle.rules.specs.Answer as A
 use Rattle.rules.specs.Answer.{refused, OK, EACCES, ENOSPC, unchanged, changed, absent, room, created, written, directoryMade, taken, maySet, permitted, answer, answered}
 use Rattle.rules.specs.Layout.{tableOf, tableBytes}
+use Rattle.lookup.proofs.ReachLaws.{left-first}
 use Rattle.slots.specs.Left.{leftAt}
 use Rattle.slots.specs.Written.{entryIn, othersIn}
 use Rattle.lookup.specs.Reach.{Reaches}
 use Rattle.nodes.specs.Answers.{Asks, Entries, Answered, AnsweredAs}
 use Rattle.nodes.specs.declared.kinds.Ask.{Ask}
 use Rattle.nodes.specs.declared.kinds.Answer.{Answer}
-use Rattle.nodes.proofs.Outcomes.{reached, whole, short, left-some}
+use Rattle.nodes.proofs.Outcomes.{reached, whole, short}
 
 -- ── RM, by how many names are left ──
 
@@ -69,13 +70,13 @@ module _ (d : Domain) (t p : Octets) (i at : ℕ) (r : Reaches t p i at) where
         answer d P.rm (namesIn p) (tableOf t) ≡ unchanged d (namesIn p) (tableOf t) (refused x)
     unfolding answer answered
     rm-far n l m x e =
-        rw (short t p i at r h) (taken-far d (namesIn p) (tableOf t) i _ _ (omega (arith, l, ap length (left-some p at h))) x e)
+        rw (short t p i at r h) (taken-far d (namesIn p) (tableOf t) i _ _ (omega (arith, l, ap length (left-first p at h))) x e)
 
     pub rm-near : (n : ℕ) → n ≡ length (leftAt p at) → n ≤ 1 → (b : Bool) → mayRead d (nodeAt (tableOf t) i) ≡ b →
         answer d P.rm (namesIn p) (tableOf t) ≡ unchanged d (namesIn p) (tableOf t) (cond b OK (refused EACCES))
     unfolding answer answered
     rm-near n l m b e =
-        rw (short t p i at r h) (taken-near d (namesIn p) (tableOf t) i _ _ (omega (arith, l, ap length (left-some p at h))) b e)
+        rw (short t p i at r h) (taken-near d (namesIn p) (tableOf t) i _ _ (omega (arith, l, ap length (left-first p at h))) b e)
 
     pub perms-absent : (o : Entry) (es : List Entry) (x : A.Errno) → x ≡ absent d (namesIn p) (tableOf t) i →
         answer d (P.setPerms o es) (namesIn p) (tableOf t) ≡ unchanged d (namesIn p) (tableOf t) (refused x)

@@ -5,7 +5,6 @@ use mathlib.Core.List.{[], _∷_}
 use mathlib.Core.Option.{some}
 use Prim.Native.Nat.{ℕ, _≤_, _<_}
 use lib.ListN.{length, drop}
-use borrow.Author.Tests.{lt-leb}
 use Rattle.rules.specs.Octets.{Octets, text, paste}
 use Rattle.rules.specs.Path.{Domain, Name, Names, namesIn}
 use Rattle.rules.specs.Node.{Table, Reached, nodeAt, reach}
@@ -17,10 +16,10 @@ use Rattle.slots.specs.Slot.{Canonical}
 use Rattle.slots.specs.Left.{leftAt}
 use Rattle.lookup.specs.Reach.{Reaches}
 use Rattle.lookup.specs.Rights.{Asked}
-use Rattle.lookup.proofs.ReachLaws.{left-over}
 use Rattle.paths.specs.Names.{firstPiece, otherPieces}
-use Rattle.paths.proofs.PieceLaws.{split-first}
 use Rattle.rules.specs.Sound.{soundTable}
+use Rattle.lookup.proofs.ReachLaws.{left-first}
+use Rattle.slots.proofs.LeftLaws.{left-over}
 use Rattle.nodes.specs.Answers.{errnoMeant, effectMeant, okay, Answers}
 use Rattle.nodes.specs.declared.kinds.Errno.{Errno}
 use Rattle.nodes.specs.declared.kinds.Reply.the-variants.{Done, Refused}
@@ -54,10 +53,6 @@ changed-so d ns ts a before removal ts′ t′ after e r q m h b p = rw (q, h) (
 
 -- ── where a path leads ──
 
-pub left-some : (p : Octets) (at : ℕ) → at < length p → leftAt p at ≡ firstPiece (drop at p) ∷ otherPieces (drop at p)
-unfolding leftAt
-left-some p at h = rw (lt-leb (length p) at h) (split-first (drop at p))
-
 module _ (t p : Octets) (i at : ℕ) (r : Reaches t p i at) where
   pub reached : reach (tableOf t) (namesIn p) ≡ record { slot = i; left = leftAt p at }
   reached = ap₂ (λ (j : ℕ) (l : Names). record { slot = j; left = l }) (sym (r .there)) (sym (r .left))
@@ -67,7 +62,7 @@ module _ (t p : Octets) (i at : ℕ) (r : Reaches t p i at) where
   whole h = reached ∙ ap (λ (l : Names). record { slot = i; left = l }) (left-over p at h)
 
   pub short : at < length p → reach (tableOf t) (namesIn p) ≡ record { slot = i; left = firstPiece (drop at p) ∷ otherPieces (drop at p) }
-  short h = reached ∙ ap (λ (l : Names). record { slot = i; left = l }) (left-some p at h)
+  short h = reached ∙ ap (λ (l : Names). record { slot = i; left = l }) (left-first p at h)
 
   pub asked : soundTable t ≡ true → Asked t i
   asked s = record { below = r .below; sound = s; used = r .used }

@@ -1,3 +1,4 @@
 pub mod Gather
 pub mod Digits
 pub mod Ranges
+pub mod Padding

@@ -1,5 +1,7 @@
 // Comparisons of byte strings.
 ghost use mathlib.Core.Path.{_≡_};
+ghost use Prim.Native.Nat.{_+_, _≤_};
+ghost use lib.ListN.{length, take, drop};
 ghost use Rattle.rules.specs.Octets.{same, less, begins, allZero};
 
 // Whether a and b are the same bytes. Every byte is looked at, with one test at the end.
@@ -29,6 +31,22 @@ pub fn all_zero(s: &[u8]) -> bool
         i += 1;
     }
     all == 0
+}
+
+// Whether the bytes from n on of the `size` bytes from `at` on are zero. Most texts end in the first half of their field; the bytes are then
+// looked at in two pieces of fixed lengths, the second half and as many from the text's end on.
+pub fn rest_zero(s: &[u8], at: usize, n: usize, size: usize) -> bool
+    requires { ⌜ (n ≤ size) × (at + size ≤ length (now s)) ⌝ }
+    ensures { λ r. ⌜ r ≡ allZero (drop n (take size (drop at (now (s .entry))))) ⌝ }
+{
+    let half = size / 2;
+    if half < n {
+        return all_zero(&s[at + n..at + size]);
+    }
+    if !all_zero(&s[at + half..at + size]) {
+        return false;
+    }
+    all_zero(&s[at + n..at + n + half])
 }
 
 // Whether a comes before b in byte order.

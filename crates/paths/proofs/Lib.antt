@@ -1,5 +1,6 @@
 pub mod Table
 pub mod ClassLaws
+pub mod ConstantTables
 pub mod MachineLaws
 pub mod VerdictLaws
 pub mod PieceLaws

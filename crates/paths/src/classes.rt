@@ -2,7 +2,7 @@
 ghost use mathlib.Core.Path.{_≡_};
 ghost use Rattle.paths.specs.Classes.{classOf};
 
-const CLASSES: [u8; 256] = [
+pub const CLASSES: [u8; 256] = [
     // from 0x00 on
     4,
     4,

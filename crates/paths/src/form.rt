@@ -5,7 +5,7 @@ ghost use Rattle.rules.specs.Path.{given};
 ghost use Rattle.paths.specs.Machine.{stepOf};
 ghost use Rattle.paths.specs.Form.{formOf, isEvent, verdictOf};
 use crate::answer::Form;
-use crate::classes::class_of;
+use crate::classes::CLASSES;
 use octets::compare::same;
 
 const LONGEST_ABSOLUTE: usize = 3072;
@@ -75,14 +75,17 @@ fn verdict(state: u8, s: &[u8]) -> Form
     Form::Malformed
 }
 
-// The form of a path in a payload.
+// The form of a path in a payload. The two tables are laid out once, before the first byte.
 pub fn form(s: &[u8]) -> Form
     ensures { λ r. ⌜ r ≡ formOf (given (now (s .entry))) ⌝ }
 {
+    let classes = CLASSES;
+    let steps = STEPS;
     let mut state: u8 = 0;
     let mut i = 0;
     while i < s.len() {
-        state = step(state, class_of(s[i]));
+        let class = classes[s[i] as usize];
+        state = steps[state as usize][class as usize];
         i += 1;
     }
     verdict(state, s)

@@ -49,7 +49,7 @@ pub fn beyond(above: &[u8], s: &[u8]) -> Beyond
         return Beyond::Levels(0);
     }
     if reaches(above, s) {
-        return Beyond::Levels(depth(s) - depth(above));
+        return Beyond::Levels(depth(&s[above.len()..]));
     }
     Beyond::Not
 }

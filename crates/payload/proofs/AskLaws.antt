@@ -14,6 +14,7 @@ use Rattle.rules.specs.Octets.{Octets}
 use Rattle.rules.specs.Path.{Domain, Names, Given, malformed, absolute, relative, special, given, base, pathText, slashed, allNames}
 use Rattle.rules.specs.Payload.{Ask, directory, read, getPerms, write, mkdir, rm, Parsed, invalid, request, ask, namesOf, proper, onRoot, asking, plain, writing, strings, firstString}
 use Rattle.rules.proofs.PathLaws.{given-full, no-empty-name}
+use Rattle.rules.proofs.GoodRequests.{proper-open}
 use Rattle.paths.specs.Form.{formOf}
 use Rattle.paths.specs.declared.answer.Form.{Form}
 use Rattle.paths.specs.declared.answer.Form.the-variants.{Absolute, Relative, Special, Malformed}
@@ -72,11 +73,6 @@ asking-not d a s e h = rw (unnamed-by d e (given (take e s)) h, asking)
 is-root : (p : Path) (f : Form) → p .form ≡ f → isRoot p ≡ elim f [ Absolute ↦ eqb (p .end) 1 | Relative ↦ false | Special ↦ false | Malformed ↦ false ]
 unfolding isRoot
 is-root p f h = rw h
-
-pub proper-open : (a : Ask) (ns : Names) → onRoot a ≡ true → proper a ns ≡ true
-unfolding proper
-proper-open a [] h = h
-proper-open a (n ∷ ns) h = refl
 
 long-path : (n : Octets) (ns : Names) → allNames (n ∷ ns) ≡ true → 1 < length (pathText (n ∷ ns))
 unfolding pathText slashed

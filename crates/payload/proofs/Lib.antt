@@ -6,5 +6,6 @@ pub mod AskLaws
 pub mod DomainLaws
 pub mod WatchLaws
 pub mod SettingLaws
+pub mod SettingEntries
 pub mod ParseLaws
 pub mod Told

@@ -1,5 +1,5 @@
 -- The reply's frame, put together.
-use mathlib.Core.Path.{_≡_, refl, sym, ap, subst, _∙_}
+use mathlib.Core.Path.{_≡_, sym, ap, subst, _∙_}
 use mathlib.Core.List.{_++_, append-assoc}
 use mathlib.Core.Option.{Option·none-ne-some, Option·some-injective}
 use Prim.Native.Nat.{ℕ, _+_, _≤_}
@@ -12,7 +12,7 @@ use Rattle.rules.specs.Answer as A
 use Rattle.rules.specs.Answer.{done, refused, errnoText}
 use Rattle.rules.specs.Call.{replyTo, replyType, replyPayload, typeOf}
 use Rattle.rules.proofs.Paste.{paste-append}
-use Rattle.rules.proofs.Joined.{paste-behind}
+use Rattle.rules.proofs.Joined as Joined
 use Rattle.nodes.proofs.Readings.{payload-fits}
 use Rattle.nodes.specs.Answers.{errnoMeant, refusalMeant}
 use Rattle.nodes.specs.declared.kinds.Errno.{Errno}
@@ -22,25 +22,17 @@ use Rattle.replies.specs.Framed.{Written, Held, header, Framed}
 
 -- ── the header ──
 
-four : (n : ℕ) → length (fourBytes n) ≡ 4
-unfolding fourBytes
-four n = refl
-
 ids : (m : Octets) → 16 ≤ length m → length (take 8 (drop 4 m)) ≡ 8
 ids m h = length-take-le 8 (drop 4 m) (rw length-drop (omega arith))
 
 pub header-length : (k : ℕ) (m : Octets) (n : ℕ) → 16 ≤ length m → length (header k m n) ≡ 16
 unfolding header
-header-length k m n h = rw (length-append, length-append, four, four, ids m h) refl
+header-length k m n h = Joined.header-length k (take 8 (drop 4 m)) n (ids m h)
 
 pub header-put : (k : ℕ) (m : Octets) (n : ℕ) (l l₁ l₂ l₃ : Octets) → 16 ≤ length m → l₁ ≡ paste 0 (fourBytes k) l → l₂ ≡ paste 4 (take 8 (drop 4 m)) l₁ →
     l₃ ≡ paste 12 (fourBytes n) l₂ → l₃ ≡ paste 0 (header k m n) l
 unfolding header
-header-put k m n l l₁ l₂ l₃ h e₁ e₂ e₃ =
-    let a : l₂ ≡ paste 0 (fourBytes k ++ take 8 (drop 4 m)) l = e₂ ∙ (ap (paste 4 (take 8 (drop 4 m))) e₁ ∙ paste-behind 0 4 (fourBytes k) _ l (omega arith) (let e : 4 ≡ 0 + length (fourBytes k) = rw four refl in e)) in
-    let w : length (fourBytes k ++ take 8 (drop 4 m)) ≡ 12 = rw (length-append, four, ids m h) refl in
-    e₃ ∙ (ap (paste 12 (fourBytes n)) a ∙ (paste-behind 0 12 (fourBytes k ++ take 8 (drop 4 m)) _ l (omega arith) (let e : 12 ≡ 0 + length (fourBytes k ++ take 8 (drop 4 m)) = rw w refl in e)
-    ∙ ap (λ (x : Octets). paste 0 x l) (append-assoc (fourBytes k) (take 8 (drop 4 m)) (fourBytes n))))
+header-put k m n l l₁ l₂ l₃ h e₁ e₂ e₃ = Joined.header-put k (take 8 (drop 4 m)) n (ids m h) l l₁ l₂ l₃ e₁ e₂ e₃
 
 -- ── the whole reply ──
 

@@ -1,8 +1,8 @@
 -- What is known of the lent tables where a request is handled, and what each kind of request comes to.
 use mathlib.Core.Path.{_≡_, refl, sym, ap, subst, _∙_}
-use mathlib.Core.Bool.{true, false, false≢true, and-eq-true-iff}
-use mathlib.Core.List.{List, [], _∷_, map}
-use mathlib.Core.Option.{Option, none, some}
+use mathlib.Core.Bool.{true, and-eq-true-iff}
+use mathlib.Core.List.{List, [], _∷_, map-id}
+use mathlib.Core.Option.{none}
 use Prim.Native.Nat.{ℕ, _≤_, _<_}
 use lib.Dec.{eqb}
 use lib.ListN.{length, getD}
@@ -12,7 +12,7 @@ use borrow.Author.Tests.{eqb-true, eq-eqb, ne-eqb}
 use Rattle.rules.specs.Size.{lastDomain, mostTransactions, tableSize, copiesSize}
 use Rattle.rules.specs.Octets.{Octets, chunks}
 use Rattle.rules.specs.Domain.{Connection}
-use Rattle.rules.specs.Payload.{Parsed, parse}
+use Rattle.rules.specs.Payload.{parse}
 use Rattle.rules.specs.Answer.{EACCES, refused}
 use Rattle.rules.specs.Layout.{transactionsOf, domainsOf}
 use Rattle.rules.specs.Sound.{known, soundTable, soundDomains, soundWatches, soundTransactions}
@@ -27,9 +27,10 @@ use Rattle.laws.proofs.Soundness.{decoded, bytes-back}
 use Rattle.laws.proofs.SoundWorld.{SoundWorld, known-range}
 use Rattle.slots.specs.Slot.{Canonical}
 use Rattle.slots.proofs.Canonical.{sound-canonical}
-use Rattle.tables.specs.Entry.{taken}
 use Rattle.tables.specs.Entries.{soundEntries}
 use Rattle.tables.specs.Kept.{KeptDomains, KeptWatches, KeptTransactions}
+use Rattle.tables.specs.Transaction.{opened}
+use Rattle.tables.proofs.Search.{taken-some}
 use Rattle.tables.proofs.DomainLaws as domains
 use Rattle.tables.proofs.WatchChanges as watches
 use Rattle.tables.proofs.EntriesGood as transactions
@@ -37,29 +38,21 @@ use Rattle.handlers.specs.Leaves.{tables, itsNodes, itsCopies, itsWatches, itsT
 use Rattle.handlers.specs.Asking.{copyIn}
 use Rattle.handlers.specs.Transacting.{Committable}
 use Rattle.handlers.specs.Releasing.{Releasable}
+use Rattle.handlers.proofs.Ways.{leaves}
 use Rattle.handlers.proofs.StartLaws.{three-transactions}
 use Rattle.payload.specs.Meaning.{meant, kept, Sound, Means}
 use Rattle.payload.specs.declared.answer.Request.{Request}
 use Rattle.payload.specs.declared.answer.Request.the-variants as request
 use Rattle.payload.proofs.answer.Request.{the-type}
 use Rattle.payload.proofs.Told.{Few, exact}
-use Rattle.requests.specs.Asked.{IsAsk}
+use Rattle.requests.specs.Asked.{IsAsk, OfDomainOrNode}
 use Rattle.requests.specs.Served.{Served}
 
 -- ── the tables ──
 
 -- the copy of an open transaction
-map-whole : (xs : List Octets) → map whole xs ≡ xs
-map-whole [] = refl
-map-whole (x ∷ xs) = ap (λ (l : List Octets). x ∷ l) (map-whole xs)
-
 copy-at : (cs : Octets) (k : ℕ) → k < 3 → getD (chunks mostTransactions tableSize cs) k [] ≡ copyIn cs k
-copy-at cs k h = sym (ap (λ (x : List Octets). getD x k []) (map-whole (chunks mostTransactions tableSize cs))) ∙ decoded-at whole mostTransactions tableSize k cs [] h
-
-there : {A : Type 0} (m : Option A) → taken m ≡ true → (x : A) × (m ≡ some x)
-unfolding taken
-there none h = absurd (false≢true h)
-there (some x) h = (x, refl)
+copy-at cs k h = sym (ap (λ (x : List Octets). getD x k []) (map-id (chunks mostTransactions tableSize cs))) ∙ decoded-at whole mostTransactions tableSize k cs [] h
 
 module _ (t : Tables) (c : Connection) (reply events s : Octets) (v : Served t c reply events s) where
   abbrev pub world : World
@@ -91,9 +84,6 @@ module _ (t : Tables) (c : Connection) (reply events s : Octets) (v : Served t c
   unfolding worldOf
   sender-low = known-range (domainsOf (t .domains)) c (sound-world .domains) (v .known)
 
-  pub nodes-sound : soundTable (t .nodes) ≡ true
-  nodes-sound = tests .0
-
   pub nodes-canonical : Canonical (t .nodes)
   nodes-canonical = sound-canonical (t .nodes) (tests .0)
 
@@ -116,8 +106,8 @@ module _ (t : Tables) (c : Connection) (reply events s : Octets) (v : Served t c
         sound = tests .0;
         whole = copies-long;
         copy = λ k o.
-            let x = there (getD (transactionsOf (t .transactions)) k none) (o .used) in
-            subst (λ (y : Octets). soundTable y ≡ true) (copy-at (t .copies) k (o .below)) (sound-world .transactions .each k (x .0) (x .1) .copy);
+            let x = taken-some (opened 0) (getD (transactionsOf (t .transactions)) k none) (o .used) in
+            subst (λ (y : Octets). soundTable y ≡ true) (copy-at (t .copies) k (o .below)) (sound-world .transactions .each k _ x .copy);
         watching = watches-kept;
         kept = transactions-kept;
         long = v .reply;
@@ -131,6 +121,10 @@ module _ (t : Tables) (c : Connection) (reply events s : Octets) (v : Served t c
   module _ where
     back : tablesOf (worldOf t) ≡ t
     back = bytes-back t lendable
+
+    pub all-back : t ≡ leaves (worldOf t)
+    unfolding tablesOf
+    all-back = sym back
 
     pub nodes-back : t .nodes ≡ itsNodes (worldOf t)
     unfolding tablesOf
@@ -158,32 +152,55 @@ module _ (s : Octets) (type tx : ℕ) (r : Request) (m : Means s r (λ (c : Conn
   pub sound-as : (r′ : Request) → r ≡ r′ → Sound s r′
   sound-as r′ e = subst (Sound s) e (m .sound)
 
-  pub parsed-as : (w : World) (c : Connection) (r′ : Request) → r ≡ r′ → Few r′ → (q : Parsed) → meant c s r′ ≡ q → outcomeOf w c tx (parse c type tx s) ≡ outcomeOf w c tx q
-  parsed-as w c r′ e f q p = ap (outcomeOf w c tx) (sym (exact s r type tx m (subst Few (sym e) f) c) ∙ (ap (meant c s) e ∙ p))
+  pub parsed-as : (w : World) (c : Connection) (r′ : Request) → r ≡ r′ → Few r′ → outcomeOf w c tx (parse c type tx s) ≡ outcomeOf w c tx (meant c s r′)
+  parsed-as w c r′ e f = ap (outcomeOf w c tx) (sym (exact s r type tx m (subst Few (sym e) f) c) ∙ ap (meant c s) e)
 
--- the kinds that ask for a node
-abbrev pub nodeKinds : List ℕ
-nodeKinds = 2 ∷ 3 ∷ 4 ∷ 5 ∷ 6 ∷ 7 ∷ 8 ∷ []
+-- the kinds that are a domain's or a node's, and those that are no domain's
+abbrev pub laterKinds : List ℕ
+laterKinds = 2 ∷ 3 ∷ 4 ∷ 5 ∷ 6 ∷ 7 ∷ 8 ∷ 13 ∷ 14 ∷ 15 ∷ 16 ∷ []
 
-pub is-ask : (r : Request) → OneOf nodeKinds (tagOf the-type r) → IsAsk r
-is-ask request.Unknown h = miss nodeKinds 0 tt h
-is-ask request.Invalid h = miss nodeKinds 1 tt h
-is-ask (request.Directory p) h = tt
-is-ask (request.Read p) h = tt
-is-ask (request.GetPerms p) h = tt
-is-ask (request.Write p v) h = tt
-is-ask (request.Mkdir p) h = tt
-is-ask (request.Rm p) h = tt
-is-ask (request.SetPerms p es) h = tt
-is-ask (request.Watch p a e d) h = miss nodeKinds 9 tt h
-is-ask (request.Unwatch p a e) h = miss nodeKinds 10 tt h
-is-ask request.Start h = miss nodeKinds 11 tt h
-is-ask (request.End b) h = miss nodeKinds 12 tt h
-is-ask (request.Introduce i p c) h = miss nodeKinds 13 tt h
-is-ask (request.Release i) h = miss nodeKinds 14 tt h
-is-ask (request.DomainPath i) h = miss nodeKinds 15 tt h
-is-ask (request.IsIntroduced i) h = miss nodeKinds 16 tt h
-is-ask request.Reset h = miss nodeKinds 17 tt h
+abbrev pub otherKinds : List ℕ
+otherKinds = 0 ∷ 1 ∷ 2 ∷ 3 ∷ 4 ∷ 5 ∷ 6 ∷ 7 ∷ 8 ∷ 9 ∷ 10 ∷ 11 ∷ 12 ∷ 17 ∷ []
+
+pub of-domain-or-node : (r : Request) → OneOf laterKinds (tagOf the-type r) → OfDomainOrNode r
+of-domain-or-node request.Unknown h = miss laterKinds 0 tt h
+of-domain-or-node request.Invalid h = miss laterKinds 1 tt h
+of-domain-or-node (request.Directory p) h = tt
+of-domain-or-node (request.Read p) h = tt
+of-domain-or-node (request.GetPerms p) h = tt
+of-domain-or-node (request.Write p v) h = tt
+of-domain-or-node (request.Mkdir p) h = tt
+of-domain-or-node (request.Rm p) h = tt
+of-domain-or-node (request.SetPerms p es) h = tt
+of-domain-or-node (request.Watch p a e d) h = miss laterKinds 9 tt h
+of-domain-or-node (request.Unwatch p a e) h = miss laterKinds 10 tt h
+of-domain-or-node request.Start h = miss laterKinds 11 tt h
+of-domain-or-node (request.End b) h = miss laterKinds 12 tt h
+of-domain-or-node (request.Introduce i p c) h = tt
+of-domain-or-node (request.Release i) h = tt
+of-domain-or-node (request.DomainPath i) h = tt
+of-domain-or-node (request.IsIntroduced i) h = tt
+of-domain-or-node request.Reset h = miss laterKinds 17 tt h
+
+pub is-ask : (r : Request) → OfDomainOrNode r → OneOf otherKinds (tagOf the-type r) → IsAsk r
+is-ask request.Unknown k h = k
+is-ask request.Invalid k h = k
+is-ask (request.Directory p) k h = tt
+is-ask (request.Read p) k h = tt
+is-ask (request.GetPerms p) k h = tt
+is-ask (request.Write p v) k h = tt
+is-ask (request.Mkdir p) k h = tt
+is-ask (request.Rm p) k h = tt
+is-ask (request.SetPerms p es) k h = tt
+is-ask (request.Watch p a e d) k h = k
+is-ask (request.Unwatch p a e) k h = k
+is-ask request.Start k h = k
+is-ask (request.End b) k h = k
+is-ask (request.Introduce i p c) k h = miss otherKinds 13 tt h
+is-ask (request.Release i) k h = miss otherKinds 14 tt h
+is-ask (request.DomainPath i) k h = miss otherKinds 15 tt h
+is-ask (request.IsIntroduced i) k h = miss otherKinds 16 tt h
+is-ask request.Reset k h = k
 
 -- ── for domain 0 alone ──
 

@@ -1,4 +1,5 @@
 pub mod PlaceLaws
 pub mod AskedLaws
+pub mod Alone
 pub mod NodeLaws
 pub mod HandleLaws

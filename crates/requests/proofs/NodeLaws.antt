@@ -1,6 +1,6 @@
 -- A node request: on the store, or in the transaction that it names.
 use mathlib.Core.Path.{_≡_, refl, sym, ap, subst, _∙_}
-use mathlib.Core.List.{List, [], _∷_, flatMap}
+use mathlib.Core.List.{List, [], _∷_}
 use mathlib.Core.Option.{Option, none, some}
 use Prim.Native.Nat.{ℕ, _-_, _≤_}
 use native.Mathlib.Omega.{arith}
@@ -8,8 +8,8 @@ use lib.ListN.{length, take, drop, length-drop}
 use lib.Seq.{take-all}
 use Rattle.nodes.specs.Answers.{Asks}
 use borrow.Author.Tests.{eq-eqb, ne-eqb}
-use Rattle.rules.specs.Size.{lastDomain, mostTransactions, tableSize, copiesSize}
-use Rattle.rules.specs.Octets.{Octets, chunks}
+use Rattle.rules.specs.Size.{lastDomain}
+use Rattle.rules.specs.Octets.{Octets}
 use Rattle.rules.specs.Domain.{Connection}
 use Rattle.rules.specs.Path.{Names, namesIn, pathText}
 use Rattle.rules.specs.Node.{Entry}
@@ -19,20 +19,17 @@ use Rattle.rules.specs.Answer.{ENOENT, refused, answer}
 use Rattle.rules.specs.Layout.{Transaction}
 use Rattle.rules.specs.World as W
 use Rattle.rules.specs.World.{World, left, handle, copyOf}
-use Rattle.rules.specs.Call.{Tables, outcomeOf}
+use Rattle.rules.specs.Call.{outcomeOf}
 use Rattle.rules.proofs.Tables.{Each}
 use Rattle.rules.proofs.Slots.{EntryFits}
-use Rattle.rules.proofs.EntryLayouts.{whole, rows-joined}
-use Rattle.rules.proofs.PathLaws.{given-names}
+use Rattle.rules.proofs.PathLaws.{given-names, given-is-full}
 use Rattle.rules.proofs.GoodRequests.{AskedGood, ParsedGood}
 use Rattle.rules.proofs.Parsing.{parse-good}
-use Rattle.replies.specs.Handled.{Handled}
-use Rattle.replies.specs.declared.kinds.Outcome.{Outcome}
 use Rattle.handlers.specs.Asking.{Lettered, GoodAsk, Asking}
 use Rattle.payload.specs.Meaning.{namesAt}
 use Rattle.requests.specs.declared.asked.Asked.{Asked}
 use Rattle.requests.specs.Asked.{accessIn, domainsIn, Stated}
-use Rattle.requests.proofs.PlaceLaws.{names-given, full-of}
+use Rattle.requests.proofs.PlaceLaws.{names-given}
 
 -- ── what is asked ──
 
@@ -74,7 +71,7 @@ module _ (s : Octets) (type tx : ℕ) (a : Asked) (t : Stated s type tx a) (c : 
   asking-of h path e =
       record {
         domain = h;
-        full = full-of path (namesAt c s (a .path)) (rw e (names-given s (a .path) c (t .path)));
+        full = given-is-full path (namesAt c s (a .path)) (rw e (names-given s (a .path) c (t .path)));
         stored = t .stored;
         request = t .says c .request;
         asks = says-asks;
@@ -108,11 +105,3 @@ module _ (w : World) (c : Connection) (tx : ℕ) (a : P.Ask) (ns : Names) where
   pub asked-inside : (tx ≡ 0 → ⊥) → (x : Transaction) → W.transactionOf w c tx ≡ some x → W.asked w c tx a ns ≡ W.inside w (tx - 1) x (answer c a ns (copyOf w (tx - 1)))
   unfolding within
   asked-inside z x e = in-one z (some x) e
-
--- ── the tables that it leaves alone ──
-
-pub copies-back : (w : World) (cs : Octets) → length cs ≡ copiesSize → w .copies ≡ chunks mostTransactions tableSize cs → cs ≡ flatMap (λ (copy : Octets). copy) (w .copies)
-copies-back w cs l e = sym (rows-joined mostTransactions tableSize cs l) ∙ ap (flatMap whole) (sym e)
-
-pub handled-with : {o : W.Outcome} {t t′ : Tables} {reply reply′ events events′ : Octets} {r : Outcome} → t′ ≡ t → Handled o t reply reply′ events events′ r → Handled o t′ reply reply′ events events′ r
-handled-with {o = o} {reply = a} {reply′ = b} {events = c} {events′ = d} {r = r} e h = subst (λ (x : Tables). Handled o x a b c d r) (sym e) h

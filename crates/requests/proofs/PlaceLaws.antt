@@ -1,11 +1,10 @@
 -- The texts of paths and places that a payload gives.
 use mathlib.Core.Path.{_≡_, refl, sym, ap, subst, _∙_}
-use mathlib.Core.Bool.{Bool, true, false, not, _&&_, false≢true, true≢false}
+use mathlib.Core.Bool.{Bool, true, false, not, cond, _&&_, false≢true, true≢false}
 use mathlib.Core.List.{[], _++_}
 use Prim.Native.Nat.{ℕ, _+_, _≤_}
 use native.Mathlib.Nat.{zero-add}
 use native.Mathlib.Omega.{arith}
-use borrow.Author.Tests.{not-true, not-false}
 use lib.ListN.{length, take, drop, set, length-append}
 use lib.Seq.{length-take-le, take-at}
 use Rattle.rules.specs.Octets.{Octets, paste}
@@ -18,7 +17,7 @@ use Rattle.rules.specs.Layout.{placeIn}
 use Rattle.rules.specs.World as W
 use Rattle.rules.specs.World.{World, left, forControl, forPlace}
 use Rattle.rules.proofs.Joined.{set-paste}
-use Rattle.rules.proofs.PathLaws.{full, full-given, given-names, text-given}
+use Rattle.rules.proofs.PathLaws.{full, full-given, given-names, text-given, given-is-full}
 use Rattle.octets.specs.Numbers.{Put}
 use Rattle.paths.specs.Form.{formOf}
 use Rattle.paths.specs.Full.{baseText}
@@ -46,10 +45,6 @@ module _ (ys before after : Octets) (n : ℕ) (q : Put 0 ys before after n) (e :
   unfolding paste
   put-front = ap (take n) (q .bytes) ∙ take-at ys (drop (0 + length ys) before) n (sym (q .behind ∙ zero-add (length ys)))
 
-pub full-of : (x : Octets) (ns : Names) → given x ≡ absolute ns → isFull x ≡ true
-unfolding isFull
-full-of x ns e = ap (λ (g : Given). elim g as (λ y. Bool) [ malformed ↦ false | absolute ns ↦ true | relative ns ↦ false | special e ↦ false ]) e
-
 -- ── full paths ──
 
 pub root-put : (l : Octets) → 1 ≤ length l → Put 0 (pathText []) l (set l 0 47) 1
@@ -57,11 +52,8 @@ unfolding pathText
 root-put l h = record { bytes = set-paste l 0 47 h; behind = refl }
 
 module _ (s : Octets) (p : Path) (d : Domain) (k : PathSound s p) where
-  text : Octets
-  text = take (p .end) s
-
-  long : length (take (p .end) s) ≡ p .end
-  long = length-take-le (p .end) s (omega (arith, k .inside))
+  pub path-long : length (take (p .end) s) ≡ p .end
+  path-long = length-take-le (p .end) s (omega (arith, k .inside))
 
   pub absolute-names : p .form ≡ Absolute → pathText (namesAt d s p) ≡ take (p .end) s
   unfolding namesFrom
@@ -70,7 +62,7 @@ module _ (s : Octets) (p : Path) (d : Domain) (k : PathSound s p) where
       ap (λ (g : Given). pathText (namesFrom d g)) (full-given (take (p .end) s) h) ∙ sym (full (take (p .end) s) h .text)
 
   pub absolute-put : p .form ≡ Absolute → (l l′ : Octets) → l′ ≡ paste 0 (take (p .end) s) l → Put 0 (pathText (namesAt d s p)) l l′ (p .end)
-  absolute-put f l l′ e = rw (absolute-names f) (record { bytes = e; behind = sym (zero-add _ ∙ long) })
+  absolute-put f l l′ e = rw (absolute-names f) (record { bytes = e; behind = sym (zero-add _ ∙ path-long) })
 
   pub relative-put : p .form ≡ Relative → (l l′ : Octets) (n : ℕ) → Put 0 (baseText d ++ take (p .end) s) l l′ n → Put 0 (pathText (namesAt d s p)) l l′ n
   unfolding namesFrom
@@ -79,17 +71,17 @@ module _ (s : Octets) (p : Path) (d : Domain) (k : PathSound s p) where
       let e : pathText (namesAt d s p) ≡ baseText d ++ take (p .end) s = ap (λ (g : Given). pathText (namesFrom d g)) h ∙ sym (full-text d (take (p .end) s) _ h) in
       rw e q
 
+  -- what is no path of a node has no names
+  rooted : (g : Given) → givenAt s p ≡ g → namesFrom d g ≡ [] → (l l′ : Octets) (n : ℕ) → Put 0 (pathText []) l l′ n → Put 0 (pathText (namesAt d s p)) l l′ n
+  rooted g e z l l′ n q = rw (e, z) q
+
   pub special-root : p .form ≡ Special → (l l′ : Octets) (n : ℕ) → Put 0 (pathText []) l l′ n → Put 0 (pathText (namesAt d s p)) l l′ n
   unfolding namesFrom
-  special-root f l l′ n q =
-      let e : pathText (namesAt d s p) ≡ pathText [] = ap (λ (g : Given). pathText (namesFrom d g)) (form-special (take (p .end) s) (k .form ∙ f)) in
-      rw e q
+  special-root f = rooted _ (form-special (take (p .end) s) (k .form ∙ f)) refl
 
   pub malformed-root : p .form ≡ Malformed → (l l′ : Octets) (n : ℕ) → Put 0 (pathText []) l l′ n → Put 0 (pathText (namesAt d s p)) l l′ n
   unfolding namesFrom
-  malformed-root f l l′ n q =
-      let e : pathText (namesAt d s p) ≡ pathText [] = ap (λ (g : Given). pathText (namesFrom d g)) (form-malformed (take (p .end) s) (k .form ∙ f)) in
-      rw e q
+  malformed-root f = rooted _ (form-malformed (take (p .end) s) (k .form ∙ f)) refl
 
   -- it is the text of its names
   pub names-given : given (pathText (namesAt d s p)) ≡ absolute (namesAt d s p)
@@ -122,7 +114,7 @@ module _ (s : Octets) (p : Path) (d : Domain) (k : PathSound s p) where
       go Malformed q z = absurd (false≢true z)
       go Special q z =
           let t : placeText (placeAt d s p) ≡ take (p .end) s = ap (λ (g : Given). placeText (placeFrom d g)) (form-special (take (p .end) s) (k .form ∙ q)) in
-          rw t (record { bytes = e; behind = sym (zero-add _ ∙ long) })
+          rw t (record { bytes = e; behind = sym (zero-add _ ∙ path-long) })
 
   -- a place that is no event's name has its path's text
   pub place-path : isSpecial (p .form) ≡ false → placeText (placeAt d s p) ≡ pathText (namesAt d s p)
@@ -155,7 +147,7 @@ module _ (s : Octets) (p : Path) (d : Domain) (k : PathSound s p) where
           let h = form-relative (take (p .end) s) (k .form ∙ q) in
           let e = relative-given d (take (p .end) s) _ h in
           let u = full-text d (take (p .end) s) _ h in
-          let f : isFull (baseText d ++ take (p .end) s) ≡ true = full-of _ _ e in
+          let f : isFull (baseText d ++ take (p .end) s) ≡ true = given-is-full _ _ e in
           let t : placeText (placeAt d s p) ≡ baseText d ++ take (p .end) s = ap (λ (g : Given). placeText (placeFrom d g)) h ∙ sym u in
           rw t (record { placed = f; named = tt; place = place-full true (baseText d ++ take (p .end) s) f ∙ (ap (path true) (given-names _ _ e) ∙ sym (ap (placeFrom d) h)) })
       go Special q =
@@ -166,29 +158,30 @@ module _ (s : Octets) (p : Path) (d : Domain) (k : PathSound s p) where
           let h = form-malformed (take (p .end) s) (k .form ∙ q) in
           let t : placeText (placeAt d s p) ≡ pathText [] = ap (λ (g : Given). placeText (placeFrom d g)) h in
           let e : given (pathText []) ≡ absolute [] = text-given [] refl (omega arith) in
-          let f : isFull (pathText []) ≡ true = full-of _ _ e in
+          let f : isFull (pathText []) ≡ true = given-is-full _ _ e in
           rw t (record { placed = f; named = tt; place = place-full false (pathText []) f ∙ (ap (path false) (given-names (pathText []) [] e) ∙ sym (ap (placeFrom d) h)) })
 
   pub stands-so : (named below : Bool) (t : Octets) → named ≡ isSpecial (p .form) → below ≡ isRelative (p .form) → t ≡ placeText (placeAt d s p) → Stands named below t
   stands-so named below t a b e = rw (a, b, e) stands
 
   -- step 3: an event's name is for domain 0
-  pub foreign-place : (w : World) (o : W.Outcome) → (isSpecial (p .form) && not (isControl d)) ≡ true → forPlace w d (placeAt d s p) o ≡ left w (refused EACCES)
-  unfolding placeFrom forPlace forControl isSpecial formOf
-  foreign-place w o h = go (givenAt s p) (ap (λ (f : Form). isSpecial f && not (isControl d)) (k .form) ∙ h)
-    where
-      go : (g : Given) → (isSpecial (formOf g) && not (isControl d)) ≡ true → forPlace w d (placeFrom d g) o ≡ left w (refused EACCES)
-      go malformed z = absurd (false≢true z)
-      go (absolute ns) z = absurd (false≢true z)
-      go (relative ns) z = absurd (false≢true z)
-      go (special e) z = rw (not-true (isControl d) z) refl
+  module _ (named foreign : Bool) (a : named ≡ isSpecial (p .form)) (b : foreign ≡ (named && not (isControl d))) (w : World) (o : W.Outcome) where
+    turned : (x : Bool) → cond x o (left w (refused EACCES)) ≡ cond (not x) (left w (refused EACCES)) o
+    turned true = refl
+    turned false = refl
 
-  pub own-place : (w : World) (o : W.Outcome) → (isSpecial (p .form) && not (isControl d)) ≡ false → forPlace w d (placeAt d s p) o ≡ o
-  unfolding placeFrom forPlace forControl isSpecial formOf
-  own-place w o h = go (givenAt s p) (ap (λ (f : Form). isSpecial f && not (isControl d)) (k .form) ∙ h)
-    where
-      go : (g : Given) → (isSpecial (formOf g) && not (isControl d)) ≡ false → forPlace w d (placeFrom d g) o ≡ o
-      go malformed z = refl
-      go (absolute ns) z = refl
-      go (relative ns) z = refl
-      go (special e) z = rw (not-false (isControl d) z) refl
+    for-place : (g : Given) → forPlace w d (placeFrom d g) o ≡ cond (isSpecial (formOf g) && not (isControl d)) (left w (refused EACCES)) o
+    unfolding placeFrom forPlace forControl isSpecial formOf
+    for-place malformed = refl
+    for-place (absolute ns) = refl
+    for-place (relative ns) = refl
+    for-place (special e) = turned (isControl d)
+
+    decided : forPlace w d (placeAt d s p) o ≡ cond foreign (left w (refused EACCES)) o
+    decided = rw (b, a, sym (k .form)) (for-place (givenAt s p))
+
+    pub foreign-place : foreign ≡ true → forPlace w d (placeAt d s p) o ≡ left w (refused EACCES)
+    foreign-place h = decided ∙ rw h refl
+
+    pub own-place : foreign ≡ false → forPlace w d (placeAt d s p) o ≡ o
+    own-place h = decided ∙ rw h refl

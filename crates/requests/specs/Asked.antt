@@ -19,26 +19,33 @@ use Rattle.requests.specs.declared.asked.Asked.{Asked}
 abbrev pub ofPath : Ask → Path → ℕ → Asked
 ofPath ask path value = record { ask = ask; path = path; value = value; entries = noEntries }
 
+-- P of a request of a node, Q of one of a domain, and of any other nothing
+abbrev Among : Type 0 → Type 0 → Request → Type 0
+Among P Q request.Unknown = ⊥
+Among P Q request.Invalid = ⊥
+Among P Q (request.Directory p) = P
+Among P Q (request.Read p) = P
+Among P Q (request.GetPerms p) = P
+Among P Q (request.Write p v) = P
+Among P Q (request.Mkdir p) = P
+Among P Q (request.Rm p) = P
+Among P Q (request.SetPerms p es) = P
+Among P Q (request.Watch p a e k) = ⊥
+Among P Q (request.Unwatch p a e) = ⊥
+Among P Q request.Start = ⊥
+Among P Q (request.End b) = ⊥
+Among P Q (request.Introduce i p c) = Q
+Among P Q (request.Release i) = Q
+Among P Q (request.DomainPath i) = Q
+Among P Q (request.IsIntroduced i) = Q
+Among P Q request.Reset = ⊥
+
 -- a request of a node
 abbrev pub IsAsk : Request → Type 0
-IsAsk request.Unknown = ⊥
-IsAsk request.Invalid = ⊥
-IsAsk (request.Directory p) = Unit {0}
-IsAsk (request.Read p) = Unit {0}
-IsAsk (request.GetPerms p) = Unit {0}
-IsAsk (request.Write p v) = Unit {0}
-IsAsk (request.Mkdir p) = Unit {0}
-IsAsk (request.Rm p) = Unit {0}
-IsAsk (request.SetPerms p es) = Unit {0}
-IsAsk (request.Watch p a e k) = ⊥
-IsAsk (request.Unwatch p a e) = ⊥
-IsAsk request.Start = ⊥
-IsAsk (request.End b) = ⊥
-IsAsk (request.Introduce i p c) = ⊥
-IsAsk (request.Release i) = ⊥
-IsAsk (request.DomainPath i) = ⊥
-IsAsk (request.IsIntroduced i) = ⊥
-IsAsk request.Reset = ⊥
+IsAsk r = Among (Unit {0}) ⊥ r
+
+abbrev pub OfDomainOrNode : Request → Type 0
+OfDomainOrNode r = Among (Unit {0}) (Unit {0}) r
 
 -- the four entries that are kept, as two arrays
 abbrev pub accessIn : Entries → List ℕ

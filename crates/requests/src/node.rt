@@ -4,13 +4,14 @@ ghost use Prim.Native.Nat.{ℕ, _≤_};
 ghost use lib.ListN.{length};
 ghost use Rattle.rules.specs.Size.{lastDomain, mostTransactions, tableSize, longestPayload};
 ghost use Rattle.rules.specs.Octets.{chunks};
-ghost use Rattle.rules.specs.Path.{namesIn};
+ghost use Rattle.rules.specs.Path.{namesIn, pathText};
 ghost use Rattle.rules.specs.Payload as P;
 ghost use Rattle.rules.specs.Layout.{tableOf, watchesOf, transactionsOf};
 ghost use Rattle.rules.specs.World as W;
 ghost use Rattle.rules.specs.World.{World};
 ghost use Rattle.rules.specs.Call.{outcomeOf};
 ghost use Rattle.nodes.specs.Answers.{Asks};
+ghost use Rattle.payload.specs.Meaning.{namesAt};
 ghost use Rattle.replies.specs.Handled.{Handled};
 ghost use Rattle.handlers.specs.Leaves as leaves;
 ghost use Rattle.handlers.specs.Leaves.{itsWatches, itsDomains};
@@ -26,6 +27,7 @@ use handlers::transacting::is_held;
 use nodes::kinds::Ask;
 use nodes::kinds::Errno;
 use nodes::kinds::Reply;
+use paths::answer::Form;
 use replies::kinds::Outcome;
 use replies::kinds::with_events;
 
@@ -85,8 +87,59 @@ fn asked(
     )
 }
 
-// A connection's node request of a payload.
-pub fn node_request(
+// A connection's node request of a payload, whose full path is at hand.
+fn request_at(
+    nodes: &mut [u8],
+    copies: &mut [u8],
+    watches: &[u8],
+    transactions: &mut [u8],
+    c: u32,
+    tx: u32,
+    s: &[u8],
+    a: Asked,
+    path: &[u8],
+    reply: &mut [u8],
+    events: &mut [u8],
+) -> Outcome
+    requires { ⌜ Committable (now nodes) (now copies) (now watches) (now transactions) (now reply) (now events) × (c ≤ lastDomain) × ((type : ℕ) × Stated (now s) type tx a) × (now path ≡ pathText (namesAt c (now s) (a .path))) ⌝ }
+    ensures { λ r. ⌜ ((type : ℕ) → Stated (now (s .entry)) type tx a → (w : World) → w .nodes ≡ tableOf (now (nodes .entry)) → w .copies ≡ chunks mostTransactions tableSize (now (copies .entry)) → w .watches ≡ watchesOf (now (watches .entry)) → w .transactions ≡ transactionsOf (now (transactions .entry)) →
+        Handled (outcomeOf w c tx (P.parse c type tx (now (s .entry)))) (leaves.tables (now (nodes .exit)) (now (copies .exit)) (itsWatches w) (now (transactions .exit)) (itsDomains w)) (now (reply .entry)) (now (reply .exit)) (now (events .entry)) (now (events .exit)) r) ⌝ }
+{
+    let es = a.entries;
+    let from = a.value;
+    let ask = a.ask;
+    let access = [
+        es.first.access,
+        es.second.access,
+        es.third.access,
+        es.fourth.access,
+    ];
+    let domains = [
+        es.first.domain,
+        es.second.domain,
+        es.third.domain,
+        es.fourth.domain,
+    ];
+    asked(
+        nodes,
+        copies,
+        watches,
+        transactions,
+        c,
+        tx,
+        ask,
+        path,
+        &s[from..],
+        es.count,
+        &access,
+        &domains,
+        reply,
+        events,
+    )
+}
+
+// A connection's node request of a payload, whose full path is first put into a buffer.
+fn relative_request(
     nodes: &mut [u8],
     copies: &mut [u8],
     watches: &[u8],
@@ -104,37 +157,67 @@ pub fn node_request(
 {
     let mut text = [0u8; PATH_ROOM];
     let n = full_path(s, a.path, c, &mut text);
-    let es = a.entries;
-    let from = a.value;
-    let ask = a.ask;
-    let access = [
-        es.first.access,
-        es.second.access,
-        es.third.access,
-        es.fourth.access,
-    ];
-    let domains = [
-        es.first.domain,
-        es.second.domain,
-        es.third.domain,
-        es.fourth.domain,
-    ];
     let path = &text[..n];
-    let value = &s[from..];
-    asked(
+    request_at(
         nodes,
         copies,
         watches,
         transactions,
         c,
         tx,
-        ask,
+        s,
+        a,
         path,
-        value,
-        es.count,
-        &access,
-        &domains,
         reply,
         events,
     )
+}
+
+// A connection's node request of a payload. An absolute path is used where it lies.
+pub fn node_request(
+    nodes: &mut [u8],
+    copies: &mut [u8],
+    watches: &[u8],
+    transactions: &mut [u8],
+    c: u32,
+    tx: u32,
+    s: &[u8],
+    a: Asked,
+    reply: &mut [u8],
+    events: &mut [u8],
+) -> Outcome
+    requires { ⌜ Committable (now nodes) (now copies) (now watches) (now transactions) (now reply) (now events) × (c ≤ lastDomain) × (length (now s) ≤ longestPayload) × ((type : ℕ) × Stated (now s) type tx a) ⌝ }
+    ensures { λ r. ⌜ ((type : ℕ) → Stated (now (s .entry)) type tx a → (w : World) → w .nodes ≡ tableOf (now (nodes .entry)) → w .copies ≡ chunks mostTransactions tableSize (now (copies .entry)) → w .watches ≡ watchesOf (now (watches .entry)) → w .transactions ≡ transactionsOf (now (transactions .entry)) →
+        Handled (outcomeOf w c tx (P.parse c type tx (now (s .entry)))) (leaves.tables (now (nodes .exit)) (now (copies .exit)) (itsWatches w) (now (transactions .exit)) (itsDomains w)) (now (reply .entry)) (now (reply .exit)) (now (events .entry)) (now (events .exit)) r) ⌝ }
+{
+    let path = a.path;
+    let form = path.form;
+    let end = path.end;
+    match form {
+        Form::Absolute => request_at(
+            nodes,
+            copies,
+            watches,
+            transactions,
+            c,
+            tx,
+            s,
+            a,
+            &s[..end],
+            reply,
+            events,
+        ),
+        _ => relative_request(
+            nodes,
+            copies,
+            watches,
+            transactions,
+            c,
+            tx,
+            s,
+            a,
+            reply,
+            events,
+        ),
+    }
 }

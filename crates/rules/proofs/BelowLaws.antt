@@ -98,12 +98,7 @@ texts-other a s [] ms f g h = absurd (false≢true (sym h ∙ (rw (f .text) (sam
 texts-other a s (n ∷ ns) ms f g h = rw (f .text, g .text) (texts-at n ns ms (f .names) (g .names))
 
 module _ (a s : Octets) (f : isFull a ≡ true) (g : isFull s ≡ true) where
-  -- everything is at or below the root
-  pub root-at : same a (47 ∷ []) ≡ true → isAt (namesIn a) (namesIn s) ≡ true
-  unfolding isAt beyond
-  root-at h = rw (full-root a f (ap length (same-eq a (47 ∷ []) h)), isAt)
-
-  -- and at or below any other path, what has its text or goes on after a slash
+  -- at or below a path other than the root: what has its text or goes on after a slash
   pub other-at : same a (47 ∷ []) ≡ false → (same a s || begins (a ++ 47 ∷ []) s) ≡ isAt (namesIn a) (namesIn s)
   other-at h = texts-other a s (namesIn a) (namesIn s) (full a f) (full s g) h
 

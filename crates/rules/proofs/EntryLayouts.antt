@@ -1,28 +1,23 @@
--- Domains, watches and transactions as bytes: an entry that fits its fields is written in its width and read back.
-use mathlib.Core.Path.{_≡_, refl, sym, _∙_, ap, ap₂}
-use mathlib.Core.Bool.{Bool, true, false, cond, not, _&&_, false≢true, and-eq-true-iff}
+-- Domains and watches as bytes: an entry that fits its fields is written in its width and read back; and the copies, as rows of bytes.
+use mathlib.Core.Path.{_≡_, refl, sym, _∙_, ap}
+use mathlib.Core.Bool.{Bool, true, false, cond}
 use mathlib.Core.List.{List, [], _∷_, _++_, map, flatMap, append-nil, append-assoc}
 use mathlib.Core.Option.{Option, none, some}
-use Prim.Native.Nat.{ℕ, zero, suc, _+_, _*_, _-_, _^_, _≤_, _<_}
+use Prim.Native.Nat.{ℕ, zero, suc, _+_, _*_, _^_, _≤_, _<_}
 use native.Mathlib.Omega.{arith}
-use native.Mathlib.Nat.{mod-lt}
-use lib.ListN.{length, getD, set, take, drop, replicate, length-append, length-replicate, length-take, length-drop, length-map, take-append-drop}
+use lib.ListN.{length, getD, set, take, drop, length-append, length-replicate, length-take, length-drop, take-append-drop}
 use lib.Seq.{take-at, drop-at}
-use lib.Dec.{eqb, lit<, lit≤}
-use Rattle.rules.specs.Size.{longestToken, longestPath, mostChanges, domainSize, mostDomains, watchSize, watchesSize, mostWatches, changeSize, transactionSize, mostTransactions}
-use Rattle.rules.specs.Octets.{Octets, same, paste, padded, bit, _bits_, chunks, bigEndian, bigFrom, field, pack, packFrom, bitsAt}
-use Rattle.rules.specs.Path.{Domain, Connection, domainOf, Given, malformed, absolute, relative, special, given, allNames, pathText, namesIn}
+use lib.Dec.{eqb, lit<}
+use Rattle.rules.specs.Size.{longestToken, longestPath, domainSize, mostDomains, watchSize, mostWatches}
+use Rattle.rules.specs.Octets.{Octets, paste, padded, bit, _bits_, chunks, bigEndian, bigFrom, field, pack, packFrom, bitsAt}
+use Rattle.rules.specs.Path.{Domain, relative, special, given, allNames, pathText}
 use Rattle.rules.specs.Payload.{Place, path, event}
-use Rattle.rules.specs.Answer.{Change}
 use Rattle.rules.specs.Event.{Watch, Watches, placeText}
-use Rattle.rules.specs.Layout.{textAt, isRelative, depthBits, watchBits, watchBytes, placeIn, watchAt, watchIn, watchesBytes, watchesOf, changeBytes, transactionBytes, changeIn, transactionAt, transactionIn, transactionsBytes, transactionsOf, Transactions, Domains, domainBytes, domainIn, domainsBytes, domainsOf, Transaction}
-use Rattle.rules.specs.Sound.{known, noNul, goodPlace, watched, goodWatch, goodWatches, soundWatches}
+use Rattle.rules.specs.Layout.{textAt, isRelative, depthBits, watchBits, watchBytes, placeIn, watchAt, watchIn, watchesBytes, watchesOf, Domains, domainBytes, domainIn, domainsBytes, domainsOf}
 use Rattle.rules.proofs.Slots.{length-padded, text-padded}
-use Rattle.rules.proofs.Tables.{Each, each-map, length-chunks, length-encoded, written, decoded, decoded-at}
-use Rattle.rules.proofs.PathLaws.{Means, means, text-given, text-names}
-use Rattle.rules.proofs.Places.{nothing, some-is}
-use Rattle.rules.proofs.Cases.{cond-case}
-use Rattle.rules.proofs.Fields.{length-big, field-first}
+use Rattle.rules.proofs.Tables.{Each, each-map, length-encoded, written, decoded, decoded-at}
+use Rattle.rules.proofs.PathLaws.{text-given}
+use Rattle.rules.proofs.Fields.{length-big, field-first, bit-small, bit-back}
 
 -- ── what fits ──
 
@@ -39,15 +34,6 @@ pub record WatchFits (v : Watch) : Type 0 where
   pub depth : DepthFits (v .depth)
   pub token : length (v .token) ≤ longestToken
   pub place : PlaceFits (v .place)
-
-pub record ChangeFits (c : Change) : Type 0 where
-  pub names : allNames (c .names) ≡ true
-  pub short : length (pathText (c .names)) ≤ longestPath
-
-pub record TransactionFits (x : Transaction) : Type 0 where
-  pub holder : x .holder < 65536
-  pub few : length (x .changes) ≤ mostChanges
-  pub changes : Each ChangeFits (x .changes)
 
 -- ── domains ──
 
@@ -78,12 +64,6 @@ domains-read ds h f =
     ap (λ (n : ℕ). map domainIn (chunks n domainSize (flatMap domainBytes ds))) (sym h)
     ∙ decoded domainBytes domainSize domainIn ds (each-map DomainFits _ domain-width ds f) (each-map DomainFits _ domain-read ds f)
 
--- a written entry changes its own bytes alone, and what stands in a place
-pub domain-written : (ds : Domains) (i : ℕ) (m : Option Domain) → Each DomainFits ds → DomainFits m → i < length ds
-    → domainsBytes (set ds i m) ≡ paste (i * domainSize) (domainBytes m) (domainsBytes ds)
-unfolding domainsBytes
-domain-written ds i m f g h = written domainBytes domainSize ds i m (each-map DomainFits _ domain-width ds f) (domain-width m g) h
-
 pub domain-at : (s : Octets) (i : ℕ) → i < mostDomains → getD (domainsOf s) i none ≡ domainIn (take domainSize (drop (i * domainSize) s))
 unfolding domainsOf
 domain-at s i h = decoded-at domainIn mostDomains domainSize i s none h
@@ -91,14 +71,6 @@ domain-at s i h = decoded-at domainIn mostDomains domainSize i s none h
 pub length-domains : (ds : Domains) → Each DomainFits ds → length (domainsBytes ds) ≡ length ds * domainSize
 unfolding domainsBytes
 length-domains ds f = length-encoded domainBytes domainSize ds (each-map DomainFits _ domain-width ds f)
-
-bit-small : (b : Bool) → bit b < 2
-bit-small true = lit< tt
-bit-small false = lit< tt
-
-bit-back : (b : Bool) → eqb (bit b) 1 ≡ b
-bit-back true = refl
-bit-back false = refl
 
 -- ── watches ──
 
@@ -256,11 +228,6 @@ watches-read ws h f =
     ap (λ (n : ℕ). map watchIn (chunks n watchSize (flatMap watchBytes ws))) (sym h)
     ∙ decoded watchBytes watchSize watchIn ws (each-map MaybeWatch _ watch-width ws f) (each-map MaybeWatch _ watch-read ws f)
 
-pub watch-written : (ws : Watches) (i : ℕ) (m : Option Watch) → Each MaybeWatch ws → MaybeWatch m → i < length ws
-    → watchesBytes (set ws i m) ≡ paste (i * watchSize) (watchBytes m) (watchesBytes ws)
-unfolding watchesBytes
-watch-written ws i m f g h = written watchBytes watchSize ws i m (each-map MaybeWatch _ watch-width ws f) (watch-width m g) h
-
 pub watch-at : (s : Octets) (i : ℕ) → i < mostWatches → getD (watchesOf s) i none ≡ watchIn (take watchSize (drop (i * watchSize) s))
 unfolding watchesOf
 watch-at s i h = decoded-at watchIn mostWatches watchSize i s none h
@@ -269,295 +236,14 @@ pub length-watches : (ws : Watches) → Each MaybeWatch ws → length (watchesBy
 unfolding watchesBytes
 length-watches ws f = length-encoded watchBytes watchSize ws (each-map MaybeWatch _ watch-width ws f)
 
--- ── changes ──
-
-change-head : (b l : ℕ) → b < 2 → l < 512
-    → let m = pack (1 bits b ∷ 6 bits 0 ∷ 9 bits l ∷ []) in (m < 256 ^ 2) × (bitsAt m 15 1 ≡ b) × (bitsAt m 0 9 ≡ l)
-unfolding pack packFrom bitsAt
-change-head b l hb hl = (omega arith, omega arith, omega arith)
-
-module _ (c : Change) (f : ChangeFits c) where
-  change-fields : ℕ
-  change-fields = pack (1 bits bit (c .removal) ∷ 6 bits 0 ∷ 9 bits length (pathText (c .names)) ∷ [])
-
-  change-seam : changeBytes c ≡ bigEndian 2 change-fields ++ (padded longestPath (pathText (c .names)) ++ [])
-  unfolding changeBytes change-fields
-  change-seam = rw (append-nil (padded longestPath (pathText (c .names))))
-
-  fields-read : (change-fields < 256 ^ 2) × (bitsAt change-fields 15 1 ≡ bit (c .removal)) × (bitsAt change-fields 0 9 ≡ length (pathText (c .names)))
-  unfolding change-fields
-  fields-read = change-head _ _ (bit-small (c .removal)) (omega (arith, f .short))
-
-  change-width : length (changeBytes c) ≡ changeSize
-  unfolding changeBytes
-  change-width = length-append (bigEndian 2 _) (padded longestPath (pathText (c .names))) ∙ rw (length-big 2, length-padded longestPath (pathText (c .names)) (f .short))
-
-  change-head-read : field (changeBytes c) 0 2 ≡ change-fields
-  change-head-read = rw change-seam (field-first 2 change-fields _ (fields-read .0))
-
-  change-names : namesIn (textAt (changeBytes c) 2 longestPath (bitsAt change-fields 0 9)) ≡ c .names
-  change-names =
-      ap namesIn (rw change-seam (text-padded (bigEndian 2 change-fields) (pathText (c .names)) [] 2 longestPath _ (length-big 2 change-fields) (f .short) (fields-read .2)))
-      ∙ text-names (c .names) (f .names) (omega (arith, f .short))
-
-  change-read : changeIn (changeBytes c) ≡ c
-  unfolding changeIn
-  change-read = rw change-head-read λ i. record { removal = removal-read i; names = change-names i }
-    where
-      removal-read : eqb (bitsAt change-fields 15 1) 1 ≡ c .removal
-      removal-read = rw (fields-read .1) (bit-back (c .removal))
-
--- ── transactions ──
-
--- the first rows of bytes that begin with encoded entries
-first-rows : {A : Type 0} (encode : A → Octets) (k n : ℕ) (xs : List A) (rest : Octets) → length xs ≤ n → Each (λ (x : A). length (encode x) ≡ k) xs
-    → take (length xs) (chunks n k (flatMap encode xs ++ rest)) ≡ map encode xs
-unfolding flatMap chunks
-first-rows encode k n [] rest h w = refl
-first-rows encode k zero (x ∷ xs) rest h w = absurd (omega arith)
-first-rows encode k (suc n) (x ∷ xs) rest h w =
-    rw (append-assoc (encode x) (flatMap encode xs) rest, take-at (encode x) (flatMap encode xs ++ rest) k (w .0), drop-at (encode x) (flatMap encode xs ++ rest) k (w .0))
-    (ap (λ (l : List Octets). encode x ∷ l) (first-rows encode k n xs rest (omega arith) (w .1)))
-
-map-back : {A : Type 0} (encode : A → Octets) (decode : Octets → A) (xs : List A) → Each (λ (x : A). decode (encode x) ≡ x) xs → map decode (map encode xs) ≡ xs
-map-back encode decode [] h = refl
-map-back encode decode (x ∷ xs) h = ap₂ _∷_ (h .0) (map-back encode decode xs (h .1))
-
-transaction-head : (b l o : ℕ) → b < 2 → l < 16 → o < 65536
-    → let m = pack (1 bits 1 ∷ 1 bits b ∷ 2 bits 0 ∷ 4 bits l ∷ 16 bits o ∷ []) in
-    (m < 256 ^ 3) × (bitsAt m 23 1 ≡ 1) × (bitsAt m 22 1 ≡ b) × (bitsAt m 16 4 ≡ l) × (bitsAt m 0 16 ≡ o)
-unfolding pack packFrom bitsAt
-transaction-head b l o hb hl ho = (omega arith, omega arith, omega arith, omega arith, omega arith)
-
-transaction-used : (s : Octets) (head : ℕ) → field s 0 3 ≡ head → bitsAt head 23 1 ≡ 1 → transactionIn s ≡ some (transactionAt s head)
-unfolding transactionIn
-transaction-used s head h u = rw (h, u)
-
-module _ (x : Transaction) (f : TransactionFits x) where
-  transaction-fields : ℕ
-  transaction-fields = pack (1 bits 1 ∷ 1 bits bit (x .stale) ∷ 2 bits 0 ∷ 4 bits length (x .changes) ∷ 16 bits x .holder ∷ [])
-
-  heads : (transaction-fields < 256 ^ 3) × (bitsAt transaction-fields 23 1 ≡ 1) × (bitsAt transaction-fields 22 1 ≡ bit (x .stale))
-      × (bitsAt transaction-fields 16 4 ≡ length (x .changes)) × (bitsAt transaction-fields 0 16 ≡ x .holder)
-  unfolding transaction-fields
-  heads = transaction-head _ _ _ (bit-small (x .stale)) (omega (arith, f .few)) (f .holder)
-
-  rows : Each (λ (c : Change). length (changeBytes c) ≡ changeSize) (x .changes)
-  rows = each-map ChangeFits _ change-width (x .changes) (f .changes)
-
-  changes-short : length (flatMap changeBytes (x .changes)) ≤ mostChanges * changeSize
-  changes-short = rw (length-encoded changeBytes changeSize (x .changes) rows) (omega (arith, f .few))
-
-  transaction-seam : transactionBytes (some x) ≡ bigEndian 3 transaction-fields ++ padded (mostChanges * changeSize) (flatMap changeBytes (x .changes))
-  unfolding transactionBytes transaction-fields
-  transaction-seam = refl
-
-  some-transaction-width : length (transactionBytes (some x)) ≡ transactionSize
-  some-transaction-width =
-      ap length transaction-seam
-      ∙ (length-append (bigEndian 3 transaction-fields) _ ∙ rw (length-big 3, length-padded (mostChanges * changeSize) (flatMap changeBytes (x .changes)) changes-short))
-
-  transaction-head-read : field (transactionBytes (some x)) 0 3 ≡ transaction-fields
-  transaction-head-read = rw transaction-seam (field-first 3 transaction-fields _ (heads .0))
-
-  changes-read : map changeIn (take (bitsAt transaction-fields 16 4) (chunks mostChanges changeSize (drop 3 (transactionBytes (some x))))) ≡ x .changes
-  unfolding padded
-  changes-read =
-      rw (
-        transaction-seam,
-        drop-at (bigEndian 3 transaction-fields) (padded (mostChanges * changeSize) (flatMap changeBytes (x .changes))) 3 (length-big 3 transaction-fields),
-        heads .3,
-        first-rows changeBytes changeSize mostChanges (x .changes) (replicate (mostChanges * changeSize - length (flatMap changeBytes (x .changes))) 0) (f .few) rows,
-      )
-      (map-back changeBytes changeIn (x .changes) (each-map ChangeFits _ change-read (x .changes) (f .changes)))
-
-  some-transaction-read : transactionIn (transactionBytes (some x)) ≡ some x
-  unfolding transactionAt
-  some-transaction-read =
-      transaction-used (transactionBytes (some x)) transaction-fields transaction-head-read (heads .1)
-      ∙ ap some (λ i. record { holder = heads .4 i; stale = stale-read i; changes = changes-read i })
-    where
-      stale-read : eqb (bitsAt transaction-fields 22 1) 1 ≡ x .stale
-      stale-read = rw (heads .2) (bit-back (x .stale))
-
-abbrev pub MaybeTransaction : Option Transaction → Type 0
-MaybeTransaction none = Unit {0}
-MaybeTransaction (some x) = TransactionFits x
-
-pub transaction-width : (m : Option Transaction) → MaybeTransaction m → length (transactionBytes m) ≡ transactionSize
-unfolding transactionBytes
-transaction-width none f = length-replicate {A = ℕ} transactionSize 0
-transaction-width (some x) f = some-transaction-width x f
-
-pub transaction-read : (m : Option Transaction) → MaybeTransaction m → transactionIn (transactionBytes m) ≡ m
-unfolding transactionIn transactionBytes field bigFrom bitsAt
-transaction-read none f = refl
-transaction-read (some x) f = some-transaction-read x f
-
-pub transactions-read : (xs : Transactions) → length xs ≡ mostTransactions → Each MaybeTransaction xs → transactionsOf (transactionsBytes xs) ≡ xs
-unfolding transactionsBytes transactionsOf
-transactions-read xs h f =
-    ap (λ (n : ℕ). map transactionIn (chunks n transactionSize (flatMap transactionBytes xs))) (sym h)
-    ∙ decoded transactionBytes transactionSize transactionIn xs (each-map MaybeTransaction _ transaction-width xs f) (each-map MaybeTransaction _ transaction-read xs f)
-
-pub transaction-written : (xs : Transactions) (i : ℕ) (m : Option Transaction) → Each MaybeTransaction xs → MaybeTransaction m → i < length xs
-    → transactionsBytes (set xs i m) ≡ paste (i * transactionSize) (transactionBytes m) (transactionsBytes xs)
-unfolding transactionsBytes
-transaction-written xs i m f g h = written transactionBytes transactionSize xs i m (each-map MaybeTransaction _ transaction-width xs f) (transaction-width m g) h
-
-pub transaction-at : (s : Octets) (i : ℕ) → i < mostTransactions → getD (transactionsOf s) i none ≡ transactionIn (take transactionSize (drop (i * transactionSize) s))
-unfolding transactionsOf
-transaction-at s i h = decoded-at transactionIn mostTransactions transactionSize i s none h
-
-pub length-transactions : (xs : Transactions) → Each MaybeTransaction xs → length (transactionsBytes xs) ≡ length xs * transactionSize
-unfolding transactionsBytes
-length-transactions xs f = length-encoded transactionBytes transactionSize xs (each-map MaybeTransaction _ transaction-width xs f)
-
--- ── decoded entries fit ──
-
-text-short : (s : Octets) (i k n : ℕ) → length (textAt s i k n) ≤ k
-unfolding textAt
-text-short s i k n = simp length-take (omega arith)
-
-pub watch-in : (s : Octets) (v : Watch) → watchIn s ≡ some v → watchAt s (field s 0 6) ≡ v
-unfolding watchIn
-watch-in s v = go (eqb (bitsAt (field s 0 6) 47 1) 1)
-  where
-    go : (b : Bool) → cond b (some (watchAt s (field s 0 6))) none ≡ some v → watchAt s (field s 0 6) ≡ v
-    go true e = some-is e
-    go false e = absurd (nothing e)
-
-place-decoded : (r : Bool) (s : Octets) → length s ≤ longestPath → (placeIn r s ≡ event [] → ⊥) → PlaceFits (placeIn r s)
-unfolding placeIn
-place-decoded r s l = go (given s) refl (means s)
-  where
-    go : (g : Given) → given s ≡ g → Means s g
-        → let p = elim g as (λ g. Place) [ malformed ↦ event [] | absolute ns ↦ path r ns | relative ns ↦ event [] | special e ↦ event e ] in
-        (p ≡ event [] → ⊥) → PlaceFits p
-    go malformed e m h = absurd (h refl)
-    go (absolute ns) e m h = (m .names, rw (← m .text) l)
-    go (relative ns) e m h = absurd (h refl)
-    go (special t) e m h = rw (m .text) (e ∙ ap special (m .text), l)
-
--- what is sure of a watch that was read, where its place is a path or an event
-pub record WatchRead (v : Watch) : Type 0 where
-  pub owner : v .owner < 65536
-  pub depth : DepthFits (v .depth)
-  pub token : length (v .token) ≤ longestToken
-  pub place : (v .place ≡ event [] → ⊥) → PlaceFits (v .place)
-
-pub watch-decoded : (s : Octets) (head : ℕ) → WatchRead (watchAt s head)
-unfolding watchAt bitsAt
-watch-decoded s head =
-    record {
-      owner = mod-lt _ (lit< tt);
-      depth = cond-case DepthFits (eqb (bitsAt head 45 1) 1) _ _ (mod-lt _ (lit< tt)) tt;
-      token = text-short s (6 + longestPath) longestToken _;
-      place = place-decoded _ _ (text-short s 6 longestPath _);
-    }
-
-change-decoded : (s : Octets) → ChangeFits (changeIn s)
-unfolding changeIn namesIn allNames pathText
-change-decoded s = go (given t) (means t)
-  where
-    t : Octets
-    t = textAt s 2 longestPath (bitsAt (field s 0 2) 0 9)
-
-    go : (g : Given) → Means t g
-        → ChangeFits (record { removal = eqb (bitsAt (field s 0 2) 15 1) 1; names = elim g [ malformed ↦ [] | absolute ns ↦ ns | relative ns ↦ [] | special e ↦ [] ] })
-    go malformed m = record { names = refl; short = lit≤ tt }
-    go (absolute ns) m = record { names = m .names; short = rw (← m .text) (text-short s 2 longestPath _) }
-    go (relative ns) m = record { names = refl; short = lit≤ tt }
-    go (special e) m = record { names = refl; short = lit≤ tt }
-
-pub transaction-in : (s : Octets) (x : Transaction) → transactionIn s ≡ some x → transactionAt s (field s 0 3) ≡ x
-unfolding transactionIn
-transaction-in s x = go (eqb (bitsAt (field s 0 3) 23 1) 1)
-  where
-    go : (b : Bool) → cond b (some (transactionAt s (field s 0 3))) none ≡ some x → transactionAt s (field s 0 3) ≡ x
-    go true e = some-is e
-    go false e = absurd (nothing e)
-
-pub transaction-decoded : (s : Octets) (head : ℕ) → (length (transactionAt s head .changes) ≤ mostChanges) × Each ChangeFits (transactionAt s head .changes)
-unfolding transactionAt
-transaction-decoded s head = (few, go rows)
-  where
-    rows : List Octets
-    rows = take (bitsAt head 16 4) (chunks mostChanges changeSize (drop 3 s))
-
-    few : length (map changeIn rows) ≤ mostChanges
-    few = rw (length-map rows changeIn, length-take (bitsAt head 16 4) (chunks mostChanges changeSize (drop 3 s)), length-chunks mostChanges changeSize (drop 3 s)) (omega arith)
-
-    go : (rs : List Octets) → Each ChangeFits (map changeIn rs)
-    go [] = tt
-    go (r ∷ rs) = (change-decoded r, go rs)
-
--- ── decoded tables fit ──
-
-each-row : {A : Type 0} (P : A → Type 0) (decode : Octets → A) → ((r : Octets) → P (decode r)) → (rows : List Octets) → Each P (map decode rows)
-each-row P decode h [] = tt
-each-row P decode h (r ∷ rows) = (h r, each-row P decode h rows)
-
-domain-in-fits : (s : Octets) → DomainFits (domainIn s)
-unfolding domainIn bitsAt
-domain-in-fits s = cond-case DomainFits (eqb (bitsAt (field s 0 domainSize) 23 1) 1) _ _ (mod-lt _ (lit< tt)) tt
-
-transaction-in-fits : (s : Octets) → MaybeTransaction (transactionIn s)
-unfolding transactionIn transactionAt bitsAt
-transaction-in-fits s =
-    let d = transaction-decoded s (field s 0 3) in
-    cond-case MaybeTransaction (eqb (bitsAt (field s 0 3) 23 1) 1) _ _ (record { holder = mod-lt _ (lit< tt); few = d .0; changes = d .1 }) tt
-
--- what is sure of an entry that was read
-abbrev MaybeRead : Option Watch → Type 0
-MaybeRead none = Unit {0}
-MaybeRead (some v) = WatchRead v
-
-watch-in-read : (s : Octets) → MaybeRead (watchIn s)
-unfolding watchIn
-watch-in-read s = cond-case MaybeRead (eqb (bitsAt (field s 0 6) 47 1) 1) _ _ (watch-decoded s (field s 0 6)) tt
-
--- a good watch's place is no empty event
-pub place-named : (c : Connection) (k : Option ℕ) (p : Place) → goodPlace c k p ≡ true → p ≡ event [] → ⊥
-unfolding goodPlace
-place-named c k p h e = false≢true (rw (e, goodPlace) at h)
-
-watches-fit : (ds : Domains) (ws : Watches) → Each MaybeRead ws → goodWatches ds ws ≡ true → Each MaybeWatch ws
-unfolding goodWatches goodWatch
-watches-fit ds [] r h = tt
-watches-fit ds (none ∷ ws) r h = (tt, watches-fit ds ws (r .1) h)
-watches-fit ds (some v ∷ ws) r h =
-    let p = and-eq-true-iff (goodWatch ds v) (not (watched (v .owner) (placeText (v .place)) (v .token) ws) && goodWatches ds ws) .0 h in
-    let q = and-eq-true-iff (known (domainOf (v .owner)) ds) (noNul (v .token) && goodPlace (v .owner) (v .depth) (v .place)) .0 (p .0) in
-    let g = and-eq-true-iff (noNul (v .token)) (goodPlace (v .owner) (v .depth) (v .place)) .0 (q .1) .1 in
-    let w = r .0 in (
-      record { owner = w .owner; depth = w .depth; token = w .token; place = w .place (place-named (v .owner) (v .depth) (v .place) g) },
-      watches-fit ds ws (r .1) (and-eq-true-iff (not (watched (v .owner) (placeText (v .place)) (v .token) ws)) (goodWatches ds ws) .0 (p .1) .1),
-    )
-
-pub decoded-domains-fit : (s : Octets) → Each DomainFits (domainsOf s)
-unfolding domainsOf
-decoded-domains-fit s = each-row DomainFits domainIn domain-in-fits (chunks mostDomains domainSize s)
-
-pub decoded-transactions-fit : (s : Octets) → Each MaybeTransaction (transactionsOf s)
-unfolding transactionsOf
-decoded-transactions-fit s = each-row MaybeTransaction transactionIn transaction-in-fits (chunks mostTransactions transactionSize s)
-
-read-each : (s : Octets) → Each MaybeRead (watchesOf s)
-unfolding watchesOf
-read-each s = each-row MaybeRead watchIn watch-in-read (chunks mostWatches watchSize s)
-
--- those of sound watches
-pub sound-watches-fit : (ds : Domains) (s : Octets) → soundWatches ds s ≡ true → Each MaybeWatch (watchesOf s)
-unfolding soundWatches
-sound-watches-fit ds s h =
-    let p = and-eq-true-iff (eqb (length s) watchesSize) (same (watchesBytes (watchesOf s)) s && goodWatches ds (watchesOf s)) .0 h in
-    watches-fit ds (watchesOf s) (read-each s) (and-eq-true-iff (same (watchesBytes (watchesOf s)) s) (goodWatches ds (watchesOf s)) .0 (p .1) .1)
-
 -- ── copies: bytes in rows ──
 
 abbrev pub whole : Octets → Octets
 whole s = s
+
+pub map-whole : (xs : List Octets) → map whole xs ≡ xs
+map-whole [] = refl
+map-whole (x ∷ xs) = ap (λ (l : List Octets). x ∷ l) (map-whole xs)
 
 -- rows joined are read back as the rows
 pub copies-read : (k : ℕ) (cs : List Octets) → Each (λ (c : Octets). length c ≡ k) cs → chunks (length cs) k (flatMap whole cs) ≡ cs

@@ -1,13 +1,27 @@
 -- Numbers in bytes, most significant first: writing and reading undo each other, and a field of a part is a field of the whole.
 use mathlib.Core.Path.{_≡_, refl, sym, ap, ap₂, _∙_}
+use mathlib.Core.Bool.{Bool, true, false}
 use mathlib.Core.List.{List, [], _∷_, _++_}
 use Prim.Native.Nat.{ℕ, zero, suc, _+_, _*_, _/_, _%_, _^_, _≤_, _<_, zero-le, suc-le-suc}
 use native.Mathlib.Nat.{add-zero, zero-add, add-suc, not-suc-le-zero, div-add-mod', div-lt-iff-lt-mul, pow-suc, pow-zero, pow-succ', add-mul, add-assoc, mul-assoc, mul-one}
 use native.Mathlib.Numerals.{add-one, add-two}
 use native.Mathlib.Omega.{arith}
 use lib.ListN.{length, getD, take, drop, length-append, length-drop}
+use lib.Dec.{eqb, lit<}
 use lib.Seq.{take-at, drop-at, drop-cons, drop-drop, take-add, length-take-le}
-use Rattle.rules.specs.Octets.{Octets, bigEndian, bigFrom, field}
+use Rattle.rules.specs.Octets.{Octets, bit, bigEndian, bigFrom, field}
+
+-- ── one bit ──
+
+pub bit-small : (b : Bool) → bit b < 2
+bit-small true = lit< tt
+bit-small false = lit< tt
+
+pub bit-back : (b : Bool) → eqb (bit b) 1 ≡ b
+bit-back true = refl
+bit-back false = refl
+
+-- ── bytes ──
 
 pub length-big : (k n : ℕ) → length (bigEndian k n) ≡ k
 unfolding bigEndian

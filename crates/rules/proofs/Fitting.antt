@@ -111,7 +111,7 @@ reach-below (n ∷ ns) t i h = go (reach-below ns t) (childFrom i n 0 t) refl
     go further (some j) e = further j (omega (arith, child-below i n 0 t j e))
 
 -- the names that are left are among the path's
-short-left : (ns : Names) (t : Table) (i : ℕ) → shortNames ns ≡ true → shortNames (reachFrom ns t i .left) ≡ true
+pub short-left : (ns : Names) (t : Table) (i : ℕ) → shortNames ns ≡ true → shortNames (reachFrom ns t i .left) ≡ true
 unfolding reachFrom child shortNames
 short-left [] t i h = refl
 short-left (n ∷ ns) t i h = go (λ j. short-left ns t j (and-eq-true-iff (leb (length n) longestName) (shortNames ns) .0 h .1)) (childFrom i n 0 t)

@@ -1,15 +1,22 @@
 -- Good requests: what parsing makes sure of, whatever the message.
-use mathlib.Core.Path.{_≡_}
+use mathlib.Core.Path.{_≡_, refl}
 use mathlib.Core.Bool.{true, not, _||_}
+use mathlib.Core.List.{[], _∷_}
 use mathlib.Core.Option.{Option, none, some}
 use Prim.Native.Nat.{ℕ, _≤_}
 use Rattle.rules.specs.Size.{lastDomain, deepestWatch}
 use Rattle.rules.specs.Octets.{Octets}
 use Rattle.rules.specs.Path.{Connection, domainOf, Names, allNames, special, given, base, beyond}
-use Rattle.rules.specs.Payload.{Ask, Place, path, event, Request, ask, watch, unwatch, start, end, introduce, release, domainPath, isIntroduced, reset, Parsed, unknown, invalid, request, proper, depthFor}
+use Rattle.rules.specs.Payload.{Ask, Place, path, event, Request, ask, watch, unwatch, start, end, introduce, release, domainPath, isIntroduced, reset, Parsed, unknown, invalid, request, onRoot, proper, depthFor}
 use Rattle.rules.specs.Sound.{noNul, strictlyBelow}
 use Rattle.rules.proofs.Fitting.{AskFits}
 use Rattle.rules.proofs.GoodAnswers.{AskGood}
+
+-- what may be asked of the root may be asked of every path
+pub proper-open : (a : Ask) (ns : Names) → onRoot a ≡ true → proper a ns ≡ true
+unfolding proper
+proper-open a [] h = h
+proper-open a (n ∷ ns) h = refl
 
 -- a node request: its path has names, its entries are good, and the root's rules are met
 pub record AskedGood (a : Ask) (ns : Names) : Type 0 where

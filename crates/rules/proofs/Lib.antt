@@ -11,8 +11,12 @@ pub mod Parsing
 pub mod Places
 pub mod GoodTables
 pub mod GoodAnswers
+pub mod RootWays
+pub mod GoodNodes
 pub mod GoodRequests
 pub mod EntryLayouts
+pub mod TransactionLayouts
+pub mod DecodedEntries
 pub mod PathLaws
 pub mod BelowLaws
 pub mod Joined

@@ -14,7 +14,7 @@ use Rattle.rules.specs.Octets.{less}
 use Rattle.rules.specs.Path.{Domain}
 use Rattle.rules.specs.Node.{Node, Table, nodeAt, insert, hasParent, childrenFrom, children, ownedBelow, ownedBy}
 use Rattle.rules.proofs.Cases.{cond-case, cond-known}
-use Rattle.rules.proofs.Tables.{Each, each-map}
+use Rattle.rules.proofs.Tables.{Each, each-map, each-append}
 use Rattle.rules.proofs.Places.{some-is, At, at-below}
 use Rattle.rules.proofs.GoodTables.{Good, nodeAt-is}
 
@@ -26,10 +26,6 @@ Differ i j = i ≡ j → ⊥
 abbrev pub Distinct : List ℕ → Type 0
 Distinct [] = Unit {0}
 Distinct (i ∷ is) = Each (Differ i) is × Distinct is
-
-each-append : (P : ℕ → Type 0) (xs ys : List ℕ) → Each P xs → Each P ys → Each P (xs ++ ys)
-each-append P [] ys p q = q
-each-append P (x ∷ xs) ys p q = (p .0, each-append P xs ys (p .1) q)
 
 each-both : (P Q : ℕ → Type 0) (xs : List ℕ) → Each P xs → Each Q xs → Each (λ (x : ℕ). P x × Q x) xs
 each-both P Q [] p q = tt

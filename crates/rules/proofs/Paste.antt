@@ -1,18 +1,14 @@
 -- Laws of `paste`: bytes put in place of others.
 use mathlib.Core.Path.{_≡_, refl, sym, ap, ap₂, _∙_}
-use mathlib.Core.List.{[], _∷_, _++_, append-assoc}
-use Prim.Native.Nat.{ℕ, suc, _+_, _-_, _≤_, _<_}
+use mathlib.Core.List.{[], _∷_, _++_, append-nil, append-assoc}
+use Prim.Native.Nat.{ℕ, suc, _+_, _≤_, _<_}
 use native.Mathlib.Nat.{add-assoc}
 use native.Mathlib.Numerals.{add-one}
 use native.Mathlib.Omega.{arith}
-use lib.ListN.{length, getD, take, drop, set, replicate, length-replicate, getD-replicate, length-append, length-drop, take-append-drop, List·getD-append}
+use lib.ListN.{length, getD, take, drop, set, replicate, drop-of-length-le, length-replicate, getD-replicate, length-append, length-drop, take-append-drop, List·getD-append}
 use lib.Seq as Seq
 use Rattle.rules.specs.Octets.{Octets, paste}
 use Rattle.rules.proofs.Fields.{take-drop-take}
-
--- what stands behind a list of n bytes
-getD-past : (p q : Octets) (n k : ℕ) → length p ≡ n → getD (p ++ q) (n + k) 0 ≡ getD q k 0
-getD-past p q n k e = rw (← e) (Seq.getD-append-add p q k 0)
 
 module _ (i : ℕ) (ys xs : Octets) where
   -- as the kit has it
@@ -31,22 +27,6 @@ module _ (i : ℕ) (ys xs : Octets) where
   pub getD-paste-before : (k : ℕ) → k < i → i ≤ length xs → getD (paste i ys xs) k 0 ≡ getD xs k 0
   unfolding paste
   getD-paste-before k h hi = List·getD-append (take i xs) (ys ++ drop (i + length ys) xs) 0 k (rw (Seq.length-take-le i xs hi) h) ∙ Seq.getD-take i xs k 0 h
-
-  pub getD-paste-inside : (k : ℕ) → k < length ys → i ≤ length xs → getD (paste i ys xs) (i + k) 0 ≡ getD ys k 0
-  unfolding paste
-  getD-paste-inside k h hi =
-      getD-past (take i xs) (ys ++ drop (i + length ys) xs) i k (Seq.length-take-le i xs hi) ∙ List·getD-append ys (drop (i + length ys) xs) 0 k h
-
-  pub getD-paste-after : (k : ℕ) → i + length ys ≤ k → i + length ys ≤ length xs → getD (paste i ys xs) k 0 ≡ getD xs k 0
-  unfolding paste
-  getD-paste-after k h hi =
-      let rest = drop (i + length ys) xs in
-      let j = k - (i + length ys) in
-      ap (λ (n : ℕ). getD (take i xs ++ (ys ++ rest)) n 0) (let e : k ≡ i + (length ys + j) = omega arith in e)
-      ∙ getD-past (take i xs) (ys ++ rest) i (length ys + j) (Seq.length-take-le i xs (omega arith))
-      ∙ Seq.getD-append-add ys rest j 0
-      ∙ Seq.getD-drop (i + length ys) xs j 0
-      ∙ ap (λ (n : ℕ). getD xs n 0) (let e : i + length ys + j ≡ k = omega arith in e)
 
 pub paste-nil : (i : ℕ) (xs : Octets) → paste i [] xs ≡ xs
 paste-nil i xs = sym (paste-kit i [] xs) ∙ sym (Seq.paste-zero xs i [])
@@ -114,6 +94,11 @@ paste-own i k xs h =
     ∙ ap (λ (l : Octets). take i xs ++ (take k (drop i xs) ++ l)) (sym (Seq.drop-drop k i xs))
     ∙ ap (λ (l : Octets). take i xs ++ l) (take-append-drop k (drop i xs))
     ∙ take-append-drop i xs
+
+-- a whole buffer put in place of another
+pub paste-whole : (ys xs : Octets) → length ys ≡ length xs → paste 0 ys xs ≡ ys
+unfolding paste
+paste-whole ys xs h = rw (drop-of-length-le xs {i = 0 + length ys} (omega arith)) (append-nil ys)
 
 -- a part before what is put in
 pub part-before : (i j k : ℕ) (ys xs : Octets) → j + k ≤ i → i ≤ length xs → take k (drop j (paste i ys xs)) ≡ take k (drop j xs)

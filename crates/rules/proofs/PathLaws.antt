@@ -167,19 +167,6 @@ text-given [] h l = refl
 text-given ([] ∷ ns) h l = absurd (no-empty-name ns h)
 text-given ((c ∷ n) ∷ ns) h l = rw (split-names (c ∷ n) ns h, h, le-leb _ _ l)
 
-pub text-injective : (ns ms : Names) → allNames ns ≡ true → allNames ms ≡ true → pathText ns ≡ pathText ms → ns ≡ ms
-unfolding pathText slashed
-text-injective [] [] h k e = refl
-text-injective [] ([] ∷ ms) h k e = absurd (no-empty-name ms k)
-text-injective [] ((c ∷ m) ∷ ms) h k e = cc
-text-injective ([] ∷ ns) [] h k e = absurd (no-empty-name ns h)
-text-injective ((c ∷ n) ∷ ns) [] h k e = cc
-text-injective (n ∷ ns) (m ∷ ms) h k e =
-    let p = split-slashed (n ∷ ns) h in
-    let q = split-slashed (m ∷ ms) k in
-    let r = ap split e in
-    cc
-
 full-by : (s : Octets) (g : Given) → given s ≡ g → isFull s ≡ true → given s ≡ absolute (namesIn s)
 unfolding isFull namesIn
 full-by s malformed e h = absurd (false≢true (rw (e, isFull) at h))

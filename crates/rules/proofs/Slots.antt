@@ -4,7 +4,7 @@ use mathlib.Core.List.{List, [], _∷_, _++_, map, flatMap, append-nil, append-a
 use mathlib.Core.Option.{Option, none, some}
 use Prim.Native.Nat.{ℕ, _+_, _*_, _-_, _^_, _≤_, _<_}
 use native.Mathlib.Omega.{arith}
-use lib.ListN.{length, getD, take, drop, set, replicate, length-append, length-replicate, length-map}
+use lib.ListN.{length, getD, take, drop, set, replicate, length-append, length-replicate, length-map, length-take}
 use lib.Seq.{take-append-seam, take-at, drop-at}
 use Rattle.rules.specs.Size.{slots, slotSize}
 use Rattle.rules.specs.Octets.{Octets, padded, paste, chunks, bigEndian, field, bigFrom, pack, packFrom, bitsAt}
@@ -91,6 +91,15 @@ entries-read o (a ∷ b ∷ c ∷ []) f g h =
           (ap₂ (λ (e e′ : Entry). e ∷ e′ ∷ []) (entry-is m 1 b (omega arith) (omega arith)) (entry-is m 0 c (omega arith) (omega arith)));
     }
 entries-read o (a ∷ b ∷ c ∷ d ∷ es) f g h = absurd (omega arith)
+
+-- a text is no longer than its room, and than is said
+pub text-short : (s : Octets) (i k n : ℕ) → length (textAt s i k n) ≤ k
+unfolding textAt
+text-short s i k n = simp length-take (omega arith)
+
+pub text-few : (s : Octets) (i k n : ℕ) → length (textAt s i k n) ≤ n
+unfolding textAt
+text-few s i k n = simp length-take (omega arith)
 
 -- a text between a first part of i bytes and the rest, padded to k bytes
 pub text-padded : (p xs r : Octets) (i k m : ℕ) → length p ≡ i → length xs ≤ k → m ≡ length xs → textAt (p ++ (padded k xs ++ r)) i k m ≡ xs

@@ -1,6 +1,6 @@
 -- Tables of entries of one width: what stands in a place, what a written place changes, and that decoding undoes encoding.
 use mathlib.Core.Path.{_≡_, refl, sym, ap, ap₂, _∙_}
-use mathlib.Core.List.{List, [], _∷_, _++_, map, flatMap, append-assoc}
+use mathlib.Core.List.{List, [], _∷_, _++_, map, flatMap, append-nil, append-assoc}
 use Prim.Native.Nat.{ℕ, zero, suc, _+_, _*_, _<_}
 use native.Mathlib.Nat.{suc-mul, zero-mul, zero-add, add-comm, add-assoc, le-of-suc-le-suc, not-suc-le-zero}
 use lib.ListN.{length, getD, take, drop, set, length-append}
@@ -12,6 +12,15 @@ pub getD-any : {A : Type 0} (xs : List A) (i : ℕ) (a b : A) → i < length xs 
 getD-any [] i a b h = absurd (not-suc-le-zero h)
 getD-any (x ∷ xs) zero a b h = refl
 getD-any (x ∷ xs) (suc i) a b h = getD-any xs i a b (le-of-suc-le-suc h)
+
+pub flat-append : {A B : Type 0} (f : A → List B) (xs ys : List A) → flatMap f (xs ++ ys) ≡ flatMap f xs ++ flatMap f ys
+unfolding flatMap
+flat-append f [] ys = refl
+flat-append f (x ∷ xs) ys = ap (λ r. f x ++ r) (flat-append f xs ys) ∙ sym (append-assoc (f x) (flatMap f xs) (flatMap f ys))
+
+pub flat-last : {A B : Type 0} (f : A → List B) (xs : List A) (y : A) → flatMap f (xs ++ y ∷ []) ≡ flatMap f xs ++ f y
+unfolding flatMap
+flat-last f xs y = flat-append f xs (y ∷ []) ∙ ap (λ r. flatMap f xs ++ r) (append-nil (f y))
 
 -- ── what holds of each entry ──
 
@@ -33,6 +42,10 @@ module _ {A : Type 0} where
   pub each-map : (P Q : A → Type 0) → ((x : A) → P x → Q x) → (xs : List A) → Each P xs → Each Q xs
   each-map P Q f [] e = tt
   each-map P Q f (x ∷ xs) e = (f x (e .0), each-map P Q f xs (e .1))
+
+  pub each-append : (P : A → Type 0) (xs ys : List A) → Each P xs → Each P ys → Each P (xs ++ ys)
+  each-append P [] ys p q = q
+  each-append P (x ∷ xs) ys p q = (p .0, each-append P xs ys (p .1) q)
 
 -- ── bytes taken as entries ──
 

@@ -2,3 +2,4 @@ pub mod Reading
 pub mod Canonical
 pub mod Put
 pub mod Numbers
+pub mod LeftLaws

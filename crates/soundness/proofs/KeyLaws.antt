@@ -1,23 +1,25 @@
 -- Keys: siblings with one name share one, so what differs in keys does not clash.
-use mathlib.Core.Path.{_≡_, refl}
-use mathlib.Core.Bool.{Bool, true, false, true≢false, cond}
-use mathlib.Core.List.{[], _∷_}
+use mathlib.Core.Path.{_≡_, refl, sym, ap, _∙_}
+use mathlib.Core.Bool.{Bool, true, false, true≢false, cond, _||_, or-true, or-false, or-assoc}
+use mathlib.Core.List.{List, [], _∷_}
 use mathlib.Core.Option.{Option, none, some}
-use Prim.Native.Nat.{ℕ, _+_, _*_, _-_, _%_, _≤_, _<_}
-use native.Mathlib.Nat.{mod-lt}
+use Prim.Native.Nat.{ℕ, zero, suc, _+_, _*_, _-_, _%_, _≤_, _<_}
+use native.Mathlib.Nat.{mod-lt, not-suc-le-zero, le-of-suc-le-suc}
+use native.Mathlib.Numerals.{add-one}
 use native.Mathlib.Omega.{arith}
-use lib.ListN.{length, getD}
+use lib.ListN.{length, getD, drop, drop-of-length-le}
+use lib.Seq.{drop-cons}
 use lib.Dec.{eqb, ltb}
-use borrow.Author.Tests.{eqb-true, lt-ltb, le-ltb}
+use borrow.Author.Tests.{eqb-true, eq-eqb, lt-ltb, le-ltb}
 use Rattle.rules.specs.Octets.{Octets, same}
 use Rattle.rules.specs.Node.{Node, nodeAt}
 use Rattle.rules.specs.Layout.{tableOf}
 use Rattle.rules.specs.Sound.{clash}
 use Rattle.rules.proofs.Compare.{both-true, same-eq}
+use Rattle.slots.proofs.Canonical.{used-some}
 use Rattle.slots.specs.Slot.{slotAt, isUsed}
 use Rattle.slots.proofs.Reading.{node-some}
-use Rattle.soundness.specs.Keys.{digestOf, keyOf}
-use Rattle.soundness.proofs.WalkLaws.{used-some}
+use Rattle.soundness.specs.Keys.{digestOf, keyOf, hasKey}
 
 -- ── the digest ──
 
@@ -25,7 +27,7 @@ pub digest-small : (s : Octets) → length s < 2 → getD s 0 0 % 256 ≡ digest
 unfolding digestOf
 digest-small s h = rw (lt-ltb (length s) 2 h) refl
 
-pub digest-large : (s : Octets) → 2 ≤ length s → (getD s 0 0 * 7 + getD s (length s - 1) 0 + getD s (length s - 2) 0 * 16 + length s * 5) % 256 ≡ digestOf s
+pub digest-large : (s : Octets) → 2 ≤ length s → ((getD s 0 0 + getD s (length s - 1) 0) * 8 + getD s (length s - 2) 0 + length s) % 256 ≡ digestOf s
 unfolding digestOf
 digest-large s h = rw (le-ltb (length s) 2 h) refl
 
@@ -33,7 +35,7 @@ pub digest-bound : (s : Octets) → digestOf s < 256
 unfolding digestOf
 digest-bound s = by (ltb (length s) 2)
   where
-    by : (b : Bool) → cond b (getD s 0 0 % 256) ((getD s 0 0 * 7 + getD s (length s - 1) 0 + getD s (length s - 2) 0 * 16 + length s * 5) % 256) < 256
+    by : (b : Bool) → cond b (getD s 0 0 % 256) (((getD s 0 0 + getD s (length s - 1) 0) * 8 + getD s (length s - 2) 0 + length s) % 256) < 256
     by true = mod-lt _ (omega arith)
     by false = mod-lt _ (omega arith)
 
@@ -81,3 +83,21 @@ pub digest-none : (s : Octets) → length s ≡ 0 → 0 ≡ digestOf s
 unfolding digestOf
 digest-none [] e = refl
 digest-none (c ∷ s) e = absurd (omega (arith, e))
+
+-- ── a key among keys ──
+
+pub has-key-at : (k : ℕ) (xs : List ℕ) (a : ℕ) → a < length xs → getD xs a 0 ≡ k → hasKey k xs ≡ true
+unfolding hasKey
+has-key-at k [] a h e = absurd (not-suc-le-zero h)
+has-key-at k (x ∷ xs) zero h e = ap (λ (b : Bool). b || hasKey k xs) (eq-eqb x k e)
+has-key-at k (x ∷ xs) (suc a) h e = ap (λ (b : Bool). eqb x k || b) (has-key-at k xs a (le-of-suc-le-suc h) e) ∙ or-true (eqb x k)
+
+-- a turn of `has_key`: what is found so far, and the keys from j on, decide
+pub has-key-turn : (k : ℕ) (xs : List ℕ) (j : ℕ) (found : Bool) → j < length xs → hasKey k xs ≡ found || hasKey k (drop j xs) →
+    hasKey k xs ≡ (found || eqb (getD xs j 0) k) || hasKey k (drop (j + 1) xs)
+unfolding hasKey
+has-key-turn k xs j found h e = e ∙ rw (drop-cons xs j 0 h, add-one) (sym (or-assoc found (eqb (getD xs j 0) k) (hasKey k (drop (suc j) xs))))
+
+pub has-key-end : (k : ℕ) (xs : List ℕ) (j : ℕ) (found : Bool) → length xs ≤ j → hasKey k xs ≡ found || hasKey k (drop j xs) → found ≡ hasKey k xs
+unfolding hasKey
+has-key-end k xs j found h e = sym (e ∙ rw (drop-of-length-le xs {i = j} h) (or-false found))

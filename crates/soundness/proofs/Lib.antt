@@ -1,9 +1,10 @@
 pub mod Tests
-pub mod Entries
+pub mod EntryLaws
 pub mod LoneEntry
+pub mod TwoEntries
 pub mod NameLaws
 pub mod SlotLaws
-pub mod Padding
+pub mod KeptNames
 pub mod WalkLaws
 pub mod PathTexts
 pub mod KeyLaws

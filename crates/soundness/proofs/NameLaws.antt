@@ -14,7 +14,7 @@ use Rattle.rules.specs.Path.{Name, nameByte, allBytes, isName}
 use Rattle.rules.specs.Sound.{goodName}
 
 -- a name is not empty, and of a name's bytes
-name-parts : (s : Name) → isName s ≡ not (eqb (length s) 0) && allBytes s
+pub name-parts : (s : Name) → isName s ≡ not (eqb (length s) 0) && allBytes s
 unfolding isName
 name-parts [] = refl
 name-parts (c ∷ cs) = rw (eqb·suc-zero (length cs)) refl
@@ -70,6 +70,3 @@ other-name (suc i) n h = refl
 -- the same, of a name that was read
 pub root-good : {i : ℕ} {s n : Name} → i ≡ 0 → s ≡ n → eqb (length s) 0 ≡ goodName i n
 root-good {s} {n} e f = ap (λ (x : Name). eqb (length x) 0) f ∙ rw e (root-name n)
-
-pub other-good : {i : ℕ} {s n : Name} {b : Bool} → (i ≡ 0 → ⊥) → s ≡ n → b ≡ isName s → b ≡ goodName i n
-other-good {i} {s} {n} h f e = e ∙ ap isName f ∙ other-name i n h

@@ -19,12 +19,12 @@ use Rattle.rules.proofs.Compare.{both-true}
 use Rattle.rules.proofs.Places.{At, at-below, is-false, apart-at, at-apart}
 use Rattle.rules.proofs.Slots.{length-tableOf}
 use Rattle.rules.proofs.GoodTables.{distinct-is}
+use Rattle.slots.proofs.Canonical.{used-some}
 use Rattle.slots.specs.Slot.{slotAt}
 use Rattle.slots.proofs.Reading.{node-some}
-use Rattle.soundness.specs.Keys.{keyOf, placeOf}
+use Rattle.soundness.specs.Keys.{keyOf, placeOf, hasKey, mayClash}
 use Rattle.soundness.proofs.Tests.{both}
-use Rattle.soundness.proofs.WalkLaws.{used-some}
-use Rattle.soundness.proofs.KeyLaws.{key-used, key-positive, clash-keys, keys-parents}
+use Rattle.soundness.proofs.KeyLaws.{key-used, key-positive, clash-keys, keys-parents, has-key-at}
 
 -- the first i of the keys are the slots'
 pub record Keyed (t : Octets) (keys : List ℕ) (i : ℕ) : Type 0 where
@@ -90,16 +90,19 @@ row-names t i j d r =
     ∙ and-false (eqb (n .parent) (m .parent))
 
 -- a key that is looked for is not 0
-pub met-key : (taken : Octets) (p k : ℕ) → (not (eqb (getD taken p 0) 0) && not (eqb k 0)) ≡ true → k ≡ 0 → ⊥
-met-key taken p k e z = true≢false (sym (both-true (not (eqb (getD taken p 0) 0)) (not (eqb k 0)) e .1) ∙ ap not (eq-eqb k 0 z))
+pub met-key : (taken : Octets) (keys : List ℕ) (p k : ℕ) → mayClash taken keys p k ≡ true → k ≡ 0 → ⊥
+unfolding mayClash
+met-key taken keys p k e z = true≢false (sym (both-true (not (eqb k 0)) (not (eqb (getD taken p 0) 0) && hasKey k keys) e .0) ∙ ap not (eq-eqb k 0 z))
 
--- a slot the place of whose key is not taken
-pub row-new : (t taken : Octets) (i k p : ℕ) → Taken t taken i → k ≡ keyOf (slotAt t i) → p ≡ placeOf k → (not (eqb (getD taken p 0) 0) && not (eqb k 0)) ≡ false → Row t i i
-row-new t taken i k p s e f g a n m l x y = is-false (clash n m) λ c.
-    let z : k ≡ 0 → ⊥ = λ o. key-positive m (sym (e ∙ ap keyOf y) ∙ o) in
+-- a slot the place of whose key is not taken, or whose key is not among those so far
+pub row-new : (t taken : Octets) (keys : List ℕ) (i k p : ℕ) → i < slots → Keyed t keys i → Taken t taken i → k ≡ keyOf (slotAt t i) → p ≡ placeOf k → mayClash taken keys p k ≡ false → Row t i i
+unfolding mayClash
+row-new t taken keys i k p h o s e f g a n m l x y = is-false (clash n m) λ c.
+    let z : k ≡ 0 → ⊥ = λ w. key-positive m (sym (e ∙ ap keyOf y) ∙ w) in
     let same-key : keyOf (slotAt t a) ≡ k = ap keyOf x ∙ clash-keys n m c ∙ sym (e ∙ ap keyOf y) in
-    let met : getD taken p 0 ≡ 0 → ⊥ = λ o. s .each a l (ap (λ (q : ℕ). getD taken (placeOf q) 0) same-key ∙ ap (λ (q : ℕ). getD taken q 0) (sym f) ∙ o) in
-    true≢false (sym (both (ap not (ne-eqb (getD taken p 0) 0 met)) (ap not (ne-eqb k 0 z))) ∙ g)
+    let met : getD taken p 0 ≡ 0 → ⊥ = λ w. s .each a l (ap (λ (q : ℕ). getD taken (placeOf q) 0) same-key ∙ ap (λ (q : ℕ). getD taken q 0) (sym f) ∙ w) in
+    let among = has-key-at k keys a (omega (arith, o .long)) (o .each a l ∙ same-key) in
+    true≢false (sym (both (ap not (ne-eqb k 0 z)) (both (ap not (ne-eqb (getD taken p 0) 0 met)) among)) ∙ g)
 
 pub all-apart : (t : Octets) (i : ℕ) → slots ≤ i → Apart t i → true ≡ distinct (tableOf t)
 all-apart t i h f =

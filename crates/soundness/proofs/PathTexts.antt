@@ -19,11 +19,11 @@ use Rattle.rules.proofs.Slots.{length-tableOf}
 use Rattle.rules.proofs.GoodTables.{Good, good-of}
 use Rattle.octets.specs.Numbers.{Put}
 use Rattle.slots.specs.Slot.{slotAt, isUsed}
-use Rattle.slots.proofs.Canonical.{sound-canonical, sound-good, name-length-is, node-fits}
+use Rattle.slots.proofs.Canonical.{sound-canonical, sound-good, name-length-is, node-fits, used-some}
 use Rattle.soundness.specs.declared.answer.Walk.{Walk}
 use Rattle.soundness.specs.declared.answer.Walk.the-variants.{Lost, Root}
 use Rattle.soundness.specs.Walks.{Short, textTo, written, Walked}
-use Rattle.soundness.proofs.WalkLaws.{up-append, used-some}
+use Rattle.soundness.proofs.WalkLaws.{up-append}
 
 -- ── what a sound table's slots satisfy ──
 

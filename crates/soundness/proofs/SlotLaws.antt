@@ -6,29 +6,25 @@ use mathlib.Core.Option.{Option, none, some}
 use Prim.Native.Nat.{ℕ, suc, _+_, _*_, _-_, _/_, _%_, _^_, _≤_, _<_, min}
 use native.Mathlib.Nat.{mod-lt, min-eq-left, min-le-right, add-sub-cancel-left}
 use native.Mathlib.Omega.{arith}
-use lib.ListN.{length, getD, take, drop, replicate, length-append, length-replicate, length-take, length-drop, take-append-drop}
+use lib.ListN.{length, getD, take, drop, length-take, length-drop, take-append-drop}
 use lib.Seq.{take-take, drop-drop, take-all, length-take-le, getD-drop}
 use lib.Dec.{eqb, leb}
 use borrow.Author.Tests.{eq-eqb, ne-eqb, eqb-true, le-leb, leb-true}
 use Rattle.rules.specs.Size.{slots, tableSize}
 use Rattle.rules.specs.Octets.{Octets, same, allZero, padded, bigEndian, bigFrom, field, bitsAt, pack, packFrom}
-use Rattle.rules.specs.Node.{Node, nodeAt}
+use Rattle.rules.specs.Node.{Node}
 use Rattle.rules.specs.Layout.{slotBytes, nodeBits, entryBits, nodeOf, textAt, tableOf}
 use Rattle.rules.specs.Sound.{goodName, goodEntries}
 use Rattle.rules.proofs.Compare.{both-true}
 use Rattle.rules.proofs.Fields.{length-big, take-drop-take, field-part, field-split, field-one, field-bound}
-use Rattle.rules.proofs.Slots.{NodeFits, head-bound}
+use Rattle.rules.proofs.Slots.{NodeFits, head-bound, length-padded}
 use Rattle.rules.proofs.Fitting.{nodeAt-fits, decoded-fits}
 use Rattle.rules.proofs.Reencoding.{both-ways, same-append, same-padded, same-zeros, same-big, bytes-take}
 use Rattle.slots.specs.Slot.{Bytes, slotAt, isUsed, head, nameLength, valueLength, entryCount}
 use Rattle.slots.proofs.Reading.{chunk, meant, head-bytes, used-slot, used-node, used-byte}
-use Rattle.soundness.specs.Parts.{fair, goodSlot, sized, keptEntries, lowDomains, zeroBehind}
+use Rattle.soundness.specs.Parts.{fair, goodSlot, sized, keptEntries, lowDomains, zeroBehind, nameKept}
 use Rattle.soundness.proofs.Tests.{both}
-use Rattle.soundness.proofs.Entries.{counted, packed-bound, entries-low}
-
-length-padded : (k : ℕ) (xs : Octets) → length xs ≤ k → length (padded k xs) ≡ k
-unfolding padded
-length-padded k xs h = length-append xs (replicate (k - length xs) 0) ∙ rw length-replicate (omega arith)
+use Rattle.soundness.proofs.EntryLaws.{counted, packed-bound, entries-low}
 
 -- ── sizes ──
 
@@ -203,8 +199,8 @@ module _ (t : Octets) (bytes : Bytes t) (whole : length t ≡ tableSize) (i : �
     unsized e = sym (all-parts ∙ rw (first-part, e) refl)
 
     -- what is within them is good by its entries, its padding and its name
-    pub within-sizes : sized t i ≡ true → goodSlot t i ≡ keptEntries t i && (zeroBehind t i && goodName i (nodeAt (tableOf t) i .name))
-    unfolding keptEntries zeroBehind nodeOf nameLength valueLength
+    pub within-sizes : sized t i ≡ true → goodSlot t i ≡ keptEntries t i && (zeroBehind t i && nameKept t i)
+    unfolding keptEntries zeroBehind nameKept nodeOf nameLength valueLength
     within-sizes e =
         let s = sizes-of t i e in
         rw (used-node t i h u)
@@ -216,8 +212,8 @@ module _ (t : Octets) (bytes : Bytes t) (whole : length t ≡ tableSize) (i : �
         (allZero (drop (valueLength t i) (take 64 (drop (i * 108 + 44) t))))
         (goodName i (meant t i .name)) (goodEntries (meant t i .owner ∷ meant t i .others))))
       where
-        regroup : (p q r g e : Bool) → (p && (q && r)) && (g && e) ≡ (p && e) && ((q && r) && g)
-        regroup true q r g e = sym (and-assoc (q && r) g e) ∙ and-comm ((q && r) && g) e
+        regroup : (p q r g e : Bool) → (p && (q && r)) && (g && e) ≡ (p && e) && (r && (q && g))
+        regroup true q r g e = sym (and-assoc (q && r) g e) ∙ and-comm ((q && r) && g) e ∙ ap (_&&_ e) (ap (λ (b : Bool). b && g) (and-comm q r) ∙ and-assoc r q g)
         regroup false q r g e = refl
 
         name-padding : Sizes t i → same (padded 32 (meant t i .name)) (take 32 (drop 12 (chunk t i))) ≡ allZero (drop (nameLength t i) (take 32 (drop (i * 108 + 12) t)))

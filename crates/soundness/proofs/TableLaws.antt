@@ -23,14 +23,14 @@ use Rattle.rules.proofs.Reencoding.{both-ways, slots-kept, kept-slot}
 use Rattle.rules.proofs.GoodTables.{node-at, at-node}
 use Rattle.slots.specs.Slot.{Bytes, slotAt, isUsed, nameLength, entryOf}
 use Rattle.slots.proofs.Reading.{node-some}
-use Rattle.slots.proofs.Canonical.{entry-is}
+use Rattle.slots.proofs.Canonical.{entry-is, used-some}
 use Rattle.soundness.specs.declared.answer.Walk.{Walk}
 use Rattle.soundness.specs.declared.answer.Walk.the-variants.{Lost, Root}
 use Rattle.soundness.specs.Parts.{fair, goodSlot, sized, every, Used}
 use Rattle.soundness.specs.Walks.{Short, Walked, Level, chained}
 use Rattle.soundness.proofs.Tests.{both}
 use Rattle.soundness.proofs.SlotLaws.{unsized, sizes-of}
-use Rattle.soundness.proofs.WalkLaws.{used-some, lost-case, root-case, root-reached}
+use Rattle.soundness.proofs.WalkLaws.{lost-case, root-case, root-reached}
 
 -- ── every slot ──
 

@@ -1,6 +1,6 @@
 -- What a walk to the root finds and leaves, step by step.
 use mathlib.Core.Path.{_≡_, refl, sym, ap, _∙_}
-use mathlib.Core.Bool.{Bool, true, false, true≢false, false≢true, cond}
+use mathlib.Core.Bool.{Bool, true, false, true≢false, cond}
 use mathlib.Core.List.{[], _∷_, _++_, append-nil, append-assoc}
 use mathlib.Core.Option.{Option, none, some}
 use Prim.Native.Nat.{ℕ, zero, suc, _+_, _*_, _-_, _≤_, _<_}
@@ -17,6 +17,8 @@ use Rattle.rules.specs.Sound.{reachesRoot}
 use Rattle.rules.proofs.Paste.{paste-nil}
 use Rattle.rules.proofs.Joined.{paste-behind, set-paste}
 use Rattle.rules.proofs.Fitting.{nodeAt-fits, decoded-fits}
+use Rattle.rules.proofs.RelativeLaws.{slashed-append}
+use Rattle.slots.proofs.Canonical.{used-some}
 use Rattle.slots.specs.Slot.{slotAt, isUsed}
 use Rattle.slots.proofs.Reading.{node-some}
 use Rattle.soundness.specs.declared.answer.Walk.{Walk}
@@ -56,11 +58,6 @@ up-append (suc k) ts i ns = by (eqb i 0) (up-append k ts p (n ∷ ns)) (up-appen
         → cond b ns (pathUp k ts p (n ∷ ns)) ≡ cond b [] (pathUp k ts p (n ∷ [])) ++ ns
     by true e f = refl
     by false e f = e ∙ sym (ap (λ (l : Names). l ++ ns) f ∙ append-assoc (pathUp k ts p []) (n ∷ []) ns)
-
-pub slashed-append : (a b : Names) → slashed (a ++ b) ≡ slashed a ++ slashed b
-unfolding slashed
-slashed-append [] b = refl
-slashed-append (n ∷ a) b = ap (λ (l : Octets). 47 ∷ l) (ap (λ (l : Octets). n ++ l) (slashed-append a b) ∙ sym (append-assoc n (slashed a) (slashed b)))
 
 -- a step adds the slot's name behind its parent's text
 text-step : (k : ℕ) (t : Octets) (i : ℕ) → (i ≡ 0 → ⊥) → textTo (suc k) t i ≡ textTo k t (nodeAt (tableOf t) i .parent) ++ (47 ∷ nodeAt (tableOf t) i .name)
@@ -141,10 +138,6 @@ root-case false x at p q = let z : _≡_ {A = ℕ} 0 1 = cc in absurd (omega ari
 unused-none : (x : Option Node) → isUsed x ≡ false → x ≡ none
 unused-none none e = refl
 unused-none (some n) e = absurd (true≢false e)
-
-pub used-some : (x : Option Node) → isUsed x ≡ true → (n : Node) × (x ≡ some n)
-used-some none e = absurd (false≢true e)
-used-some (some n) e = (n, refl)
 
 module _ (t into : Octets) where
   not-reached : (k i : ℕ) → reachesRoot k (tableOf t) i ≡ false → Walked k t i into into Lost

@@ -1,6 +1,6 @@
 -- What the check of a node table asks of each slot by itself.
-use mathlib.Core.Bool.{Bool, true, not, _&&_}
-use mathlib.Core.List.{_∷_}
+use mathlib.Core.Bool.{Bool, true, not, _&&_, _||_}
+use mathlib.Core.List.{[], _∷_}
 use mathlib.Core.Option.{Option, none, some}
 use mathlib.Core.Path.{_≡_}
 use Prim.Native.Nat.{ℕ, zero, suc, _+_, _*_, _/_, _%_, _^_, _<_}
@@ -8,6 +8,7 @@ use lib.ListN.{length, take, drop}
 use lib.Dec.{eqb, leb}
 use Rattle.rules.specs.Size.{slots, slotSize, tableSize, fieldsSize, entriesSize, longestName, longestValue, mostEntries, lastDomain}
 use Rattle.rules.specs.Octets.{Octets, same, allZero, field, pack}
+use Rattle.rules.specs.Path.{isName}
 use Rattle.rules.specs.Node.{Node, nodeAt}
 use Rattle.rules.specs.Layout.{slotBytes, entryBits, tableOf}
 use Rattle.rules.specs.Sound.{goodName, goodEntries}
@@ -49,8 +50,24 @@ lowDomains first rest =
     leb ((first * 1024 + rest / 2 ^ 54) % 65536) lastDomain
     && (leb (rest / 2 ^ 36 % 65536) lastDomain && (leb (rest / 2 ^ 18 % 65536) lastDomain && leb (rest % 65536) lastDomain))
 
--- what stands behind the name and behind the value is zero
+-- what stands behind the value is zero
 unfoldable pub zeroBehind : Octets → ℕ → Bool
-zeroBehind t i =
-    allZero (drop (nameLength t i) (take longestName (drop (i * slotSize + 12) t)))
-    && allZero (drop (valueLength t i) (take longestValue (drop (i * slotSize + 44) t)))
+zeroBehind t i = allZero (drop (valueLength t i) (take longestValue (drop (i * slotSize + 44) t)))
+
+-- half of a name's field
+abbrev pub halfName : ℕ
+halfName = 16
+
+-- each byte is a small letter, or 0 where its last is 0; a byte's last is the greatest that may stand in its place
+unfoldable pub smallLetters : Octets → Octets → Bool
+smallLetters [] ls = true
+smallLetters (c ∷ cs) [] = true
+smallLetters (c ∷ cs) (l ∷ ls) = (leb c l && (leb 97 c || eqb l 0)) && smallLetters cs ls
+
+-- n bytes from `at` on are a name, with zeros behind it in its field
+unfoldable pub keptName : Octets → ℕ → ℕ → Bool
+keptName t at n = allZero (drop n (take longestName (drop at t))) && isName (take n (drop at t))
+
+-- the name of slot i is good, with zeros behind it
+unfoldable pub nameKept : Octets → ℕ → Bool
+nameKept t i = allZero (drop (nameLength t i) (take longestName (drop (i * slotSize + 12) t))) && goodName i (nodeAt (tableOf t) i .name)

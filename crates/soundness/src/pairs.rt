@@ -9,7 +9,7 @@ ghost use Rattle.rules.specs.Node.{nodeAt};
 ghost use Rattle.rules.specs.Layout.{tableOf};
 ghost use Rattle.rules.specs.Sound.{distinct};
 ghost use Rattle.slots.specs.Slot.{slotAt, isUsed};
-ghost use Rattle.soundness.specs.Keys.{digestOf, keyOf, placeOf};
+ghost use Rattle.soundness.specs.Keys.{digestOf, hasKey, keyOf, mayClash, placeOf};
 ghost use Rattle.soundness.specs.Walks.{Short};
 use octets::compare::same;
 use slots::fields::SLOTS;
@@ -32,7 +32,7 @@ fn digest(s: &[u8]) -> usize
     }
     let last = s[n - 1] as usize;
     let second = s[n - 2] as usize;
-    (first * 7 + last + second * 16 + n * 5) % 256
+    ((first + last) * 8 + second + n) % 256
 }
 
 // The key of a slot, 0 if it is unused.
@@ -51,7 +51,35 @@ fn key_of(t: &[u8], i: usize) -> u16
 fn place_of(key: u16) -> usize
     ensures { λ r. ⌜ (r ≡ placeOf key) × (r < 1024) ⌝ }
 {
-    key as usize * 40503 / 64 % 1024
+    key as usize * 847 / 64 % 1024
+}
+
+// Whether a key is among some. Every one is looked at, with one test at the end.
+fn has_key(keys: &[u16; 128], key: u16) -> bool
+    requires { ⌜ length (now keys) ≡ slots ⌝ }
+    ensures { λ r. ⌜ r ≡ hasKey key (now (keys .entry)) ⌝ }
+{
+    let mut found = false;
+    let mut j = 0;
+    while j < SLOTS {
+        found = found | (keys[j] == key);
+        j += 1;
+    }
+    found
+}
+
+// Whether a slot's key may be that of a slot before it, by their places first and then by their keys.
+fn may_clash(taken: &[u8; 1024], keys: &[u16; 128], place: usize, key: u16) -> bool
+    requires { ⌜ (place < 1024) × (length (now keys) ≡ slots) ⌝ }
+    ensures { λ r. ⌜ r ≡ mayClash (now (taken .entry)) (now (keys .entry)) place key ⌝ }
+{
+    if key == 0 {
+        return false;
+    }
+    if taken[place] == 0 {
+        return false;
+    }
+    has_key(keys, key)
 }
 
 fn same_names(t: &[u8], i: usize, j: usize) -> bool
@@ -63,8 +91,8 @@ fn same_names(t: &[u8], i: usize, j: usize) -> bool
     same(a, b)
 }
 
-// Whether no two siblings have one name. A slot is compared with those before it only where one of them has the place of its key, and
-// the look ends at the first pair that has one name.
+// Whether no two siblings have one name. A slot is compared with those before it only where one of them has its key, and the look
+// ends at the first pair that has one name.
 pub fn all_distinct(t: &[u8]) -> bool
     requires { ⌜ Short (now t) ⌝ }
     ensures { λ r. ⌜ r ≡ distinct (tableOf (now (t .entry))) ⌝ }
@@ -76,7 +104,7 @@ pub fn all_distinct(t: &[u8]) -> bool
     'pairs: while i < SLOTS {
         let key = key_of(t, i);
         let place = place_of(key);
-        if (taken[place] != 0) & (key != 0) {
+        if may_clash(&taken, &keys, place, key) {
             let mut j = 0;
             while j < i {
                 if keys[j] == key {

@@ -1,7 +1,7 @@
 -- A change added to an open transaction: what that leaves.
 use mathlib.Core.Path.{_≡_, refl, sym, ap, ap₂, _∙_}
 use mathlib.Core.Bool.{Bool, true, false}
-use mathlib.Core.List.{List, [], _∷_, _++_, flatMap, append-assoc, append-nil}
+use mathlib.Core.List.{[], _∷_, _++_, flatMap}
 use mathlib.Core.Option.{some}
 use Prim.Native.Nat.{ℕ, suc, _+_, _*_, _/_, _%_, _≤_, _<_}
 use native.Mathlib.Nat.{add-zero, add-assoc}
@@ -14,15 +14,16 @@ use Rattle.rules.specs.Octets.{Octets, padded, paste, bit}
 use Rattle.rules.specs.Path.{pathText, namesIn, isFull}
 use Rattle.rules.specs.Layout.{Transaction, changeBytes, transactionBytes, transactionIn, transactionsBytes, transactionsOf}
 use Rattle.rules.proofs.PathLaws.{full}
-use Rattle.rules.proofs.Tables.{Each, each-map, length-encoded, paste-past}
+use Rattle.rules.proofs.Tables.{each-map, length-encoded, paste-past, flat-last, each-append}
 use Rattle.rules.proofs.Paste.{paste-sets, paste-append, length-paste}
-use Rattle.rules.proofs.EntryLayouts.{ChangeFits, TransactionFits, transaction-width, transaction-read}
-use Rattle.tables.specs.Kept.{KeptTransactions}
+use Rattle.rules.proofs.TransactionLayouts.{ChangeFits, TransactionFits, transaction-width}
+use Rattle.rules.proofs.Fields.{bit-small}
+use Rattle.rules.proofs.Joined.{set-paste}
 use Rattle.tables.specs.Transaction.{transactionOf, changeGiven, changedBy, Room}
-use Rattle.tables.proofs.Rows.{length-padded, wrote, wrote-kept}
-use Rattle.tables.proofs.Parts.{paste-row, set-paste, paste-twice, row-pasted, padded-more}
+use Rattle.rules.proofs.Slots.{length-padded}
+use Rattle.tables.proofs.Rows.{wrote}
+use Rattle.tables.proofs.Parts.{paste-row, paste-twice, row-pasted, padded-more}
 use Rattle.tables.proofs.TransactionLaws.{threeOf, transaction-parts, transaction-wide, row-parts, first-is, open-fits}
-use Rattle.tables.proofs.WatchLaws.{bit-small}
 use Rattle.tables.proofs.ChangeLaws.{change-parts, change-wide}
 
 -- ── the change's own bytes ──
@@ -57,15 +58,6 @@ put-two s at r p h f hp m e =
 
 -- ── the transaction's bytes ──
 
-flat-append : {A : Type 0} (f : A → Octets) (xs : List A) (y : A) → flatMap f (xs ++ y ∷ []) ≡ flatMap f xs ++ f y
-unfolding flatMap
-flat-append f [] y = append-nil (f y)
-flat-append f (x ∷ xs) y = ap (λ (r : Octets). f x ++ r) (flat-append f xs y) ∙ sym (append-assoc (f x) (flatMap f xs) (f y))
-
-each-append : {A : Type 0} (P : A → Type 0) (xs : List A) (y : A) → Each P xs → P y → Each P (xs ++ y ∷ [])
-each-append P [] y e p = (p, tt)
-each-append P (x ∷ xs) y e p = (e .0, each-append P xs y (e .1) p)
-
 module _ (x : Transaction) (f : TransactionFits x) (few : length (x .changes) < 8) (r : Bool) (p : Octets) (full : isFull p ≡ true) (short : length p ≤ 264) where
   longer : length (x .changes ++ changeGiven r p ∷ []) ≡ length (x .changes) + 1
   longer = length-append (x .changes) (changeGiven r p ∷ [])
@@ -76,7 +68,7 @@ module _ (x : Transaction) (f : TransactionFits x) (few : length (x .changes) < 
       record {
         holder = f .holder;
         few = rw longer (omega arith);
-        changes = each-append ChangeFits (x .changes) (changeGiven r p) (f .changes) (given-fits r p full short);
+        changes = each-append ChangeFits (x .changes) (changeGiven r p ∷ []) (f .changes) (given-fits r p full short, tt);
       }
 
   rows-long : length (flatMap changeBytes (x .changes)) ≡ length (x .changes) * 266
@@ -95,7 +87,7 @@ module _ (x : Transaction) (f : TransactionFits x) (few : length (x .changes) < 
       let more = padded-more 2128 rows c (rw (rl, wide) (omega arith)) in
       ap (paste 0 (b ∷ [])) (paste-past (threeOf x) (padded 2128 rows) c (length (x .changes) * 266))
       ∙ first-set b (128 + 64 * bit (x .stale) + length (x .changes)) _ _ (paste (length (x .changes) * 266) c (padded 2128 rows))
-      ∙ ap₂ (λ (m : ℕ) (t : Octets). m ∷ (x .holder / 256 % 256) ∷ (x .holder % 256) ∷ t) n (sym (rw rl at more) ∙ ap (padded 2128) (sym (flat-append changeBytes (x .changes) (changeGiven r p))))
+      ∙ ap₂ (λ (m : ℕ) (t : Octets). m ∷ (x .holder / 256 % 256) ∷ (x .holder % 256) ∷ t) n (sym (rw rl at more) ∙ ap (padded 2128) (sym (flat-last changeBytes (x .changes) (changeGiven r p))))
       ∙ sym (transaction-parts (changedBy x r p) (f .holder) (changed-fits .few))
     where
       first-set : (b u v w : ℕ) (t : Octets) → paste 0 (b ∷ []) (u ∷ v ∷ w ∷ t) ≡ b ∷ v ∷ w ∷ t
@@ -144,11 +136,3 @@ module _ (s : Octets) (k : ℕ) (p : Octets) (room : Room s k p) (r : Bool) wher
       ∙ paste-twice s at R (paste 0 (b ∷ []) R) (omega arith) (length-paste 0 (b ∷ []) R (rw lR (lit≤ tt)))
       ∙ ap (λ (q : Octets). paste at q s) bytes
       ∙ sym (wrote transactionBytes transactionIn transactionSize transaction-wide mostTransactions s (room .place .kept) k (some (changedBy x r p)) (room .place .below) (transaction-width (some (changedBy x r p)) (changed-fits x fits few r p (room .full) (room .short))))
-
-  -- what the bytes are and mean after a change is added
-  pub changed-kept : (t : Octets) → t ≡ transactionsBytes (set (transactionsOf s) k (some (changedBy x r p)))
-      → KeptTransactions t × (transactionsOf t ≡ set (transactionsOf s) k (some (changedBy x r p)))
-  unfolding transactionsOf transactionsBytes
-  changed-kept =
-      let f = changed-fits x fits (room .few) r p (room .full) (room .short) in
-      wrote-kept transactionBytes transactionIn transactionSize transaction-wide mostTransactions s (room .place .kept) k (some (changedBy x r p)) (record { width = transaction-width (some (changedBy x r p)) f; back = transaction-read (some (changedBy x r p)) f })

@@ -13,13 +13,13 @@ use Rattle.rules.specs.Octets.{Octets, padded, bigEndian, bit, pack, packFrom, 
 use Rattle.rules.specs.Path.{pathText}
 use Rattle.rules.specs.Answer.{Change}
 use Rattle.rules.specs.Layout.{Transaction, changeBytes}
-use Rattle.rules.proofs.Fields.{take-drop-take}
+use Rattle.rules.proofs.Fields.{take-drop-take, bit-small}
 use Rattle.rules.proofs.Tables.{Each, each-at, each-map, Wide, encoded-at, length-encoded}
-use Rattle.rules.proofs.EntryLayouts.{ChangeFits, TransactionFits}
+use Rattle.rules.proofs.TransactionLayouts.{ChangeFits, TransactionFits}
 use Rattle.tables.specs.Two.{Two}
 use Rattle.tables.specs.Transaction.{noChange, transactionOf, changeOf, HasChange}
-use Rattle.tables.proofs.Rows.{part-listed, length-padded}
-use Rattle.tables.proofs.WatchLaws.{bit-small}
+use Rattle.rules.proofs.Slots.{length-padded}
+use Rattle.tables.proofs.Rows.{part-listed}
 use Rattle.tables.proofs.TransactionLaws.{threeOf, row-parts, open-fits}
 
 -- ── the bytes of a change ──

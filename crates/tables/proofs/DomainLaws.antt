@@ -11,7 +11,6 @@ use lib.Dec.{eqb, leb}
 use borrow.Author.Tests.{le-leb, lt-leb, eq-eqb, ne-eqb, leb-true, leb-false, eqb-true}
 use Rattle.rules.specs.Size.{mostDomains, domainSize, domainsSize}
 use Rattle.rules.specs.Octets.{Octets, same, allZero, paste, field, bitsAt, bigEndian, pack, packFrom, _bits_}
-use Rattle.rules.specs.Entries.{without}
 use Rattle.rules.specs.Path.{Domain}
 use Rattle.rules.specs.Layout.{Domains, domainIn, domainBytes, domainsBytes, domainsOf}
 use Rattle.rules.specs.Sound.{introduced, goodDomains, soundDomains}
@@ -25,7 +24,8 @@ use Rattle.tables.specs.Kept.{keptAt, KeptDomains}
 use Rattle.tables.specs.Good.{goodDomain}
 use Rattle.tables.proofs.Bytes.{agree, taken-cond, entry-cond}
 use Rattle.tables.proofs.Search.{free-none, taken-some, goods-next, swept}
-use Rattle.tables.proofs.Rows.{length-table, same-first, same-zeros, part-listed, keptFrom, kept-start, kept-next, kept-end, Writable, wrote, wrote-kept, freed, left, dropped-kept, without-kept}
+use Rattle.rules.proofs.Reencoding.{same-zeros}
+use Rattle.tables.proofs.Rows.{length-table, same-first, part-listed, keptFrom, kept-start, kept-next, kept-end, Writable, wrote, freed, left, dropped-kept}
 
 pub domain-wide : (m : Option Domain) → length (domainBytes m) ≡ domainSize
 unfolding domainBytes
@@ -194,11 +194,6 @@ module _ (s : Octets) (c : KeptDomains s) (k : ℕ) (h : k < mostDomains) where
   unfolding domainsOf domainsBytes
   swept-domain test = dropped-kept domainBytes domainIn domainSize wide mostDomains s c k h empty test
 
-  -- what the bytes are and mean after a domain is put in
-  pub put-kept : (d : ℕ) → d < 65536 → (t : Octets) → t ≡ domainsBytes (set (domainsOf s) k (some d)) → KeptDomains t × (domainsOf t ≡ set (domainsOf s) k (some d))
-  unfolding domainsOf domainsBytes
-  put-kept d l = wrote-kept domainBytes domainIn domainSize wide mostDomains s c k (some d) (record { width = domain-wide (some d); back = domain-read (some d) l })
-
 pub sound-kept : (s : Octets) → soundDomains s ≡ true → KeptDomains s
 unfolding soundDomains domainsOf domainsBytes
 sound-kept s h =
@@ -209,9 +204,3 @@ sound-kept s h =
 pub kept-domains : (s : Octets) → KeptDomains s → domainsBytes (domainsOf s) ≡ s
 unfolding domainsOf domainsBytes
 kept-domains s c = c .same
-
--- what the bytes are and mean after entries are taken out
-pub without-domains : (s : Octets) → KeptDomains s → (test : Domain → Bool) (t : Octets) → t ≡ domainsBytes (without test (domainsOf s))
-    → KeptDomains t × (domainsOf t ≡ without test (domainsOf s))
-unfolding domainsOf domainsBytes
-without-domains s c = without-kept domainBytes domainIn domainSize wide mostDomains s c empty

@@ -18,7 +18,7 @@ use Rattle.rules.specs.Layout.{Domains, Transaction, Transactions, transactions
 use Rattle.rules.specs.Sound.{known, goodChange, goodChanges, goodTransactions, soundTransactions, soundTable}
 use Rattle.rules.proofs.Compare.{both-true, same-eq}
 use Rattle.rules.proofs.PathLaws.{text-full, text-names}
-use Rattle.rules.proofs.EntryLayouts.{ChangeFits}
+use Rattle.rules.proofs.TransactionLayouts.{ChangeFits}
 use Rattle.tables.specs.Entry.{taken, entryOr}
 use Rattle.tables.specs.Kept.{KeptTransactions}
 use Rattle.tables.specs.Transaction.{opened, noChange}

@@ -3,6 +3,7 @@ pub mod Rows
 pub mod Search
 pub mod DomainLaws
 pub mod WatchLaws
+pub mod WatchBytes
 pub mod WatchChanges
 pub mod WatchKept
 pub mod WatchGood
@@ -12,4 +13,5 @@ pub mod ChangeLaws
 pub mod ChangeAdded
 pub mod TransactionChanges
 pub mod EntriesKept
+pub mod ChangesKept
 pub mod EntriesGood

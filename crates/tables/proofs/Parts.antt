@@ -1,14 +1,14 @@
 -- Bytes put into a part of a table.
 use mathlib.Core.Path.{_≡_, sym, ap, ap₂, _∙_}
-use mathlib.Core.List.{[], _∷_, _++_, append-assoc}
-use Prim.Native.Nat.{ℕ, zero, suc, _+_, _-_, _≤_, _<_}
+use mathlib.Core.List.{_++_, append-assoc}
+use Prim.Native.Nat.{ℕ, zero, suc, _+_, _-_, _≤_}
 use native.Mathlib.Nat.{add-zero, zero-add, sub-zero, zero-sub, suc-sub-suc}
 use native.Mathlib.Omega.{arith}
-use lib.ListN.{length, take, drop, set, replicate, length-append, length-drop, take-append-drop}
+use lib.ListN.{length, take, drop, replicate, length-append, length-drop, take-append-drop}
 use lib.Seq.{take-at, drop-at, take-append-le, drop-append-le, drop-drop, length-take-le}
 use Rattle.rules.specs.Octets.{Octets, padded, paste}
 use Rattle.rules.proofs.Tables.{paste-past}
-use Rattle.rules.proofs.Paste.{paste-sets, length-paste}
+use Rattle.rules.proofs.Paste.{length-paste}
 
 -- what is put into a first part leaves what follows alone
 pub paste-front : (p : ℕ) (ys a z : Octets) → p + length ys ≤ length a → paste p ys (a ++ z) ≡ paste p ys a ++ z
@@ -36,9 +36,6 @@ paste-row s at k p ys h hp =
     ∙ ap (λ (r : Octets). take at s ++ r) (sym (paste-front p ys row rest (rw l hp)))
     ∙ sym (rw f at past)
     ∙ ap (paste (at + p) ys) whole
-
-pub set-paste : (s : Octets) (i v : ℕ) → i < length s → set s i v ≡ paste i (v ∷ []) s
-set-paste s i v h = paste-sets i (v ∷ []) s (omega arith)
 
 -- bytes put in twice: the second remain
 pub paste-twice : (s : Octets) (i : ℕ) (a b : Octets) → i ≤ length s → length b ≡ length a → paste i b (paste i a s) ≡ paste i b s

@@ -1,13 +1,13 @@
 -- Tables of places of one width: whether the bytes re-encode to themselves, place by place, and what a written place leaves of bytes that do.
 use mathlib.Core.Path.{_≡_, refl, sym, ap, _∙_}
-use mathlib.Core.Bool.{Bool, true, false, _&&_, and-assoc, and-true}
+use mathlib.Core.Bool.{Bool, true, false, _&&_, and-true}
 use mathlib.Core.List.{List, [], _∷_, _++_, map, flatMap}
 use mathlib.Core.Option.{Option, none, some}
 use Prim.Native.Nat.{ℕ, zero, suc, _+_, _*_, _-_, _≤_, _<_, zero-le, suc-le-suc}
 use native.Mathlib.Nat.{suc-mul, zero-mul, sub-zero, add-suc, add-sub-cancel-left, mul-le-mul-right}
 use native.Mathlib.Numerals.{add-one}
 use native.Mathlib.Omega.{arith}
-use lib.ListN.{length, getD, take, drop, set, length-map, length-drop, length-set, length-take, take-append-drop, drop-of-length-le, replicate, length-append, length-replicate}
+use lib.ListN.{length, getD, take, drop, set, length-map, length-drop, length-set, length-take, take-append-drop, drop-of-length-le, replicate}
 use lib.Seq.{drop-drop, drop-cons, take-take, length-take-le, set-getD}
 use lib.Dec.{eqb}
 use borrow.Author.Tests.{eq-eqb, ne-eqb, eqb-true, eqb-false}
@@ -18,6 +18,7 @@ use Rattle.rules.proofs.Cases.{cond-case}
 use Rattle.rules.proofs.Compare.{same-refl}
 use Rattle.rules.proofs.Tables.{Each, Wide, each-at, each-set, length-chunks, decoded-at, encoded-at, length-encoded, written, decoded, each-map}
 use Rattle.rules.specs.Entries.{without}
+use Rattle.rules.proofs.Reencoding.{same-zeros, same-append}
 use Rattle.tables.specs.Entry.{passes, droppedIf}
 use Rattle.tables.specs.Kept.{Kept, keptAt}
 use Rattle.tables.proofs.Bytes.{agree}
@@ -30,14 +31,6 @@ eqb-swap x y = agree (λ p. eq-eqb y x (sym (eqb-true x y p))) (λ p. ne-eqb y x
 pub same-first : (x y : ℕ) (r : Octets) → same (x ∷ r) (y ∷ r) ≡ eqb y x
 unfolding same
 same-first x y r = rw (same-refl r, and-true) (eqb-swap x y)
-
--- zeros and some bytes
-pub same-zeros : (n : ℕ) (r : Octets) → length r ≡ n → same (replicate n 0) r ≡ allZero r
-unfolding same allZero
-same-zeros zero [] e = refl
-same-zeros zero (x ∷ r) e = absurd (omega arith)
-same-zeros (suc n) [] e = absurd (omega arith)
-same-zeros (suc n) (x ∷ r) e = rw (same-zeros n r (omega arith)) (ap (λ (b : Bool). b && allZero r) (eqb-swap 0 x))
 
 -- one more byte of a part
 pub part-next : (s : Octets) (p n : ℕ) → p < length s → take (suc n) (drop p s) ≡ getD s p 0 ∷ take n (drop (suc p) s)
@@ -62,24 +55,12 @@ text-part s p size j k n hn hk =
     ∙ ap (take n) (sym (drop-drop j p s))
     ∙ sym (take-take n k _ hn ∙ take-drop-take n j size (drop p s) (omega arith))
 
-pub length-padded : (k : ℕ) (xs : Octets) → length xs ≤ k → length (padded k xs) ≡ k
-unfolding padded
-length-padded k xs h = length-append xs (replicate (k - length xs) 0) ∙ rw length-replicate (omega arith)
-
--- the same bytes in two parts
-pub same-parts : (a b c d : Octets) → length a ≡ length c → same (a ++ b) (c ++ d) ≡ (same a c && same b d)
-unfolding same
-same-parts [] b [] d e = refl
-same-parts [] b (y ∷ c) d e = absurd (omega arith)
-same-parts (x ∷ a) b [] d e = absurd (omega arith)
-same-parts (x ∷ a) b (y ∷ c) d e = rw (same-parts a b c d (omega arith)) (sym (and-assoc (eqb x y) (same a c) (same b d)))
-
 -- a text padded to the part that it is taken from: the rest of that is zero
 pub same-padded : (n : ℕ) (r : Octets) → same (padded (length r) (take n r)) r ≡ allZero (drop n r)
 unfolding padded
 same-padded n r =
     ap (same (take n r ++ replicate (length r - length (take n r)) 0)) (sym (take-append-drop n r))
-    ∙ same-parts (take n r) (replicate (length r - length (take n r)) 0) (take n r) (drop n r) refl
+    ∙ same-append (take n r) (replicate (length r - length (take n r)) 0) (take n r) (drop n r) refl
     ∙ rw (same-refl (take n r)) (same-zeros (length r - length (take n r)) (drop n r) (rw (length-drop, length-take) (omega arith)))
 
 module _ {A : Type 0} (encode : Option A → Octets) (decode : Octets → Option A) (k : ℕ) (wide : (r : Octets) → length (encode (decode r)) ≡ k) where
@@ -106,7 +87,7 @@ module _ {A : Type 0} (encode : Option A → Octets) (decode : Octets → Option
   unfolding chunks flatMap
   kept-parts m r h =
       ap (same (encode (decode (take k r)) ++ flatMap encode (table m (drop k r)))) (sym (take-append-drop k r))
-      ∙ same-parts _ _ _ _ (wide (take k r) ∙ sym (length-take-le k r h))
+      ∙ same-append _ _ _ _ (wide (take k r) ∙ sym (length-take-le k r h))
 
   pub kept-start : (n : ℕ) (s : Octets) → same (flatMap encode (table n s)) s ≡ keptFrom n s 0
   kept-start n s = rw (zero-mul, sub-zero)

@@ -16,13 +16,15 @@ use Rattle.rules.specs.Layout.{Transaction, Transactions, changeBytes, transact
 use Rattle.rules.specs.World.{staled}
 use Rattle.rules.proofs.Paste.{paste-sets, paste-append, length-paste}
 use Rattle.rules.proofs.Tables.{each-at}
-use Rattle.rules.proofs.EntryLayouts.{TransactionFits, MaybeTransaction, transaction-width, transaction-read, decoded-transactions-fit}
+use Rattle.rules.proofs.DecodedEntries.{decoded-transactions-fit}
+use Rattle.rules.proofs.TransactionLayouts.{TransactionFits, MaybeTransaction, transaction-width, transaction-read}
+use Rattle.rules.proofs.Joined.{set-paste}
 use Rattle.tables.specs.Entry.{taken, passes, droppedIf}
 use Rattle.tables.specs.Kept.{KeptTransactions}
 use Rattle.tables.specs.Transaction.{opened, transactionOf, staleOf}
 use Rattle.tables.proofs.Search.{free-none, taken-some, swept, swept-all}
-use Rattle.tables.proofs.Rows.{Writable, wrote, wrote-kept, swept-kept, freed, left, dropped-kept, mapped-kept, without-kept}
-use Rattle.tables.proofs.Parts.{paste-row, set-paste}
+use Rattle.tables.proofs.Rows.{Writable, wrote, wrote-kept, swept-kept, freed, left, dropped-kept, without-kept}
+use Rattle.tables.proofs.Parts.{paste-row}
 use Rattle.tables.proofs.TransactionLaws.{threeOf, transaction-parts, transaction-wide, length-transactionsOf, row-parts, changes-read, open-fits}
 
 abbrev CanWrite : Option Transaction → Type 0
@@ -95,11 +97,6 @@ module _ (s : Octets) (c : KeptTransactions s) (k : ℕ) (h : k < mostTransactio
   unfolding transactionsOf transactionsBytes
   close-kept = wrote-kept transactionBytes transactionIn transactionSize transaction-wide mostTransactions s c k none (writable none tt)
 
-  pub open-kept : (o : ℕ) → o < 65536 → (t : Octets) → t ≡ transactionsBytes (set (transactionsOf s) k (some (opened o)))
-      → KeptTransactions t × (transactionsOf t ≡ set (transactionsOf s) k (some (opened o)))
-  unfolding transactionsOf transactionsBytes
-  open-kept o ho = wrote-kept transactionBytes transactionIn transactionSize transaction-wide mostTransactions s c k (some (opened o)) (writable (some (opened o)) (opened-fits o ho))
-
   -- ── an open place ──
 
   pub put-open : (o : ℕ) → o < 65536
@@ -160,11 +157,3 @@ pub without-transactions : (s : Octets) → KeptTransactions s → (test : Trans
     → KeptTransactions t × (transactionsOf t ≡ without test (transactionsOf s))
 unfolding transactionsOf transactionsBytes
 without-transactions s c = without-kept transactionBytes transactionIn transactionSize transaction-wide mostTransactions s c (writable none tt)
-
-pub staled-transactions : (s : Octets) → KeptTransactions s → (t : Octets) → t ≡ transactionsBytes (staled (transactionsOf s))
-    → KeptTransactions t × (transactionsOf t ≡ staled (transactionsOf s))
-unfolding transactionsOf transactionsBytes
-staled-transactions s c t e =
-    let w = staled-map (transactionsOf s) in
-    let r = mapped-kept transactionBytes transactionIn transactionSize transaction-wide mostTransactions s c staleOf (λ i h. stale-writable (getD (transactionsOf s) i none) (place-fits s c i h)) t (e ∙ ap transactionsBytes (sym w)) in
-    (r .0, r .1 ∙ w)

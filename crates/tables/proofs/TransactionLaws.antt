@@ -3,7 +3,7 @@ use mathlib.Core.Path.{_≡_, refl, sym, ap, _∙_}
 use mathlib.Core.Bool.{true, cond}
 use mathlib.Core.List.{[], _∷_, _++_, flatMap}
 use mathlib.Core.Option.{none, some}
-use Prim.Native.Nat.{ℕ, _+_, _*_, _-_, _/_, _%_, _≤_, _<_}
+use Prim.Native.Nat.{ℕ, _+_, _*_, _/_, _%_, _≤_, _<_}
 use native.Mathlib.Nat.{add-zero, mod-lt}
 use native.Mathlib.Omega.{arith}
 use lib.ListN.{length, getD, take, drop}
@@ -13,9 +13,10 @@ use borrow.Author.Tests.{eq-eqb, ne-eqb, leb-true, leb-false}
 use Rattle.rules.specs.Size.{mostTransactions, transactionSize, transactionsSize}
 use Rattle.rules.specs.Octets.{Octets, field, bitsAt, bigEndian, bit, padded, pack, packFrom, _bits_}
 use Rattle.rules.specs.Layout.{Transaction, changeBytes, transactionBytes, transactionIn, transactionAt, transactionsOf}
-use Rattle.rules.proofs.Fields.{field-part, field-three}
+use Rattle.rules.proofs.Fields.{field-part, field-three, bit-small, bit-back}
 use Rattle.rules.proofs.Cases.{cond-case}
-use Rattle.rules.proofs.EntryLayouts.{TransactionFits, MaybeTransaction, transaction-width, transaction-decoded, transaction-at}
+use Rattle.rules.proofs.DecodedEntries.{transaction-decoded}
+use Rattle.rules.proofs.TransactionLayouts.{TransactionFits, MaybeTransaction, transaction-width, transaction-at}
 use Rattle.tables.specs.Entry.{taken, entryOr}
 use Rattle.tables.specs.Two.{Bytes, Two}
 use Rattle.tables.specs.Kept.{KeptTransactions}
@@ -23,7 +24,6 @@ use Rattle.tables.specs.Transaction.{opened, transactionOf}
 use Rattle.tables.proofs.Bytes.{agree, taken-cond, entry-cond}
 use Rattle.tables.proofs.Search.{taken-some}
 use Rattle.tables.proofs.Rows.{length-table, part-listed, place-bytes}
-use Rattle.tables.proofs.WatchLaws.{bit-small, bit-back}
 
 -- ── the bytes of a transaction ──
 

@@ -26,8 +26,9 @@ use Rattle.tables.specs.Watch.{depthMeant, Placed, full, named, FitWatch
 use Rattle.tables.specs.declared.Depth.{Depth}
 use Rattle.tables.specs.declared.Depth.the-variants.{To, Any}
 use Rattle.tables.proofs.Search.{swept}
-use Rattle.tables.proofs.Rows.{length-padded, Writable, wrote, wrote-kept, freed, left, dropped-kept, without-kept}
-use Rattle.tables.proofs.WatchLaws.{place-given, Narrow, watch-parts, narrow-width, watch-wide}
+use Rattle.rules.proofs.Slots.{length-padded}
+use Rattle.tables.proofs.Rows.{Writable, wrote, wrote-kept, freed, left, dropped-kept, without-kept}
+use Rattle.tables.proofs.WatchBytes.{place-given, Narrow, watch-parts, narrow-width, watch-wide}
 
 -- ── what a place can hold ──
 

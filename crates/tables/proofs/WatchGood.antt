@@ -30,9 +30,11 @@ use Rattle.tables.specs.Watch.{nobody, depthMeant, watchOf}
 use Rattle.tables.specs.declared.Depth.{Depth}
 use Rattle.tables.specs.Kept.{KeptWatches}
 use Rattle.tables.specs.Good.{goodWatchAt}
+use Rattle.tables.specs.WatchKept.{placeSame}
 use Rattle.tables.proofs.Search.{free-none, taken-some, goods-next}
-use Rattle.tables.proofs.WatchLaws.{place-given, place-again}
-use Rattle.tables.proofs.WatchKept.{special-long}
+use Rattle.tables.proofs.WatchBytes.{place-given, empty-is}
+use Rattle.tables.proofs.WatchLaws.{place-again}
+use Rattle.tables.proofs.WatchKept.{same-place, special-long, place-malformed}
 
 -- ── a token ──
 
@@ -130,6 +132,18 @@ module _ (c : Connection) (m : Option ℕ) (r : Bool) (x : Octets) where
   pub good-nowhere : placeIn r x ≡ event [] → goodPlace c m (placeIn r x) ≡ false
   unfolding goodPlace
   good-nowhere e = ap (goodPlace c m) e
+
+  pub good-empty : length x ≡ 0 → goodPlace c m (placeIn r x) ≡ false
+  unfolding given
+  good-empty z = good-nowhere (place-malformed r x (sym (ap given (empty-is x (sym z)))))
+
+-- the fields that the code read are those of the place that they mean
+pub read-same : (s : Octets) (k : ℕ) → (h : k < mostWatches) → Bytes s → KeptWatches s → taken (getD (watchesOf s) k none) ≡ true
+    → {r : Bool} {p : Octets} → r ≡ isRelative (watchOf s k .place) → p ≡ placeText (watchOf s k .place) → placeSame r p ≡ true
+unfolding placeSame
+read-same s k h bytes c u {r} {p} er ep =
+    let q : placeIn r p ≡ watchOf s k .place = rw (er, ep) (place-again s k h bytes c u) in
+    same-place (placeIn r p) p r (ap placeText q ∙ sym ep) (er ∙ sym (ap isRelative q))
 
 -- what the code asks of the fields that it read
 pub place-agree : (d : Depth) (s : Octets) (k : ℕ) → (h : k < mostWatches) → Bytes s → KeptWatches s → taken (getD (watchesOf s) k none) ≡ true

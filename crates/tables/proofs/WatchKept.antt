@@ -4,20 +4,20 @@ use mathlib.Core.Bool.{Bool, true, false, cond, not, _&&_, _||_, true≢false, o
 use mathlib.Core.List.{[], _∷_, _++_}
 use mathlib.Core.Option.{none, some}
 use Prim.Native.Nat.{ℕ, zero, suc, _+_, _*_, _-_, _/_, _%_, _≤_, _<_}
-use native.Mathlib.Nat.{add-sub-cancel-left, sub-zero, zero-sub, suc-sub-suc}
+use native.Mathlib.Nat.{add-sub-cancel-left}
 use native.Mathlib.Omega.{arith}
 use lib.ListN.{length, getD, take, drop, length-drop}
-use lib.Seq.{take-add, take-take, drop-drop, length-take-le, take-nil}
+use lib.Seq.{take-add, take-take, drop-drop, length-take-le}
 use lib.Dec.{eqb, leb, lit≤}
 use borrow.Author.Tests.{le-leb, lt-leb, eqb-true, leb-true}
 use Rattle.rules.specs.Size.{mostWatches, watchSize, watchesSize}
-use Rattle.rules.specs.Octets.{Octets, same, allZero, padded, field, bitsAt, bit}
-use Rattle.rules.specs.Path.{Names, Given, malformed, absolute, relative, special, given, namesIn, isFull, split}
+use Rattle.rules.specs.Octets.{Octets, same, allZero, padded, field, bitsAt, bit, text}
+use Rattle.rules.specs.Path.{Names, Given, malformed, absolute, relative, special, given, introduceName, releaseName, namesIn, isFull, split}
 use Rattle.rules.specs.Payload.{Place, event}
 use Rattle.rules.specs.Event.{Watch, placeText}
 use Rattle.rules.specs.Layout.{textAt, isRelative, placeIn, watchBytes, watchIn, watchAt, watchesBytes, watchesOf}
 use Rattle.rules.proofs.Compare.{both-true, same-length, same-eq, eq-same, same-refl}
-use Rattle.rules.proofs.PathLaws.{full, full-given}
+use Rattle.rules.proofs.PathLaws.{full, full-given, full-slash, given-is-full, given-event}
 use Rattle.rules.proofs.Places.{is-false}
 use Rattle.rules.proofs.EntryLayouts.{watch-at}
 use Rattle.tables.specs.Entry.{taken, entryOr}
@@ -26,8 +26,11 @@ use Rattle.tables.specs.Kept.{keptAt}
 use Rattle.tables.specs.Watch.{nobody, pathLength, tokenLength}
 use Rattle.tables.specs.WatchKept.{placeSame, depthSame, fieldsSame, restZero}
 use Rattle.tables.proofs.Search.{free-none, taken-some}
-use Rattle.tables.proofs.Rows.{same-parts, same-zeros, same-padded, length-padded, text-part, keptFrom, kept-start, kept-next, kept-end}
-use Rattle.tables.proofs.WatchLaws.{meantBy, place-given, empty-is, watch-wide, used-byte, is-read, OwnBytes, sixOf, watch-parts, read-narrow, six-listed, path-within, path-text, relative-said, fields-said, lengths, marks, owner-is}
+use Rattle.rules.proofs.Reencoding.{same-zeros, same-append}
+use Rattle.rules.proofs.Slots.{length-padded}
+use Rattle.tables.proofs.Rows.{same-padded, text-part, keptFrom, kept-start, kept-next, kept-end}
+use Rattle.tables.proofs.WatchBytes.{meantBy, place-given, empty-is, watch-wide, sixOf, watch-parts, read-narrow}
+use Rattle.tables.proofs.WatchLaws.{used-byte, is-read, OwnBytes, six-listed, path-within, path-text, relative-said, fields-said, lengths, marks, owner-is}
 
 -- ── the loop over the places ──
 
@@ -47,20 +50,7 @@ rest-end s h i l = kept-end watchBytes watchIn watchSize watch-wide mostWatches 
 
 -- ── a place ──
 
-pub drop-take : (n k : ℕ) (l : Octets) → drop n (take k l) ≡ take (k - n) (drop n l)
-drop-take zero k l = rw sub-zero
-drop-take (suc n) zero l = rw zero-sub
-drop-take (suc n) (suc k) [] = sym (take-nil (suc k - suc n))
-drop-take (suc n) (suc k) (x ∷ l) = rw suc-sub-suc (drop-take n k l)
-
--- the rest of a field, as the part that the code looks at
-pub rest-part : (s : Octets) (at n size : ℕ) → allZero (take (at + size - (at + n)) (drop (at + n) s)) ≡ restZero s at n size
-unfolding restZero
-rest-part s at n size =
-    let e : at + size - (at + n) ≡ size - n = omega arith in
-    ap allZero (rw e (sym (drop-take n size (drop at s) ∙ ap (take (size - n)) (drop-drop n at s))))
-
-same-place : (p : Place) (x : Octets) (r : Bool) → placeText p ≡ x → r ≡ isRelative p → (same (placeText p) x && (not r || isRelative p)) ≡ true
+pub same-place : (p : Place) (x : Octets) (r : Bool) → placeText p ≡ x → r ≡ isRelative p → (same (placeText p) x && (not r || isRelative p)) ≡ true
 same-place p x r e m = rw (eq-same e, ← m) (go r)
   where
     go : (b : Bool) → (not b || b) ≡ true
@@ -122,6 +112,37 @@ relative-long x e = given-long x λ q. relative-not (split x) (sym e ∙ q)
 
 pub special-long : (x : Octets) → given x ≡ special x → length x ≡ 0 → ⊥
 special-long x e = given-long x λ q. special-not x (sym e ∙ q)
+
+event-slash : (x : Octets) → (same x introduceName || same x releaseName) ≡ true → getD x 0 0 ≡ 47 → ⊥
+unfolding introduceName releaseName text
+event-slash x e h = go (same x introduceName) refl e
+  where
+    go : (b : Bool) → same x introduceName ≡ b → (b || same x releaseName) ≡ true → ⊥
+    go true i e = let z : _≡_ {A = ℕ} 64 47 = sym (ap (λ (y : Octets). getD y 0 0) (same-eq x introduceName i)) ∙ h in omega arith
+    go false i e = let z : _≡_ {A = ℕ} 64 47 = sym (ap (λ (y : Octets). getD y 0 0) (same-eq x releaseName e)) ∙ h in omega arith
+
+-- the text of the place that it means, where it is not empty: its first byte tells whether it is a full path or an event's name
+module _ (r : Bool) (x : Octets) (ps : placeSame r x ≡ true) (some : length x ≡ 0 → ⊥) where
+  somewhere : placeIn r x ≡ event [] → ⊥
+  somewhere e = true≢false (sym ps ∙ same-other r x e some)
+
+  pub slash-full : getD x 0 0 ≡ 47 → isFull x ≡ true
+  slash-full h = go (given x) refl
+    where
+      go : (g : Given) → given x ≡ g → isFull x ≡ true
+      go malformed e = absurd (somewhere (place-malformed r x e))
+      go (absolute ns) e = given-is-full x ns e
+      go (relative ns) e = absurd (somewhere (place-given r x (relative ns) e))
+      go (special t) e = absurd (event-slash x (given-event x t e .named) h)
+
+  pub other-special : (getD x 0 0 ≡ 47 → ⊥) → given x ≡ special x
+  other-special h = go (given x) refl
+    where
+      go : (g : Given) → given x ≡ g → given x ≡ special x
+      go malformed e = absurd (somewhere (place-malformed r x e))
+      go (absolute ns) e = absurd (h (ap (λ (y : Octets). getD y 0 0) (full-slash x (given-is-full x ns e))))
+      go (relative ns) e = absurd (somewhere (place-given r x (relative ns) e))
+      go (special t) e = e ∙ ap special (given-event x t e .text)
 
 -- ── numbers in the fields ──
 
@@ -299,7 +320,6 @@ module _ (s : Octets) (k : ℕ) (h : k < mostWatches) (bytes : Bytes s) (whole :
           (sym (six-listed s (k * 302) (omega arith)))
 
       pub kept-rests : kept ≡ (restZero s (k * 302 + 6) (pathLength s k) 264 && restZero s (k * 302 + 270) (tokenLength s k) 32)
-      unfolding restZero
       kept-rests =
           let n = read-narrow row head in
           let pl = part-long (k * 302 + 6) 264 (omega arith) in
@@ -308,6 +328,6 @@ module _ (s : Octets) (k : ℕ) (h : k < mostWatches) (bytes : Bytes s) (whole :
           let b = same-padded (tokenLength s k) tokenPart in
           kept-is
           ∙ ap₂ same (watch-parts v n) row-parts
-          ∙ same-parts (sixOf v) _ (take 6 (drop (k * 302) s)) (pathPart ++ tokenPart) (ap length six-is)
-          ∙ ap₂ _&&_ (eq-same six-is) (same-parts (padded 264 (placeText (v .place))) (padded 32 (v .token)) pathPart tokenPart (length-padded 264 _ (n .path) ∙ sym pl))
+          ∙ same-append (sixOf v) _ (take 6 (drop (k * 302) s)) (pathPart ++ tokenPart) (ap length six-is)
+          ∙ ap₂ _&&_ (eq-same six-is) (same-append (padded 264 (placeText (v .place))) (padded 32 (v .token)) pathPart tokenPart (length-padded 264 _ (n .path) ∙ sym pl))
           ∙ ap₂ _&&_ (ap (λ (z : Octets). same (padded 264 z) pathPart) path-is ∙ (rw pl at a)) (ap (λ (z : Octets). same (padded 32 z) tokenPart) token-is ∙ (rw tl at b))

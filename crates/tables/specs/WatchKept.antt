@@ -23,5 +23,5 @@ fieldsSame s k =
     && (eqb (getD s (k * watchSize + 5) 0 / 64 % 2) 0 && (leb (tokenLength s k) longestToken && depthSame s k))
 
 -- what stands behind n of the `size` bytes from `at` on is zero
-unfoldable pub restZero : Octets → ℕ → ℕ → ℕ → Bool
+abbrev pub restZero : Octets → ℕ → ℕ → ℕ → Bool
 restZero s at n size = allZero (drop n (take size (drop at s)))

@@ -14,7 +14,6 @@ ghost use Rattle.tables.specs.Transaction.{transactionOf, changeOf, Open
 ghost use Rattle.tables.specs.Entries.{changeKept, changesKept, goodOpen, goodEntries, soundEntries};
 use crate::domains::known;
 use crate::numbers::two;
-use crate::texts::rest_zero;
 use crate::transactions::CHANGE_SIZE;
 use crate::transactions::CHANGES_AT;
 use crate::transactions::PATH_AT;
@@ -26,6 +25,7 @@ use crate::transactions::is_open;
 use crate::transactions::path;
 use crate::transactions::removed;
 use octets::compare::all_zero;
+use octets::compare::rest_zero;
 use paths::answer::Form;
 use paths::form::form;
 use paths::names::depth;

@@ -15,7 +15,6 @@ ghost use Rattle.tables.specs.Watch.{depthMeant};
 ghost use Rattle.tables.specs.WatchKept.{placeSame, depthSame, fieldsSame};
 use crate::Depth;
 use crate::domains::known;
-use crate::texts::rest_zero;
 use crate::watches::PATH_AT;
 use crate::watches::TOKEN_AT;
 use crate::watches::WATCH_SIZE;
@@ -31,6 +30,7 @@ use crate::watches::used;
 use crate::watches::watched_from;
 use octets::compare::all_zero;
 use octets::compare::begins;
+use octets::compare::rest_zero;
 use paths::answer::Form;
 use paths::form::form;
 use paths::full::full;
@@ -155,31 +155,29 @@ fn below_base(d: u32, x: &[u8]) -> bool
     begins(&above[..n], x)
 }
 
-// Whether a watch of connection c may be on a path, or an event's name.
+// Whether a watch of connection c may be on a path, or an event's name. The text is one of the two, or empty, and its first byte tells which.
 fn good_place(c: u32, depth: Depth, relative: bool, x: &[u8]) -> bool
+    requires { ⌜ placeSame relative (now x) ≡ true ⌝ }
     ensures { λ r. ⌜ r ≡ goodPlace c (depthMeant depth) (placeIn relative (now (x .entry))) ⌝ }
 {
-    match form(x) {
-        Form::Absolute => {
-            if !fits(x) {
-                return false;
-            }
-            if !relative {
-                return true;
-            }
-            below_base(c, x)
+    if x.len() == 0 {
+        return false;
+    }
+    if x[0] == b'/' {
+        if !fits(x) {
+            return false;
         }
-        Form::Special => {
-            if c != 0 {
-                return false;
-            }
-            match depth {
-                Depth::To(k) => k == 1,
-                Depth::Any => true,
-            }
+        if !relative {
+            return true;
         }
-        Form::Relative => false,
-        Form::Malformed => false,
+        return below_base(c, x);
+    }
+    if c != 0 {
+        return false;
+    }
+    match depth {
+        Depth::To(k) => k == 1,
+        Depth::Any => true,
     }
 }
 

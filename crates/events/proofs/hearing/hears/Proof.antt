@@ -14,12 +14,12 @@ returns : tie.Need-returns
 returns c = sym (passes-free _ _ (sym (c .before .used .ensures) ∙ not-true _ (c .if1 .taken)))
 
 path-requires : tie.Need-path-requires
-path-requires c κs = let b = c .before .before .before .before .before .before in taken-here (b .pre .0) (b .pre .1 .kept) (c .before .used .ensures) (c .if1 .left)
+path-requires c κs = let b = c .before .before .before .before .before in taken-here (b .pre .0) (b .pre .1 .kept) (c .before .used .ensures) (c .if1 .left)
 
 returns-2 : tie.Need-returns-2
 returns-2 c =
     let a = c .before .before in
-    let b = a .before .before .before .before .before .before in
+    let b = a .before .before .before .before .before in
     deaf _ _ (taken-here (b .pre .0) (b .pre .1 .kept) (a .before .used .ensures) (a .if1 .left)) _ (c .before .path .ensures) _ _ _ (λ f. omega (arith, f .0, c .if2 .taken))
 
 shared-slice-read-if3 : tie.Need-shared-slice-read-if3
@@ -28,31 +28,31 @@ shared-slice-read-if3 c = search needs
 returns-3 : tie.Need-returns-3
 returns-3 c =
     let a = c .before .before .before .before in
-    let b = a .before .before .before .before .before .before in
+    let b = a .before .before .before .before .before in
     deaf _ _ (taken-here (b .pre .0) (b .pre .1 .kept) (a .before .used .ensures) (a .if1 .left)) _ (c .before .before .before .path .ensures) _ _ _ (λ f. c .if3 .taken (f .1))
 
 owner-requires : tie.Need-owner-requires
 owner-requires c κs =
     let a = c .before .before .before .before in
-    let b = a .before .before .before .before .before .before in
+    let b = a .before .before .before .before .before in
     taken-here (b .pre .0) (b .pre .1 .kept) (a .before .used .ensures) (a .if1 .left)
 
 depth-requires : tie.Need-depth-requires
 depth-requires c κs =
     let a = c .before .before .before .before .before in
-    let b = a .before .before .before .before .before .before in
+    let b = a .before .before .before .before .before in
     taken-here (b .pre .0) (b .pre .1 .kept) (a .before .used .ensures) (a .if1 .left)
 
 hears-on-requires : tie.Need-hears-on-requires
 hears-on-requires c κs =
     let a = c .before .before .before .before .before .before in
-    let b = a .before .before .before .before .before .before in
-    (b .pre .1 .was, b .pre .1 .is, on-path _ _ (taken-here (b .pre .0) (b .pre .1 .kept) (a .before .used .ensures) (a .if1 .left)) _ (c .before .before .before .before .before .path .ensures) (c .before .before .before .before .if2 .left) (c .before .before .if3 .left) .full, b .pre .2)
+    let b = a .before .before .before .before .before in
+    (b .pre .1 .sound, on-path _ _ (taken-here (b .pre .0) (b .pre .1 .kept) (a .before .used .ensures) (a .if1 .left)) _ (c .before .before .before .before .before .path .ensures) (c .before .before .before .before .if2 .left) (c .before .before .if3 .left) .full, b .pre .2)
 
 returns-4 : tie.Need-returns-4
 returns-4 c =
     let a = c .before .before .before .before .before .before .before in
-    let b = a .before .before .before .before .before .before in
+    let b = a .before .before .before .before .before in
     let t = taken-here (b .pre .0) (b .pre .1 .kept) (a .before .used .ensures) (a .if1 .left) in
     c .hears-on .ensures ∙ hears-so _ _ t _ (c .before .before .before .before .before .before .path .ensures) _ _ _ (on-path _ _ t _ (c .before .before .before .before .before .before .path .ensures) (c .before .before .before .before .before .if2 .left) (c .before .before .before .if3 .left)) _ _ (c .before .before .owner .ensures) (c .before .depth .ensures)
 

@@ -1,7 +1,7 @@
 use mathlib.Core.Path.{sym, _∙_}
 use borrow.Author.Tests.{not-true, not-false}
 use borrow.Author.Needs.{needs}
-use Rattle.events.proofs.HearingLaws.{above-kept, above-removed, above-other}
+use Rattle.events.proofs.HearingLaws.{hear-once, above-kept, above-removed, above-other}
 use Rattle.events.proofs.hearing.hears_above.Statement.{statement}
 use Rattle.events.proofs.hearing.hears_above.Tie as tie
 
@@ -14,14 +14,14 @@ beyond-requires c κs = search needs
 enum-told : tie.Need-enum-told
 enum-told c = search needs
 
-may-hear-requires : tie.Need-may-hear-requires
-may-hear-requires c κs = search needs
+readable-requires : tie.Need-readable-requires
+readable-requires c κs = search needs
 
 enum-told-2 : tie.Need-enum-told-2
 enum-told-2 c = search needs
 
 returns-2 : tie.Need-returns-2
-returns-2 c = c .may-hear .ensures ∙ above-removed _ _ _ _ _ _ (not-false _ (c .before .before .before .before .if1 .left)) _ (sym (c .before .before .before .beyond .ensures) ∙ c .before .enum-told .given .1)
+returns-2 c = c .readable .ensures ∙ hear-once _ _ _ ∙ above-removed _ _ _ _ _ _ (not-false _ (c .before .before .before .before .if1 .left)) _ (sym (c .before .before .before .beyond .ensures) ∙ c .before .enum-told .given .1)
 
 returns-3 : tie.Need-returns-3
 returns-3 c = above-other _ _ _ _ _ _ (sym (c .before .before .beyond .ensures) ∙ c .enum-told2 .given .1)
@@ -29,4 +29,4 @@ returns-3 c = above-other _ _ _ _ _ _ (sym (c .before .before .beyond .ensures) 
 pub hears-above-spec : {M : Type 1} → statement M
 hears-above-spec =
     tie.close
-    (tie.spec returns beyond-requires enum-told may-hear-requires enum-told-2 returns-2 returns-3)
+    (tie.spec returns beyond-requires enum-told readable-requires enum-told-2 returns-2 returns-3)

@@ -3,7 +3,7 @@ use borrow.Author.Tests.{not-true, not-false}
 use borrow.Author.Needs.{needs}
 use Rattle.tables.specs.Transaction.{changeGiven}
 use Rattle.tables.specs.Watch.{watchGiven}
-use Rattle.events.proofs.HearingLaws.{too-deep, within-depth, not-below}
+use Rattle.events.proofs.HearingLaws.{hear-once, too-deep, within-depth, not-below}
 use Rattle.events.proofs.hearing.hears_on.Statement.{statement}
 use Rattle.events.proofs.hearing.hears_on.Tie as tie
 
@@ -20,8 +20,8 @@ returns : tie.Need-returns
 unfolding watchGiven changeGiven
 returns c = too-deep _ _ _ _ _ _ (sym (c .before .before .before .before .before .beyond .ensures) ∙ c .before .before .before .levels .given .1) (sym (c .before .deep-enough .ensures) ∙ not-true _ (c .if1 .taken))
 
-may-hear-requires : tie.Need-may-hear-requires
-may-hear-requires c κs = search needs
+readable-requires : tie.Need-readable-requires
+readable-requires c κs = search needs
 
 enum-told : tie.Need-enum-told
 enum-told c = search needs
@@ -31,7 +31,7 @@ hears-above-requires c κs = search needs
 
 returns-2 : tie.Need-returns-2
 unfolding watchGiven changeGiven
-returns-2 c = c .may-hear .ensures ∙ within-depth _ _ _ _ _ _ (sym (c .before .before .before .before .before .before .beyond .ensures) ∙ c .before .before .before .before .levels .given .1) (sym (c .before .before .deep-enough .ensures) ∙ not-false _ (c .before .if1 .left))
+returns-2 c = c .readable .ensures ∙ hear-once _ _ _ ∙ within-depth _ _ _ _ _ _ (sym (c .before .before .before .before .before .before .beyond .ensures) ∙ c .before .before .before .before .levels .given .1) (sym (c .before .before .deep-enough .ensures) ∙ not-false _ (c .before .if1 .left))
 
 returns-3 : tie.Need-returns-3
 unfolding watchGiven changeGiven
@@ -45,7 +45,7 @@ hears-on-spec =
     enum-known-levels
     deep-enough-requires
     returns
-    may-hear-requires
+    readable-requires
     enum-told
     hears-above-requires
     returns-2

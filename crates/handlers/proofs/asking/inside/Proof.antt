@@ -1,14 +1,11 @@
+use mathlib.Core.Path.{subst}
 use mathlib.Core.Bool.{true, false}
-use Rattle.tables.specs.Transaction.{changeGiven}
-use Rattle.nodes.specs.declared.kinds.Effect.{Effect}
-use Rattle.nodes.specs.Answers.{effectMeant}
-use Rattle.rules.specs.Path.{namesIn}
-use mathlib.Core.Path.{_≡_}
-use Rattle.rules.specs.Sound.{soundTable}
-use Rattle.rules.specs.Octets.{Octets}
+use Prim.Native.Nat.{ℕ, _≤_, _<_}
 use native.Mathlib.Omega.{arith}
-use mathlib.Core.Path.{refl, subst, ap, sym}
-use Rattle.handlers.proofs.AskingLaws.{copy-taken, changing, nothing-handled, change-handled}
+use Rattle.rules.specs.Size.{mostChanges}
+use Rattle.rules.specs.Path.{namesIn}
+use Rattle.rules.specs.Answer.{answer}
+use Rattle.handlers.proofs.AskingLaws.{copy-part, full-handled, changing, nothing-handled, change-handled}
 use borrow.Author.Needs.{needs}
 use Rattle.handlers.proofs.asking.inside.Statement.{statement}
 use Rattle.handlers.proofs.asking.inside.Tie as tie
@@ -16,29 +13,47 @@ use Rattle.handlers.proofs.asking.inside.Tie as tie
 mul-from : tie.Need-mul-from
 mul-from c = search needs
 
-slice-aggregate-copy : tie.Need-slice-aggregate-copy
-slice-aggregate-copy c = search needs
+add-end : tie.Need-add-end
+add-end c = search needs
 
-add-copy : tie.Need-add-copy
-add-copy c = search needs
+changes-requires : tie.Need-changes-requires
+changes-requires c κs = search needs
 
-sub-copy : tie.Need-sub-copy
-sub-copy c = search needs
+sub-with-eight : tie.Need-sub-with-eight
+sub-with-eight c = search needs
 
-part-copy-start : tie.Need-part-copy-start
-part-copy-start c = search needs
+part-with-eight-start : tie.Need-part-with-eight-start
+part-with-eight-start c = search needs
 
-part-copy-end : tie.Need-part-copy-end
-part-copy-end c = search needs
+part-with-eight-end : tie.Need-part-with-eight-end
+part-with-eight-end c = search needs
 
-copy-requires : tie.Need-copy-requires
-copy-requires c κs = search needs
+with-eight-requires : tie.Need-with-eight-requires
+with-eight-requires c κs = let p = c .before .before .before .before .before .before .before .before .before .before .before .before .before .pre in let g = c .before .before .before .before .before .before .before .before .before .before .before .before .before .args in (rw (copy-part (g .copies .now) (g .k)) (p .0 .sound), p .1, p .0 .long)
 
-slice-aggregate-answer : tie.Need-slice-aggregate-answer
-slice-aggregate-answer c = search needs
+same-length : tie.Need-same-length
+same-length c = search needs
+
+same-length-2 : tie.Need-same-length-2
+same-length-2 c = search needs
+
+same-length-3 : tie.Need-same-length-3
+same-length-3 c = search needs
+
+returns : tie.Need-returns
+returns c = let p = c .before .before .before .before .before .before .before .before .before .before .before .before .before .before .before .before .pre in let g = c .before .before .before .before .before .before .before .before .before .before .before .before .before .before .before .before .args in λ w cw xw a is events. full-handled _ _ _ _ (p .0) w cw xw (answer (g .domain) a (namesIn (g .path .now))) (subst (λ (n : ℕ). mostChanges ≤ n) (c .before .before .before .before .before .before .before .changes .ensures .0) (c .before .before .before .before .before .before .if1 .taken)) events _ _ (c .before .before .with-eight .ensures .0 a is) (c .before .before .with-eight .ensures .1)
+
+sub-answer : tie.Need-sub-answer
+sub-answer c = search needs
+
+part-answer-start : tie.Need-part-answer-start
+part-answer-start c = search needs
+
+part-answer-end : tie.Need-part-answer-end
+part-answer-end c = search needs
 
 answer-requires : tie.Need-answer-requires
-answer-requires c κs = (record { standing = record { sound = subst (λ (x : Octets). soundTable x ≡ true) (sym (copy-taken (c .before .before .before .before .before .before .before .before .before .before .before .before .before .before .args .copies .now) (c .before .before .before .before .before .before .before .before .before .before .before .before .before .before .args .k) _ _ (c .before .before .before .before .before .before .before .before .before .before .before .before .before .before .pre .0 .whole) (c .before .before .before .before .before .before .before .before .before .before .before .before .before .before .pre .0 .place .below) refl (c .before .before .before .copy .ensures))) (c .before .before .before .before .before .before .before .before .before .before .before .before .before .before .pre .0 .sound); full = c .before .before .before .before .before .before .before .before .before .before .before .before .before .before .pre .1 .full }; long = c .before .before .before .before .before .before .before .before .before .before .before .before .before .before .pre .0 .long; domain = omega (arith, c .before .before .before .before .before .before .before .before .before .before .before .before .before .before .pre .1 .domain) }, c .before .before .before .before .before .before .before .before .before .before .before .before .before .before .pre .1 .stored)
+answer-requires c κs = let p = c .before .before .before .before .before .before .before .before .before .before .before .before .pre in let g = c .before .before .before .before .before .before .before .before .before .before .before .before .args in (record { standing = record { sound = rw (copy-part (g .copies .now) (g .k)) (p .0 .sound); full = p .1 .full }; long = p .0 .long; domain = omega (arith, p .1 .domain) }, p .1 .stored)
 
 enum-told : tie.Need-enum-told
 enum-told c = search needs
@@ -49,34 +64,14 @@ with-events-requires c κs = search needs
 enum-told-2 : tie.Need-enum-told-2
 enum-told-2 c = search needs
 
-slice-aggregate-enter : tie.Need-slice-aggregate-enter
-slice-aggregate-enter c = search needs
-
 enter-requires : tie.Need-enter-requires
-unfolding changeGiven
-enter-requires c κs = changing (c .before .before .before .before .before .before .before .before .before .before .before .before .before .before .before .before .before .before .before .before .before .before .before .pre .1) _ _ _ _ (c .before .before .before .before .before .before .before .before .before .before .before .before .before .before .before .before .before .before .before .before .before .before .before .pre .0) _ _ _ _ (copy-taken (c .before .before .before .before .before .before .before .before .before .before .before .before .before .before .before .before .before .before .before .before .before .before .before .args .copies .now) (c .before .before .before .before .before .before .before .before .before .before .before .before .before .before .before .before .before .before .before .before .before .before .before .args .k) _ _ (c .before .before .before .before .before .before .before .before .before .before .before .before .before .before .before .before .before .before .before .before .before .before .before .pre .0 .whole) (c .before .before .before .before .before .before .before .before .before .before .before .before .before .before .before .before .before .before .before .before .before .before .before .pre .0 .place .below) refl (c .before .before .before .before .before .before .before .before .before .before .before .before .copy .ensures)) (c .before .before .before .before .before .before .before .before .answer .ensures) (changeGiven false (c .before .before .before .before .before .before .before .before .before .before .before .before .before .before .before .before .before .before .before .before .before .before .before .args .path .now)) (ap (λ (y : Effect). effectMeant y (namesIn (c .before .before .before .before .before .before .before .before .before .before .before .before .before .before .before .before .before .before .before .before .before .before .before .args .path .now))) (c .before .before .before .enum-told2 .given .1)) (search needs)
+enter-requires c κs = let p = c .before .before .before .before .before .before .before .before .before .before .before .before .before .before .before .before .before .before .before .before .pre in let g = c .before .before .before .before .before .before .before .before .before .before .before .before .before .before .before .before .before .before .before .before .args in changing (p .1) _ _ _ _ (p .0) _ _ _ _ (copy-part (g .copies .now) (g .k)) (c .before .before .before .before .before .before .before .answer .ensures) (subst (λ (n : ℕ). n < mostChanges) (c .before .before .before .before .before .before .before .before .before .before .before .changes .ensures .0) (c .before .before .before .before .before .before .before .before .before .before .if1 .left)) false (c .before .enum-told2 .given .1)
 
 enum-told-3 : tie.Need-enum-told-3
 enum-told-3 c = search needs
 
-slice-aggregate-enter-2 : tie.Need-slice-aggregate-enter-2
-slice-aggregate-enter-2 c = search needs
-
 enter-requires-2 : tie.Need-enter-requires-2
-unfolding changeGiven
-enter-requires-2 c κs = changing (c .before .before .before .before .before .before .before .before .before .before .before .before .before .before .before .before .before .before .before .before .before .before .before .pre .1) _ _ _ _ (c .before .before .before .before .before .before .before .before .before .before .before .before .before .before .before .before .before .before .before .before .before .before .before .pre .0) _ _ _ _ (copy-taken (c .before .before .before .before .before .before .before .before .before .before .before .before .before .before .before .before .before .before .before .before .before .before .before .args .copies .now) (c .before .before .before .before .before .before .before .before .before .before .before .before .before .before .before .before .before .before .before .before .before .before .before .args .k) _ _ (c .before .before .before .before .before .before .before .before .before .before .before .before .before .before .before .before .before .before .before .before .before .before .before .pre .0 .whole) (c .before .before .before .before .before .before .before .before .before .before .before .before .before .before .before .before .before .before .before .before .before .before .before .pre .0 .place .below) refl (c .before .before .before .before .before .before .before .before .before .before .before .before .copy .ensures)) (c .before .before .before .before .before .before .before .before .answer .ensures) (changeGiven true (c .before .before .before .before .before .before .before .before .before .before .before .before .before .before .before .before .before .before .before .before .before .before .before .args .path .now)) (ap (λ (y : Effect). effectMeant y (namesIn (c .before .before .before .before .before .before .before .before .before .before .before .before .before .before .before .before .before .before .before .before .before .before .before .args .path .now))) (c .before .before .before .enum-told3 .given .1)) (search needs)
-
-same-length : tie.Need-same-length
-same-length c = search needs
-
-same-length-2 : tie.Need-same-length-2
-same-length-2 c = search needs
-
-returns : tie.Need-returns
-returns c = λ w cw xw a is events. nothing-handled (c .before .before .before .before .before .before .before .before .before .before .before .before .before .before .before .before .before .before .before .before .before .pre .1) _ _ _ _ (c .before .before .before .before .before .before .before .before .before .before .before .before .before .before .before .before .before .before .before .before .before .pre .0) _ _ _ _ (copy-taken (c .before .before .before .before .before .before .before .before .before .before .before .before .before .before .before .before .before .before .before .before .before .args .copies .now) (c .before .before .before .before .before .before .before .before .before .before .before .before .before .before .before .before .before .before .before .before .before .args .k) _ _ (c .before .before .before .before .before .before .before .before .before .before .before .before .before .before .before .before .before .before .before .before .before .pre .0 .whole) (c .before .before .before .before .before .before .before .before .before .before .before .before .before .before .before .before .before .before .before .before .before .pre .0 .place .below) refl (c .before .before .before .before .before .before .before .before .before .before .copy .ensures)) (c .before .before .before .before .before .before .answer .ensures) w cw xw a is events _ (c .before .enum-told .given .1) (c .with-events .ensures)
-
-same-length-3 : tie.Need-same-length-3
-same-length-3 c = search needs
+enter-requires-2 c κs = let p = c .before .before .before .before .before .before .before .before .before .before .before .before .before .before .before .before .before .before .before .before .pre in let g = c .before .before .before .before .before .before .before .before .before .before .before .before .before .before .before .before .before .before .before .before .args in changing (p .1) _ _ _ _ (p .0) _ _ _ _ (copy-part (g .copies .now) (g .k)) (c .before .before .before .before .before .before .before .answer .ensures) (subst (λ (n : ℕ). n < mostChanges) (c .before .before .before .before .before .before .before .before .before .before .before .changes .ensures .0) (c .before .before .before .before .before .before .before .before .before .before .if1 .left)) true (c .before .enum-told3 .given .1)
 
 same-length-4 : tie.Need-same-length-4
 same-length-4 c = search needs
@@ -84,12 +79,11 @@ same-length-4 c = search needs
 same-length-5 : tie.Need-same-length-5
 same-length-5 c = search needs
 
-returns-2 : tie.Need-returns-2
-unfolding changeGiven
-returns-2 c = λ w cw xw a is events. change-handled (c .before .before .before .before .before .before .before .before .before .before .before .before .before .before .before .before .before .before .before .before .before .before .before .before .before .before .before .before .pre .1) _ _ _ _ (c .before .before .before .before .before .before .before .before .before .before .before .before .before .before .before .before .before .before .before .before .before .before .before .before .before .before .before .before .pre .0) _ _ _ _ (copy-taken (c .before .before .before .before .before .before .before .before .before .before .before .before .before .before .before .before .before .before .before .before .before .before .before .before .before .before .before .before .args .copies .now) (c .before .before .before .before .before .before .before .before .before .before .before .before .before .before .before .before .before .before .before .before .before .before .before .before .before .before .before .before .args .k) _ _ (c .before .before .before .before .before .before .before .before .before .before .before .before .before .before .before .before .before .before .before .before .before .before .before .before .before .before .before .before .pre .0 .whole) (c .before .before .before .before .before .before .before .before .before .before .before .before .before .before .before .before .before .before .before .before .before .before .before .before .before .before .before .before .pre .0 .place .below) refl (c .before .before .before .before .before .before .before .before .before .before .before .before .before .before .before .before .before .copy .ensures)) (c .before .before .before .before .before .before .before .before .before .before .before .before .before .answer .ensures) w cw xw a is events _ false (ap (λ (y : Effect). effectMeant y (namesIn (c .before .before .before .before .before .before .before .before .before .before .before .before .before .before .before .before .before .before .before .before .before .before .before .before .before .before .before .before .args .path .now))) (c .before .before .before .before .before .before .before .before .enum-told2 .given .1)) (search needs) _ _ (c .before .before .before .before .enter .ensures)
-
 same-length-6 : tie.Need-same-length-6
 same-length-6 c = search needs
+
+returns-2 : tie.Need-returns-2
+returns-2 c = let p = c .before .before .before .before .before .before .before .before .before .before .before .before .before .before .before .before .before .before .before .before .pre in let g = c .before .before .before .before .before .before .before .before .before .before .before .before .before .before .before .before .before .before .before .before .args in λ w cw xw a is events. nothing-handled (p .1) _ _ _ _ (p .0) _ _ _ _ (copy-part (g .copies .now) (g .k)) (c .before .before .before .before .before .before .before .answer .ensures) w cw xw a is events _ (c .before .enum-told .given .1) (c .with-events .ensures)
 
 same-length-7 : tie.Need-same-length-7
 same-length-7 c = search needs
@@ -97,39 +91,58 @@ same-length-7 c = search needs
 same-length-8 : tie.Need-same-length-8
 same-length-8 c = search needs
 
+same-length-9 : tie.Need-same-length-9
+same-length-9 c = search needs
+
 returns-3 : tie.Need-returns-3
-unfolding changeGiven
-returns-3 c = λ w cw xw a is events. change-handled (c .before .before .before .before .before .before .before .before .before .before .before .before .before .before .before .before .before .before .before .before .before .before .before .before .before .before .before .before .pre .1) _ _ _ _ (c .before .before .before .before .before .before .before .before .before .before .before .before .before .before .before .before .before .before .before .before .before .before .before .before .before .before .before .before .pre .0) _ _ _ _ (copy-taken (c .before .before .before .before .before .before .before .before .before .before .before .before .before .before .before .before .before .before .before .before .before .before .before .before .before .before .before .before .args .copies .now) (c .before .before .before .before .before .before .before .before .before .before .before .before .before .before .before .before .before .before .before .before .before .before .before .before .before .before .before .before .args .k) _ _ (c .before .before .before .before .before .before .before .before .before .before .before .before .before .before .before .before .before .before .before .before .before .before .before .before .before .before .before .before .pre .0 .whole) (c .before .before .before .before .before .before .before .before .before .before .before .before .before .before .before .before .before .before .before .before .before .before .before .before .before .before .before .before .pre .0 .place .below) refl (c .before .before .before .before .before .before .before .before .before .before .before .before .before .before .before .before .before .copy .ensures)) (c .before .before .before .before .before .before .before .before .before .before .before .before .before .answer .ensures) w cw xw a is events _ true (ap (λ (y : Effect). effectMeant y (namesIn (c .before .before .before .before .before .before .before .before .before .before .before .before .before .before .before .before .before .before .before .before .before .before .before .before .before .before .before .before .args .path .now))) (c .before .before .before .before .before .before .before .before .enum-told3 .given .1)) (search needs) _ _ (c .before .before .before .before .enter2 .ensures)
+returns-3 c = let p = c .before .before .before .before .before .before .before .before .before .before .before .before .before .before .before .before .before .before .before .before .before .before .before .pre in let g = c .before .before .before .before .before .before .before .before .before .before .before .before .before .before .before .before .before .before .before .before .before .before .before .args in λ w cw xw a is events. change-handled (p .1) _ _ _ _ (p .0) _ _ _ _ (copy-part (g .copies .now) (g .k)) (c .before .before .before .before .before .before .before .before .before .before .answer .ensures) w cw xw a is events _ false (c .before .before .before .before .enum-told2 .given .1) (subst (λ (n : ℕ). n < mostChanges) (c .before .before .before .before .before .before .before .before .before .before .before .before .before .before .changes .ensures .0) (c .before .before .before .before .before .before .before .before .before .before .before .before .before .if1 .left)) _ (c .before .before .enter .ensures .0) (c .before .before .enter .ensures .1)
+
+same-length-10 : tie.Need-same-length-10
+same-length-10 c = search needs
+
+same-length-11 : tie.Need-same-length-11
+same-length-11 c = search needs
+
+same-length-12 : tie.Need-same-length-12
+same-length-12 c = search needs
+
+returns-4 : tie.Need-returns-4
+returns-4 c = let p = c .before .before .before .before .before .before .before .before .before .before .before .before .before .before .before .before .before .before .before .before .before .before .before .pre in let g = c .before .before .before .before .before .before .before .before .before .before .before .before .before .before .before .before .before .before .before .before .before .before .before .args in λ w cw xw a is events. change-handled (p .1) _ _ _ _ (p .0) _ _ _ _ (copy-part (g .copies .now) (g .k)) (c .before .before .before .before .before .before .before .before .before .before .answer .ensures) w cw xw a is events _ true (c .before .before .before .before .enum-told3 .given .1) (subst (λ (n : ℕ). n < mostChanges) (c .before .before .before .before .before .before .before .before .before .before .before .before .before .before .changes .ensures .0) (c .before .before .before .before .before .before .before .before .before .before .before .before .before .if1 .left)) _ (c .before .before .enter2 .ensures .0) (c .before .before .enter2 .ensures .1)
 
 pub inside-spec : {M : Type 1} → statement M
 inside-spec =
     tie.close
     (tie.spec
     mul-from
-    slice-aggregate-copy
-    add-copy
-    sub-copy
-    part-copy-start
-    part-copy-end
-    copy-requires
-    slice-aggregate-answer
+    add-end
+    changes-requires
+    sub-with-eight
+    part-with-eight-start
+    part-with-eight-end
+    with-eight-requires
+    same-length
+    same-length-2
+    same-length-3
+    returns
+    sub-answer
+    part-answer-start
+    part-answer-end
     answer-requires
     enum-told
     with-events-requires
     enum-told-2
-    slice-aggregate-enter
     enter-requires
     enum-told-3
-    slice-aggregate-enter-2
     enter-requires-2
-    same-length
-    same-length-2
-    returns
-    same-length-3
     same-length-4
     same-length-5
-    returns-2
     same-length-6
+    returns-2
     same-length-7
     same-length-8
-    returns-3)
+    same-length-9
+    returns-3
+    same-length-10
+    same-length-11
+    same-length-12
+    returns-4)

@@ -1,25 +1,15 @@
-use Rattle.tables.specs.Transaction.{changeGiven}
-use Rattle.nodes.specs.declared.kinds.Effect.{Effect}
-use Rattle.nodes.specs.Answers.{effectMeant}
-use Rattle.rules.specs.Path.{namesIn}
-use native.Mathlib.Omega.{arith}
 use mathlib.Core.Bool.{true, false}
-use mathlib.Core.Path.{ap, _∙_}
-use Rattle.slots.proofs.Canonical.{sound-canonical}
-use Rattle.handlers.proofs.AskingLaws.{paste-whole}
+use native.Mathlib.Omega.{arith}
 use Rattle.handlers.proofs.PlainLaws.{telling, nothing-done, change-done}
 use borrow.Author.Needs.{needs}
 use Rattle.handlers.proofs.asking.plainly.Statement.{statement}
 use Rattle.handlers.proofs.asking.plainly.Tie as tie
 
-slice-aggregate-copy : tie.Need-slice-aggregate-copy
-slice-aggregate-copy c = search needs
-
-copy-requires : tie.Need-copy-requires
-copy-requires c κs = omega (arith, sound-canonical (c .before .before .before .before .before .before .before .before .before .before .before .args .nodes .now) (c .before .before .before .before .before .before .before .before .before .before .before .pre .0 .sound) .whole)
+hearing-requires : tie.Need-hearing-requires
+hearing-requires c κs = search needs
 
 answer-requires : tie.Need-answer-requires
-answer-requires c κs = (record { standing = record { sound = c .before .before .before .before .before .before .before .before .before .before .before .before .before .before .before .pre .0 .sound; full = c .before .before .before .before .before .before .before .before .before .before .before .before .before .before .before .pre .1 .full }; long = c .before .before .before .before .before .before .before .before .before .before .before .before .before .before .before .pre .0 .long; domain = omega (arith, c .before .before .before .before .before .before .before .before .before .before .before .before .before .before .before .pre .1 .domain) }, c .before .before .before .before .before .before .before .before .before .before .before .before .before .before .before .pre .1 .stored)
+answer-requires c κs = (record { standing = record { sound = c .before .before .before .before .before .before .before .before .before .before .before .before .before .pre .0 .sound; full = c .before .before .before .before .before .before .before .before .before .before .before .before .before .pre .1 .full }; long = c .before .before .before .before .before .before .before .before .before .before .before .before .before .pre .0 .long; domain = omega (arith, c .before .before .before .before .before .before .before .before .before .before .before .before .before .pre .1 .domain) }, c .before .before .before .before .before .before .before .before .before .before .before .before .before .pre .1 .stored)
 
 enum-told : tie.Need-enum-told
 enum-told c = search needs
@@ -30,22 +20,14 @@ with-events-requires c κs = search needs
 enum-told-2 : tie.Need-enum-told-2
 enum-told-2 c = search needs
 
-slice-aggregate-tell : tie.Need-slice-aggregate-tell
-slice-aggregate-tell c = search needs
-
 tell-requires : tie.Need-tell-requires
-unfolding changeGiven
-tell-requires c κs = telling (c .before .before .before .before .before .before .before .before .before .before .before .before .before .before .before .before .before .before .before .before .before .before .before .before .before .before .pre .1) _ _ _ _ _ (c .before .before .before .before .before .before .before .before .before .before .before .before .before .before .before .before .before .before .before .before .before .before .before .before .before .before .pre .0) _ _ _ (c .before .before .before .before .before .before .before .before .before .before .answer .ensures) _ (c .before .before .before .before .before .before .before .before .before .before .before .before .before .before .copy .ensures ∙ paste-whole _ _ (sound-canonical (c .before .before .before .before .before .before .before .before .before .before .before .before .before .before .before .before .before .before .before .before .before .before .before .before .before .before .args .nodes .now) (c .before .before .before .before .before .before .before .before .before .before .before .before .before .before .before .before .before .before .before .before .before .before .before .before .before .before .pre .0 .sound) .whole)) (changeGiven false (c .before .before .before .before .before .before .before .before .before .before .before .before .before .before .before .before .before .before .before .before .before .before .before .before .before .before .args .path .now)) (ap (λ (y : Effect). effectMeant y (namesIn (c .before .before .before .before .before .before .before .before .before .before .before .before .before .before .before .before .before .before .before .before .before .before .before .before .before .before .args .path .now))) (c .before .before .before .before .enum-told2 .given .1))
+tell-requires c κs = telling (c .before .before .before .before .before .before .before .before .before .before .before .before .before .before .before .before .before .before .before .before .before .before .before .pre .1) _ _ _ _ _ (c .before .before .before .before .before .before .before .before .before .before .before .before .before .before .before .before .before .before .before .before .before .before .before .pre .0) _ _ _ (c .before .before .before .before .before .before .before .before .before .answer .ensures) false (c .before .before .before .enum-told2 .given .1)
 
 enum-told-3 : tie.Need-enum-told-3
 enum-told-3 c = search needs
 
-slice-aggregate-tell-2 : tie.Need-slice-aggregate-tell-2
-slice-aggregate-tell-2 c = search needs
-
 tell-requires-2 : tie.Need-tell-requires-2
-unfolding changeGiven
-tell-requires-2 c κs = telling (c .before .before .before .before .before .before .before .before .before .before .before .before .before .before .before .before .before .before .before .before .before .before .before .before .before .before .pre .1) _ _ _ _ _ (c .before .before .before .before .before .before .before .before .before .before .before .before .before .before .before .before .before .before .before .before .before .before .before .before .before .before .pre .0) _ _ _ (c .before .before .before .before .before .before .before .before .before .before .answer .ensures) _ (c .before .before .before .before .before .before .before .before .before .before .before .before .before .before .copy .ensures ∙ paste-whole _ _ (sound-canonical (c .before .before .before .before .before .before .before .before .before .before .before .before .before .before .before .before .before .before .before .before .before .before .before .before .before .before .args .nodes .now) (c .before .before .before .before .before .before .before .before .before .before .before .before .before .before .before .before .before .before .before .before .before .before .before .before .before .before .pre .0 .sound) .whole)) (changeGiven true (c .before .before .before .before .before .before .before .before .before .before .before .before .before .before .before .before .before .before .before .before .before .before .before .before .before .before .args .path .now)) (ap (λ (y : Effect). effectMeant y (namesIn (c .before .before .before .before .before .before .before .before .before .before .before .before .before .before .before .before .before .before .before .before .before .before .before .before .before .before .args .path .now))) (c .before .before .before .before .enum-told3 .given .1))
+tell-requires-2 c κs = telling (c .before .before .before .before .before .before .before .before .before .before .before .before .before .before .before .before .before .before .before .before .before .before .before .pre .1) _ _ _ _ _ (c .before .before .before .before .before .before .before .before .before .before .before .before .before .before .before .before .before .before .before .before .before .before .before .pre .0) _ _ _ (c .before .before .before .before .before .before .before .before .before .answer .ensures) true (c .before .before .before .enum-told3 .given .1)
 
 same-length : tie.Need-same-length
 same-length c = search needs
@@ -54,7 +36,7 @@ same-length-2 : tie.Need-same-length-2
 same-length-2 c = search needs
 
 returns : tie.Need-returns
-returns c = λ w nw ww xw a is g. nothing-done (c .before .before .before .before .before .before .before .before .before .before .before .before .before .before .before .before .before .before .before .before .before .before .before .pre .1) _ _ _ _ _ (c .before .before .before .before .before .before .before .before .before .before .before .before .before .before .before .before .before .before .before .before .before .before .before .pre .0) _ _ _ (c .before .before .before .before .before .before .before .answer .ensures) w nw ww xw a is _ (c .before .enum-told .given .1) (c .with-events .ensures)
+returns c = λ w nw ww xw a is g. nothing-done (c .before .before .before .before .before .before .before .before .before .before .before .before .before .before .before .before .before .before .before .before .before .pre .1) _ _ _ _ _ (c .before .before .before .before .before .before .before .before .before .before .before .before .before .before .before .before .before .before .before .before .before .pre .0) _ _ _ (c .before .before .before .before .before .before .before .answer .ensures) w nw ww xw a is _ (c .before .enum-told .given .1) (c .with-events .ensures)
 
 same-length-3 : tie.Need-same-length-3
 same-length-3 c = search needs
@@ -69,8 +51,7 @@ same-length-6 : tie.Need-same-length-6
 same-length-6 c = search needs
 
 returns-2 : tie.Need-returns-2
-unfolding changeGiven
-returns-2 c = λ w nw ww xw a is g. change-done (c .before .before .before .before .before .before .before .before .before .before .before .before .before .before .before .before .before .before .before .before .before .before .before .before .before .before .before .before .before .before .before .pre .1) _ _ _ _ _ (c .before .before .before .before .before .before .before .before .before .before .before .before .before .before .before .before .before .before .before .before .before .before .before .before .before .before .before .before .before .before .before .pre .0) _ _ _ (c .before .before .before .before .before .before .before .before .before .before .before .before .before .before .before .answer .ensures) w nw ww xw a is _ _ (c .before .before .before .before .before .before .before .before .before .before .before .before .before .before .before .before .before .before .before .copy .ensures ∙ paste-whole _ _ (sound-canonical (c .before .before .before .before .before .before .before .before .before .before .before .before .before .before .before .before .before .before .before .before .before .before .before .before .before .before .before .before .before .before .before .args .nodes .now) (c .before .before .before .before .before .before .before .before .before .before .before .before .before .before .before .before .before .before .before .before .before .before .before .before .before .before .before .before .before .before .before .pre .0 .sound) .whole)) (changeGiven false (c .before .before .before .before .before .before .before .before .before .before .before .before .before .before .before .before .before .before .before .before .before .before .before .before .before .before .before .before .before .before .before .args .path .now)) (ap (λ (y : Effect). effectMeant y (namesIn (c .before .before .before .before .before .before .before .before .before .before .before .before .before .before .before .before .before .before .before .before .before .before .before .before .before .before .before .before .before .before .before .args .path .now))) (c .before .before .before .before .before .before .before .before .before .enum-told2 .given .1)) _ _ (c .before .before .before .before .tell .ensures) g
+returns-2 c = λ w nw ww xw a is g. change-done (c .before .before .before .before .before .before .before .before .before .before .before .before .before .before .before .before .before .before .before .before .before .before .before .before .before .before .before .before .pre .1) _ _ _ _ _ (c .before .before .before .before .before .before .before .before .before .before .before .before .before .before .before .before .before .before .before .before .before .before .before .before .before .before .before .before .pre .0) _ _ _ (c .before .before .before .before .before .before .before .before .before .before .before .before .before .before .answer .ensures) w nw ww xw a is _ _ (c .before .before .before .before .before .before .before .before .before .before .before .before .before .before .before .before .before .hearing .ensures) false (c .before .before .before .before .before .before .before .before .enum-told2 .given .1) _ _ (c .before .before .before .before .tell .ensures) g
 
 same-length-7 : tie.Need-same-length-7
 same-length-7 c = search needs
@@ -85,23 +66,19 @@ same-length-10 : tie.Need-same-length-10
 same-length-10 c = search needs
 
 returns-3 : tie.Need-returns-3
-unfolding changeGiven
-returns-3 c = λ w nw ww xw a is g. change-done (c .before .before .before .before .before .before .before .before .before .before .before .before .before .before .before .before .before .before .before .before .before .before .before .before .before .before .before .before .before .before .before .pre .1) _ _ _ _ _ (c .before .before .before .before .before .before .before .before .before .before .before .before .before .before .before .before .before .before .before .before .before .before .before .before .before .before .before .before .before .before .before .pre .0) _ _ _ (c .before .before .before .before .before .before .before .before .before .before .before .before .before .before .before .answer .ensures) w nw ww xw a is _ _ (c .before .before .before .before .before .before .before .before .before .before .before .before .before .before .before .before .before .before .before .copy .ensures ∙ paste-whole _ _ (sound-canonical (c .before .before .before .before .before .before .before .before .before .before .before .before .before .before .before .before .before .before .before .before .before .before .before .before .before .before .before .before .before .before .before .args .nodes .now) (c .before .before .before .before .before .before .before .before .before .before .before .before .before .before .before .before .before .before .before .before .before .before .before .before .before .before .before .before .before .before .before .pre .0 .sound) .whole)) (changeGiven true (c .before .before .before .before .before .before .before .before .before .before .before .before .before .before .before .before .before .before .before .before .before .before .before .before .before .before .before .before .before .before .before .args .path .now)) (ap (λ (y : Effect). effectMeant y (namesIn (c .before .before .before .before .before .before .before .before .before .before .before .before .before .before .before .before .before .before .before .before .before .before .before .before .before .before .before .before .before .before .before .args .path .now))) (c .before .before .before .before .before .before .before .before .before .enum-told3 .given .1)) _ _ (c .before .before .before .before .tell2 .ensures) g
+returns-3 c = λ w nw ww xw a is g. change-done (c .before .before .before .before .before .before .before .before .before .before .before .before .before .before .before .before .before .before .before .before .before .before .before .before .before .before .before .before .pre .1) _ _ _ _ _ (c .before .before .before .before .before .before .before .before .before .before .before .before .before .before .before .before .before .before .before .before .before .before .before .before .before .before .before .before .pre .0) _ _ _ (c .before .before .before .before .before .before .before .before .before .before .before .before .before .before .answer .ensures) w nw ww xw a is _ _ (c .before .before .before .before .before .before .before .before .before .before .before .before .before .before .before .before .before .hearing .ensures) true (c .before .before .before .before .before .before .before .before .enum-told3 .given .1) _ _ (c .before .before .before .before .tell2 .ensures) g
 
 pub plainly-spec : {M : Type 1} → statement M
 plainly-spec =
     tie.close
     (tie.spec
-    slice-aggregate-copy
-    copy-requires
+    hearing-requires
     answer-requires
     enum-told
     with-events-requires
     enum-told-2
-    slice-aggregate-tell
     tell-requires
     enum-told-3
-    slice-aggregate-tell-2
     tell-requires-2
     same-length
     same-length-2

@@ -1,7 +1,7 @@
 use mathlib.Core.Path.{_∙_}
 use native.Mathlib.Omega.{arith}
+use Rattle.rules.proofs.Paste.{paste-whole}
 use Rattle.slots.proofs.Canonical.{sound-canonical}
-use Rattle.handlers.proofs.AskingLaws.{paste-whole}
 use Rattle.handlers.proofs.ReleaseLaws.{any-mine, removals-ready, domain-ready, released}
 use borrow.Author.Needs.{needs}
 use Rattle.handlers.proofs.domains.clear_out.Statement.{statement}

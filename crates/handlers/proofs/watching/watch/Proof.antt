@@ -8,7 +8,7 @@ use Rattle.rules.specs.Sound.{watched}
 use Rattle.rules.specs.Layout.{watchesBytes, watchesOf, recordBytes}
 use Rattle.rules.specs.Event.{Record}
 use Rattle.rules.specs.Octets.{Octets, paste}
-use Rattle.tables.proofs.WatchLaws.{length-watchesOf}
+use Rattle.tables.proofs.WatchBytes.{length-watchesOf}
 use Rattle.tables.proofs.WatchChanges.{kept-watches}
 use Rattle.handlers.proofs.PlainLaws.{recorded-first}
 use Rattle.handlers.proofs.Ways.{refused-so, heard-so, same-tables}

@@ -15,8 +15,9 @@ use Rattle.paths.proofs.PieceLaws.{end-low, end-high}
 use Rattle.slots.specs.Slot.{slotAt, isUsed}
 use Rattle.slots.specs.Left.{leftAt}
 use Rattle.slots.proofs.Canonical.{root-used}
+use Rattle.slots.proofs.LeftLaws.{left-over}
 use Rattle.lookup.specs.Reach.{foundMeant}
-use Rattle.lookup.proofs.ReachLaws.{reach-end, left-over, left-whole, turned, stopped}
+use Rattle.lookup.proofs.ReachLaws.{reach-end, left-whole, turned, stopped}
 use Rattle.lookup.proofs.reach.reach.Statement.{statement}
 use Rattle.lookup.proofs.reach.reach.Tie as tie
 

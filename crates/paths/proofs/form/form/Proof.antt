@@ -1,31 +1,48 @@
 -- The state so far and what is left of the text decide.
-use mathlib.Core.Path.{_≡_, refl, ap, _∙_}
+use mathlib.Core.Path.{_≡_, refl, _∙_}
 use Prim.Native.Nat.{_<_, _≤_, _-_}
 use native.Mathlib.Omega.{arith}
 use lib.ListN.{length, drop}
-use Rattle.paths.specs.Machine.{run, stepOf}
+use Rattle.paths.specs.Machine.{run}
+use Rattle.paths.proofs.ConstantTables.{classes, classes-small, steps, next-right}
 use Rattle.paths.proofs.MachineLaws.{verdict-right, step-small, run-next}
-use Rattle.paths.proofs.ClassLaws.{class-small}
 use Rattle.paths.proofs.form.form.Statement.{statement}
 use Rattle.paths.proofs.form.form.Tie as tie
 
 abbrev Inv-loop : tie.InvT-loop
-Inv-loop s state₀ i₀ state i = (i ≤ length s) × (state < 8) × (run 0 s ≡ run state (drop i s))
+Inv-loop s classes steps state₀ i₀ state i = (i ≤ length s) × (state < 8) × (run 0 s ≡ run state (drop i s))
 
 abbrev μ-loop : tie.MeasureT-loop
-μ-loop s state₀ i₀ state i = length s - i
+μ-loop s classes steps state₀ i₀ state i = length s - i
 
 loop-holds : tie.Need-loop-holds Inv-loop μ-loop
 loop-holds c = (omega arith, omega arith, refl)
 
-shared-slice-read-class-of : tie.Need-shared-slice-read-class-of Inv-loop μ-loop
-shared-slice-read-class-of c = omega arith
+shared-slice-read-class : tie.Need-shared-slice-read-class Inv-loop μ-loop
+shared-slice-read-class c = omega arith
 
-class-of-requires : tie.Need-class-of-requires Inv-loop μ-loop
-class-of-requires c κs = tt
+cast-class : tie.Need-cast-class Inv-loop μ-loop
+cast-class c = omega (arith, c .shared-slice-known2 .given (c .before .before .loop .i))
 
-step-requires : tie.Need-step-requires Inv-loop μ-loop
-step-requires c κs = (c .before .before .before .loop .inv .1, rw (c .class-of .ensures) (class-small _))
+array-read-class : tie.Need-array-read-class Inv-loop μ-loop
+array-read-class c = omega (arith, c .shared-slice-known2 .given (c .before .before .loop .i))
+
+cast-state : tie.Need-cast-state Inv-loop μ-loop
+cast-state c = omega arith
+
+cast-state-2 : tie.Need-cast-state-2 Inv-loop μ-loop
+unfolding classes
+cast-state-2 c = omega (arith, classes-small _ (array-read-class c))
+
+mul-state : tie.Need-mul-state Inv-loop μ-loop
+mul-state c = omega arith
+
+index-1-state : tie.Need-index-1-state Inv-loop μ-loop
+index-1-state c = omega arith
+
+index-2-state : tie.Need-index-2-state Inv-loop μ-loop
+unfolding classes
+index-2-state c = classes-small _ (array-read-class c)
 
 add-i : tie.Need-add-i Inv-loop μ-loop
 add-i c = omega arith
@@ -34,10 +51,11 @@ loop-less : tie.Need-loop-less Inv-loop μ-loop
 loop-less c = omega arith
 
 loop-again : tie.Need-loop-again Inv-loop μ-loop
+unfolding classes steps
 loop-again c =
-    let p = c .before .before .before .before in
-    let e = c .step .ensures ∙ ap (stepOf (p .loop .state)) (c .before .class-of .ensures) in
-    (omega arith, rw e (step-small _ _), p .loop .inv .2 ∙ (run-next _ _ _ (c .before .before .before .loop-test .taken) ∙ rw e))
+    let p = c .before .before .before in
+    let e = next-right (p .loop .state) _ (p .loop .inv .1) (array-read-class (c .before)) in
+    (omega arith, rw e (step-small _ _), p .loop .inv .2 ∙ (run-next _ _ _ (c .before .before .loop-test .taken) ∙ rw e refl))
 
 verdict-requires : tie.Need-verdict-requires Inv-loop μ-loop
 verdict-requires c κs = tt
@@ -52,9 +70,14 @@ form-spec =
     Inv-loop
     μ-loop
     loop-holds
-    shared-slice-read-class-of
-    class-of-requires
-    step-requires
+    shared-slice-read-class
+    cast-class
+    array-read-class
+    cast-state
+    cast-state-2
+    mul-state
+    index-1-state
+    index-2-state
     add-i
     loop-less
     loop-again

@@ -1,10 +1,7 @@
-use mathlib.Core.Path.{_≡_, sym, _∙_}
-use Prim.Native.Nat.{_≤_, _-_}
+use mathlib.Core.Path.{sym, _∙_}
+use native.Mathlib.Omega.{arith}
+use Rattle.paths.proofs.RelationLaws.{levels-root, levels-same, longer, rest-full, levels-reach, levels-not}
 use borrow.Author.Needs.{needs}
-use Rattle.rules.specs.Path.{beyond, namesIn}
-use Rattle.paths.specs.Relation.{levelsOf}
-use Rattle.paths.specs.declared.answer.Beyond.the-variants.{Levels}
-use Rattle.paths.proofs.RelationLaws.{levels-root, levels-same, levels-reach, levels-not}
 use Rattle.paths.proofs.relation.beyond.Statement.{statement}
 use Rattle.paths.proofs.relation.beyond.Tie as tie
 
@@ -18,51 +15,34 @@ depth-requires : tie.Need-depth-requires
 depth-requires c κs = search needs
 
 returns : tie.Need-returns
-returns c =
-    let pre = c .before .before .before .before .before .before .pre in
-    levels-root _ _ (pre .0) (pre .1) _ (sym (c .before .before .same .ensures) ∙ c .before .if1 .taken) (c .depth .ensures)
+returns c = levels-root _ _ (c .before .before .before .before .before .before .pre .0) (c .before .before .before .before .before .before .pre .1) _ (sym (c .before .before .same .ensures) ∙ c .before .if1 .taken) (c .depth .ensures)
 
 same-requires-2 : tie.Need-same-requires-2
 same-requires-2 c κs = search needs
 
 returns-2 : tie.Need-returns-2
-returns-2 c =
-    let pre = c .before .before .before .before .before .before .before .pre in
-    levels-same _ _ (pre .0) (pre .1) (sym (c .before .same2 .ensures) ∙ c .if2 .taken)
+returns-2 c = levels-same _ _ (c .before .before .before .before .before .before .before .pre .0) (c .before .before .before .before .before .before .before .pre .1) (sym (c .before .same2 .ensures) ∙ c .if2 .taken)
 
 reaches-requires : tie.Need-reaches-requires
 reaches-requires c κs = search needs
 
+sub-depth : tie.Need-sub-depth
+sub-depth c = omega (arith, longer _ _ (c .before .before .before .before .before .before .before .before .before .pre .0) (c .before .before .before .before .before .before .before .before .before .pre .1) (sym (c .before .before .before .before .before .same .ensures) ∙ c .before .before .before .before .if1 .left) (sym (c .before .reaches .ensures) ∙ c .if3 .taken))
+
+part-depth-start : tie.Need-part-depth-start
+part-depth-start c = omega (arith, longer _ _ (c .before .before .before .before .before .before .before .before .before .pre .0) (c .before .before .before .before .before .before .before .before .before .pre .1) (sym (c .before .before .before .before .before .same .ensures) ∙ c .before .before .before .before .if1 .left) (sym (c .before .reaches .ensures) ∙ c .if3 .taken))
+
+part-depth-end : tie.Need-part-depth-end
+part-depth-end c = search needs
+
 depth-requires-2 : tie.Need-depth-requires-2
-depth-requires-2 c κs = search needs
-
-depth-requires-3 : tie.Need-depth-requires-3
-depth-requires-3 c κs = search needs
-
-reached : (c : tie.After-depth3)
-    → let args = c .before .before .before .before .before .before .before .before .before .before .before .args in
-    (c .depth3 .result ≤ c .before .depth2 .result)
-    × (Levels (c .before .depth2 .result - c .depth3 .result) ≡ levelsOf (beyond (namesIn (args .above .now)) (namesIn (args .s .now))))
-reached c =
-    let p = c .before .before in
-    let q = p .before .before .before .before in
-    let pre = q .before .before .before .before .before .pre in
-    levels-reach _ _ (pre .0) (pre .1) _ _ (c .before .depth2 .ensures) (c .depth3 .ensures) (sym (q .before .same .ensures) ∙ q .if1 .left)
-    (sym (p .before .reaches .ensures) ∙ p .if3 .taken)
-
-sub-t12 : tie.Need-sub-t12
-sub-t12 c = reached c .0
+depth-requires-2 c κs = rest-full _ _ (c .before .before .before .before .before .before .before .before .before .before .pre .0) (c .before .before .before .before .before .before .before .before .before .before .pre .1) (sym (c .before .before .before .before .before .before .same .ensures) ∙ c .before .before .before .before .before .if1 .left) (sym (c .before .before .reaches .ensures) ∙ c .before .if3 .taken)
 
 returns-3 : tie.Need-returns-3
-returns-3 c = reached c .1
+returns-3 c = levels-reach _ _ (c .before .before .before .before .before .before .before .before .before .before .before .pre .0) (c .before .before .before .before .before .before .before .before .before .before .before .pre .1) (sym (c .before .before .before .before .before .before .before .same .ensures) ∙ c .before .before .before .before .before .before .if1 .left) (sym (c .before .before .before .reaches .ensures) ∙ c .before .before .if3 .taken) _ (c .depth2 .ensures)
 
 returns-4 : tie.Need-returns-4
-returns-4 c =
-    let p = c .before .before in
-    let q = p .before .before in
-    let pre = q .before .before .before .before .before .pre in
-    levels-not _ _ (pre .0) (pre .1) (sym (q .before .same .ensures) ∙ q .if1 .left) (sym (p .before .same2 .ensures) ∙ p .if2 .left)
-    (sym (c .before .reaches .ensures) ∙ c .if3 .left)
+returns-4 c = levels-not _ _ (c .before .before .before .before .before .before .before .before .before .pre .0) (c .before .before .before .before .before .before .before .before .before .pre .1) (sym (c .before .before .before .before .before .same .ensures) ∙ c .before .before .before .before .if1 .left) (sym (c .before .before .before .same2 .ensures) ∙ c .before .before .if2 .left) (sym (c .before .reaches .ensures) ∙ c .if3 .left)
 
 pub beyond-spec : {M : Type 1} → statement M
 beyond-spec =
@@ -75,8 +55,9 @@ beyond-spec =
     same-requires-2
     returns-2
     reaches-requires
+    sub-depth
+    part-depth-start
+    part-depth-end
     depth-requires-2
-    depth-requires-3
-    sub-t12
     returns-3
     returns-4)

@@ -54,27 +54,46 @@ of-path-requires-7 c κs = search needs
 
 returns : tie.Need-returns
 unfolding meant
-returns c = path-stated (request.Directory (c .before .before .r .given .0 .0)) (c .before .before .r .given .0 .0) 0 kind.Directory (λ s. P.directory) tt (λ d s. refl) (λ s. refl) (λ s h. (h, omega arith)) tt _ (c .before .before .r .given .1) _ (c .of-path .ensures)
+returns c =
+    let r = c .before .before .r .given in
+    let p = r .0 .0 in
+    path-stated (request.Directory p) p 0 kind.Directory (λ s. P.directory) tt (λ d s. refl) (λ s. refl) (λ s h. (h, omega arith)) tt _ (r .1) _ (c .of-path .ensures)
 
 returns-2 : tie.Need-returns-2
 unfolding meant
-returns-2 c = path-stated (request.Read (c .before .before .r2 .given .0 .0)) (c .before .before .r2 .given .0 .0) 0 kind.Read (λ s. P.read) tt (λ d s. refl) (λ s. refl) (λ s h. (h, omega arith)) tt _ (c .before .before .r2 .given .1) _ (c .of-path2 .ensures)
+returns-2 c =
+    let r = c .before .before .r2 .given in
+    let p = r .0 .0 in
+    path-stated (request.Read p) p 0 kind.Read (λ s. P.read) tt (λ d s. refl) (λ s. refl) (λ s h. (h, omega arith)) tt _ (r .1) _ (c .of-path2 .ensures)
 
 returns-3 : tie.Need-returns-3
 unfolding meant
-returns-3 c = path-stated (request.GetPerms (c .before .before .r3 .given .0 .0)) (c .before .before .r3 .given .0 .0) 0 kind.GetPerms (λ s. P.getPerms) tt (λ d s. refl) (λ s. refl) (λ s h. (h, omega arith)) tt _ (c .before .before .r3 .given .1) _ (c .of-path3 .ensures)
+returns-3 c =
+    let r = c .before .before .r3 .given in
+    let p = r .0 .0 in
+    path-stated (request.GetPerms p) p 0 kind.GetPerms (λ s. P.getPerms) tt (λ d s. refl) (λ s. refl) (λ s h. (h, omega arith)) tt _ (r .1) _ (c .of-path3 .ensures)
 
 returns-4 : tie.Need-returns-4
 unfolding meant
-returns-4 c = path-stated (request.Write (c .before .before .r4 .given .0 .0) (c .before .before .r4 .given .0 .1 .0)) (c .before .before .r4 .given .0 .0) (c .before .before .r4 .given .0 .1 .0) kind.Write (λ s. P.write (drop (c .before .before .r4 .given .0 .1 .0) s)) tt (λ d s. refl) (λ s. refl) (λ s h. h) tt _ (c .before .before .r4 .given .1) _ (c .of-path4 .ensures)
+returns-4 c =
+    let r = c .before .before .r4 .given in
+    let p = r .0 .0 in
+    let v = r .0 .1 .0 in
+    path-stated (request.Write p v) p v kind.Write (λ s. P.write (drop v s)) tt (λ d s. refl) (λ s. refl) (λ s h. h) tt _ (r .1) _ (c .of-path4 .ensures)
 
 returns-5 : tie.Need-returns-5
 unfolding meant
-returns-5 c = path-stated (request.Mkdir (c .before .before .r5 .given .0 .0)) (c .before .before .r5 .given .0 .0) 0 kind.Mkdir (λ s. P.mkdir) tt (λ d s. refl) (λ s. refl) (λ s h. (h, omega arith)) tt _ (c .before .before .r5 .given .1) _ (c .of-path5 .ensures)
+returns-5 c =
+    let r = c .before .before .r5 .given in
+    let p = r .0 .0 in
+    path-stated (request.Mkdir p) p 0 kind.Mkdir (λ s. P.mkdir) tt (λ d s. refl) (λ s. refl) (λ s h. (h, omega arith)) tt _ (r .1) _ (c .of-path5 .ensures)
 
 returns-6 : tie.Need-returns-6
 unfolding meant
-returns-6 c = path-stated (request.Rm (c .before .before .r6 .given .0 .0)) (c .before .before .r6 .given .0 .0) 0 kind.Rm (λ s. P.rm) tt (λ d s. refl) (λ s. refl) (λ s h. (h, omega arith)) tt _ (c .before .before .r6 .given .1) _ (c .of-path6 .ensures)
+returns-6 c =
+    let r = c .before .before .r6 .given in
+    let p = r .0 .0 in
+    path-stated (request.Rm p) p 0 kind.Rm (λ s. P.rm) tt (λ d s. refl) (λ s. refl) (λ s h. (h, omega arith)) tt _ (r .1) _ (c .of-path6 .ensures)
 
 returns-7 : tie.Need-returns-7
 returns-7 c = set-stated _ (c .before .r7 .given .0 .0) _ (c .before .r7 .given .1)

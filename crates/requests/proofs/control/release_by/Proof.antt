@@ -1,10 +1,6 @@
-use mathlib.Core.Path.{refl, sym, ap, _∙_}
-use Rattle.rules.specs.Layout.{tableBytes, watchesBytes, transactionsBytes, domainsBytes}
-use Rattle.slots.proofs.Canonical.{sound-canonical}
-use Rattle.tables.proofs.TransactionChanges.{kept-transactions}
-use Rattle.tables.proofs.WatchChanges.{kept-watches}
-use Rattle.tables.proofs.DomainLaws.{kept-domains}
+use mathlib.Core.Path.{refl}
 use Rattle.handlers.proofs.Ways.{handled-as, refused-so, same-tables}
+use Rattle.requests.proofs.Alone.{nodes-alone, watches-alone, transactions-alone, domains-alone}
 use Rattle.requests.proofs.HandleLaws.{control-denied, control-allowed}
 use borrow.Author.Needs.{needs}
 use Rattle.requests.proofs.control.release_by.Statement.{statement}
@@ -14,7 +10,11 @@ with-events-requires : tie.Need-with-events-requires
 with-events-requires c κs = search needs
 
 returns : tie.Need-returns
-returns c = λ w nw ww xw dw. refused-so w _ _ _ _ _ _ (control-denied w _ _ (c .before .if1 .taken)) (c .with-events .ensures) (same-tables (sym (sound-canonical (c .before .before .before .before .before .before .before .before .args .nodes .now) (c .before .before .before .before .before .before .before .before .pre .0 .sound) .kept) ∙ ap tableBytes (sym nw)) refl (sym (kept-watches _ (c .before .before .before .before .before .before .before .before .pre .0 .watching)) ∙ ap watchesBytes (sym ww)) (sym (kept-transactions _ (c .before .before .before .before .before .before .before .before .pre .0 .kept)) ∙ ap transactionsBytes (sym xw)) (sym (kept-domains _ (c .before .before .before .before .before .before .before .before .pre .0 .known)) ∙ ap domainsBytes (sym dw)))
+returns c =
+    λ w nw ww xw dw.
+    let p = c .before .before .before .before .before .before .before .before .pre .0 in
+    refused-so w _ _ _ _ _ _ (control-denied w _ _ (c .before .if1 .taken)) (c .with-events .ensures)
+    (same-tables (nodes-alone w _ (p .sound) nw) refl (watches-alone w _ (p .watching) ww) (transactions-alone w _ (p .kept) xw) (domains-alone w _ (p .known) dw))
 
 release-requires : tie.Need-release-requires
 release-requires c κs = search needs
@@ -38,7 +38,10 @@ same-length-6 : tie.Need-same-length-6
 same-length-6 c = search needs
 
 returns-2 : tie.Need-returns-2
-returns-2 c = λ w nw ww xw dw. handled-as (control-allowed w _ _ (c .before .before .before .before .before .before .before .before .before .before .before .before .before .before .before .before .before .before .before .if1 .left)) (c .before .before .before .before .before .before .before .before .before .before .before .before .release .ensures w nw ww xw dw)
+returns-2 c =
+    λ w nw ww xw dw.
+    let q = c .before .before .before .before .before .before .before .before .before .before .before .before in
+    handled-as (control-allowed w _ _ (q .before .before .before .before .before .before .before .if1 .left)) (q .release .ensures w nw ww xw dw)
 
 pub release-by-spec : {M : Type 1} → statement M
 release-by-spec =

@@ -1,10 +1,8 @@
-use mathlib.Core.Path.{refl, sym, ap, _∙_}
-use Rattle.rules.specs.Layout.{tableBytes, transactionsBytes}
-use Rattle.slots.proofs.Canonical.{sound-canonical}
-use Rattle.tables.proofs.TransactionChanges.{kept-transactions}
+use mathlib.Core.Path.{refl}
 use Rattle.handlers.proofs.EndLaws.{it-holds, none-held}
-use Rattle.handlers.proofs.Ways.{handled-as, refused-so, same-tables}
-use Rattle.requests.proofs.NodeLaws.{asked-plain, asked-nowhere, asked-inside, copies-back, handled-with}
+use Rattle.handlers.proofs.Ways.{refused-so, same-tables}
+use Rattle.requests.proofs.Alone.{nodes-alone, copies-alone, transactions-alone, handled-so}
+use Rattle.requests.proofs.NodeLaws.{asked-plain, asked-nowhere, asked-inside}
 use borrow.Author.Needs.{needs}
 use Rattle.requests.proofs.node.asked.Statement.{statement}
 use Rattle.requests.proofs.node.asked.Tie as tie
@@ -25,7 +23,12 @@ same-length-4 : tie.Need-same-length-4
 same-length-4 c = search needs
 
 returns : tie.Need-returns
-returns c = λ w nw cw ww xw a is g. handled-as (asked-plain w _ _ a _ (c .before .before .before .before .before .before .before .before .before .before .before .before .before .if1 .taken)) (handled-with (same-tables refl (copies-back w _ (c .before .before .before .before .before .before .before .before .before .before .before .before .before .before .before .before .before .before .before .before .before .before .before .before .pre .0 .whole) cw) refl refl refl) (c .before .before .before .before .before .before .before .before .plainly .ensures w nw ww xw a is g))
+returns c =
+    λ w nw cw ww xw a is g.
+    let q = c .before .before .before .before .before .before .before .before in
+    let i = q .before .before .before .before .before in
+    handled-so (asked-plain w _ _ a _ (i .if1 .taken)) (same-tables refl (copies-alone w _ (i .before .before .before .before .before .before .before .before .before .before .before .pre .0 .whole) cw) refl refl refl)
+    (q .plainly .ensures w nw ww xw a is g)
 
 is-held-requires : tie.Need-is-held-requires
 is-held-requires c κs = search needs
@@ -37,7 +40,14 @@ same-length-5 : tie.Need-same-length-5
 same-length-5 c = search needs
 
 returns-2 : tie.Need-returns-2
-returns-2 c = λ w nw cw ww xw a is g. refused-so w _ _ _ _ _ _ (asked-nowhere w _ _ a _ (c .before .before .before .before .if1 .left) (none-held (c .before .before .before .before .before .before .before .before .before .before .before .before .before .before .before .args .transactions .now) (c .before .before .before .before .before .before .before .before .before .before .before .before .before .before .before .args .c) (c .before .before .before .before .before .before .before .before .before .before .before .before .before .before .before .args .tx) (c .before .before .is-held .result) (c .before .before .is-held .ensures) (c .before .if2 .taken) w xw)) (c .with-events .ensures) (same-tables (sym (sound-canonical (c .before .before .before .before .before .before .before .before .before .before .before .before .before .before .before .args .nodes .now) (c .before .before .before .before .before .before .before .before .before .before .before .before .before .before .before .pre .0 .sound) .kept) ∙ ap tableBytes (sym nw)) (copies-back w _ (c .before .before .before .before .before .before .before .before .before .before .before .before .before .before .before .pre .0 .whole) cw) refl (sym (kept-transactions _ (c .before .before .before .before .before .before .before .before .before .before .before .before .before .before .before .pre .0 .kept)) ∙ ap transactionsBytes (sym xw)) refl)
+returns-2 c =
+    λ w nw cw ww xw a is g.
+    let b = c .before .before .before .before .before .before .before .before .before .before .before .before .before .before .before in
+    let p = b .pre .0 in
+    let x = c .before .before .is-held in
+    let none = none-held (b .args .transactions .now) (b .args .c) (b .args .tx) (x .result) (x .ensures) (c .before .if2 .taken) w xw in
+    refused-so w _ _ _ _ _ _ (asked-nowhere w _ _ a _ (c .before .before .before .before .if1 .left) none) (c .with-events .ensures)
+    (same-tables (nodes-alone w _ (p .sound) nw) (copies-alone w _ (p .whole) cw) refl (transactions-alone w _ (p .kept) xw) refl)
 
 sub-k : tie.Need-sub-k
 sub-k c = search needs
@@ -46,7 +56,12 @@ cast-k : tie.Need-cast-k
 cast-k c = search needs
 
 inside-requires : tie.Need-inside-requires
-inside-requires c κs = let h = it-holds (c .before .before .before .before .before .before .before .before .before .before .before .before .before .before .before .before .before .args .transactions .now) (c .before .before .before .before .before .before .before .before .before .before .before .before .before .before .before .before .before .args .c) (c .before .before .before .before .before .before .before .before .before .before .before .before .before .before .before .before .before .args .tx) (c .before .before .before .before .is-held .result) (c .before .before .before .before .is-held .ensures) (c .before .before .before .if2 .left) in (record { whole = c .before .before .before .before .before .before .before .before .before .before .before .before .before .before .before .before .before .pre .0 .whole; place = h .place; sound = c .before .before .before .before .before .before .before .before .before .before .before .before .before .before .before .before .before .pre .0 .copy _ (h .place); long = c .before .before .before .before .before .before .before .before .before .before .before .before .before .before .before .before .before .pre .0 .long }, c .before .before .before .before .before .before .before .before .before .before .before .before .before .before .before .before .before .pre .1)
+inside-requires c κs =
+    let b = c .before .before .before .before .before .before .before .before .before .before .before .before .before .before .before .before .before in
+    let p = b .pre .0 in
+    let x = c .before .before .before .before .is-held in
+    let h = it-holds (b .args .transactions .now) (b .args .c) (b .args .tx) (x .result) (x .ensures) (c .before .before .before .if2 .left) in
+    (record { whole = p .whole; place = h .place; sound = p .copy _ (h .place); long = p .long }, b .pre .1)
 
 same-length-6 : tie.Need-same-length-6
 same-length-6 c = search needs
@@ -58,7 +73,14 @@ same-length-8 : tie.Need-same-length-8
 same-length-8 c = search needs
 
 returns-3 : tie.Need-returns-3
-returns-3 c = λ w nw cw ww xw a is g. let h = it-holds (c .before .before .before .before .before .before .before .before .before .before .before .before .before .before .before .before .before .before .before .before .before .before .before .before .args .transactions .now) (c .before .before .before .before .before .before .before .before .before .before .before .before .before .before .before .before .before .before .before .before .before .before .before .before .args .c) (c .before .before .before .before .before .before .before .before .before .before .before .before .before .before .before .before .before .before .before .before .before .before .before .before .args .tx) (c .before .before .before .before .before .before .before .before .before .before .before .is-held .result) (c .before .before .before .before .before .before .before .before .before .before .before .is-held .ensures) (c .before .before .before .before .before .before .before .before .before .before .if2 .left) in handled-as (asked-inside w _ _ a _ (c .before .before .before .before .before .before .before .before .before .before .before .before .before .if1 .left) _ (h .found w xw)) (handled-with (same-tables (sym (sound-canonical (c .before .before .before .before .before .before .before .before .before .before .before .before .before .before .before .before .before .before .before .before .before .before .before .before .args .nodes .now) (c .before .before .before .before .before .before .before .before .before .before .before .before .before .before .before .before .before .before .before .before .before .before .before .before .pre .0 .sound) .kept) ∙ ap tableBytes (sym nw)) refl refl refl refl) (c .before .before .before .before .before .before .inside .ensures w cw xw a is (c .before .before .before .before .before .before .before .before .before .before .before .before .before .before .before .before .before .before .before .before .before .before .before .before .args .events .now)))
+returns-3 c =
+    λ w nw cw ww xw a is g.
+    let i = c .before .before .before .before .before .before .before .before .before .before in
+    let b = i .before .before .before .before .before .before .before .before .before .before .before .before .before .before in
+    let x = i .before .is-held in
+    let h = it-holds (b .args .transactions .now) (b .args .c) (b .args .tx) (x .result) (x .ensures) (i .if2 .left) in
+    handled-so (asked-inside w _ _ a _ (i .before .before .before .if1 .left) _ (h .found w xw)) (same-tables (nodes-alone w _ (b .pre .0 .sound) nw) refl refl refl refl)
+    (c .before .before .before .before .before .before .inside .ensures w cw xw a is (b .args .events .now))
 
 pub asked-spec : {M : Type 1} → statement M
 asked-spec =

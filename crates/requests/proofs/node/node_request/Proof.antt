@@ -1,39 +1,25 @@
-use Rattle.requests.proofs.NodeLaws.{says-good, says-asks, asking-of, asked-outcome}
-use Rattle.handlers.proofs.Ways.{handled-as}
-use Rattle.requests.proofs.PlaceLaws.{put-within, put-long, put-front}
+use mathlib.Core.Path.{sym}
+use Rattle.requests.proofs.PlaceLaws.{path-long, absolute-names}
 use borrow.Author.Needs.{needs}
 use Rattle.requests.proofs.node.node_request.Statement.{statement}
 use Rattle.requests.proofs.node.node_request.Tie as tie
 
-slice-aggregate-full-path : tie.Need-slice-aggregate-full-path
-slice-aggregate-full-path c = search needs
+enum-told : tie.Need-enum-told
+enum-told c = search needs
 
-full-path-requires : tie.Need-full-path-requires
-full-path-requires c κs = search needs
+slice-aggregate-request-at : tie.Need-slice-aggregate-request-at
+slice-aggregate-request-at c =
+    let b = c .before .before .before .before .before .before .before .before .before .before .before .before .before .before in
+    sym (path-long (b .args .s .now) (b .args .a .path) (b .args .c) (b .pre .3 .1 .path))
 
-array-share-prefix-text : tie.Need-array-share-prefix-text
-array-share-prefix-text c = put-within _ _ _ _ (c .before .before .full-path .ensures) (c .before .before .full-path .kept .1 .1 .1 .0)
+request-at-requires : tie.Need-request-at-requires
+request-at-requires c κs =
+    let b = c .before .before .before .before .before .before .before .before .before .before .before .before .before .before .before .before in
+    let p = b .pre in
+    (p .0, p .1, p .3, sym (absolute-names (b .args .s .now) (b .args .a .path) (b .args .c) (p .3 .1 .path) (c .before .before .before .before .before .before .enum-told .given .1)))
 
-slice-aggregate-path : tie.Need-slice-aggregate-path
-slice-aggregate-path c = put-long _ _ _ _ (c .before .before .before .full-path .ensures) (c .before .before .before .full-path .kept .1 .1 .1 .0)
-
-sub-value : tie.Need-sub-value
-sub-value c = search needs
-
-part-value-start : tie.Need-part-value-start
-part-value-start c = search needs
-
-part-value-end : tie.Need-part-value-end
-part-value-end c = search needs
-
-slice-aggregate-asked : tie.Need-slice-aggregate-asked
-slice-aggregate-asked c = search needs
-
-slice-aggregate-asked-2 : tie.Need-slice-aggregate-asked-2
-slice-aggregate-asked-2 c = search needs
-
-asked-requires : tie.Need-asked-requires
-asked-requires c κs = (c .before .before .before .before .before .before .before .before .before .before .before .before .before .before .before .before .before .before .before .before .pre .0, asking-of (c .before .before .before .before .before .before .before .before .before .before .before .before .before .before .before .before .before .before .before .before .args .s .now) _ _ (c .before .before .before .before .before .before .before .before .before .before .before .before .before .before .before .before .before .before .before .before .args .a) (c .before .before .before .before .before .before .before .before .before .before .before .before .before .before .before .before .before .before .before .before .pre .3 .1) (c .before .before .before .before .before .before .before .before .before .before .before .before .before .before .before .before .before .before .before .before .args .c) (c .before .before .before .before .before .before .before .before .before .before .before .before .before .before .before .before .before .before .before .before .pre .1) _ (put-front _ _ _ _ (c .before .before .before .before .before .before .before .before .before .before .before .full-path .ensures) (c .before .before .before .before .before .before .before .before .before .before .before .full-path .kept .1 .1 .1 .0)))
+relative-request-requires : tie.Need-relative-request-requires
+relative-request-requires c κs = search needs
 
 same-length : tie.Need-same-length
 same-length c = search needs
@@ -51,25 +37,43 @@ same-length-5 : tie.Need-same-length-5
 same-length-5 c = search needs
 
 returns : tie.Need-returns
-returns c = λ type t w nw cw ww xw. handled-as (asked-outcome (c .before .before .before .before .before .before .before .before .before .before .before .before .before .before .before .before .before .before .before .before .before .before .before .before .before .before .before .before .before .before .before .args .s .now) type _ (c .before .before .before .before .before .before .before .before .before .before .before .before .before .before .before .before .before .before .before .before .before .before .before .before .before .before .before .before .before .before .before .args .a) t (c .before .before .before .before .before .before .before .before .before .before .before .before .before .before .before .before .before .before .before .before .before .before .before .before .before .before .before .before .before .before .before .args .c) w _ (put-front _ _ _ _ (c .before .before .before .before .before .before .before .before .before .before .before .before .before .before .before .before .before .before .before .before .before .before .full-path .ensures) (c .before .before .before .before .before .before .before .before .before .before .before .before .before .before .before .before .before .before .before .before .before .before .full-path .kept .1 .1 .1 .0))) (c .before .before .before .before .before .before .before .before .before .before .asked .ensures w nw cw ww xw _ (says-asks (c .before .before .before .before .before .before .before .before .before .before .before .before .before .before .before .before .before .before .before .before .before .before .before .before .before .before .before .before .before .before .before .args .s .now) type _ (c .before .before .before .before .before .before .before .before .before .before .before .before .before .before .before .before .before .before .before .before .before .before .before .before .before .before .before .before .before .before .before .args .a) t (c .before .before .before .before .before .before .before .before .before .before .before .before .before .before .before .before .before .before .before .before .before .before .before .before .before .before .before .before .before .before .before .args .c)) (says-good (c .before .before .before .before .before .before .before .before .before .before .before .before .before .before .before .before .before .before .before .before .before .before .before .before .before .before .before .before .before .before .before .args .s .now) type _ (c .before .before .before .before .before .before .before .before .before .before .before .before .before .before .before .before .before .before .before .before .before .before .before .before .before .before .before .before .before .before .before .args .a) t (c .before .before .before .before .before .before .before .before .before .before .before .before .before .before .before .before .before .before .before .before .before .before .before .before .before .before .before .before .before .before .before .args .c)))
+returns c = search needs
+
+same-length-6 : tie.Need-same-length-6
+same-length-6 c = search needs
+
+same-length-7 : tie.Need-same-length-7
+same-length-7 c = search needs
+
+same-length-8 : tie.Need-same-length-8
+same-length-8 c = search needs
+
+same-length-9 : tie.Need-same-length-9
+same-length-9 c = search needs
+
+same-length-10 : tie.Need-same-length-10
+same-length-10 c = search needs
+
+returns-2 : tie.Need-returns-2
+returns-2 c = search needs
 
 pub node-request-spec : {M : Type 1} → statement M
 node-request-spec =
     tie.close
     (tie.spec
-    slice-aggregate-full-path
-    full-path-requires
-    array-share-prefix-text
-    slice-aggregate-path
-    sub-value
-    part-value-start
-    part-value-end
-    slice-aggregate-asked
-    slice-aggregate-asked-2
-    asked-requires
+    enum-told
+    slice-aggregate-request-at
+    request-at-requires
+    relative-request-requires
     same-length
     same-length-2
     same-length-3
     same-length-4
     same-length-5
-    returns)
+    returns
+    same-length-6
+    same-length-7
+    same-length-8
+    same-length-9
+    same-length-10
+    returns-2)

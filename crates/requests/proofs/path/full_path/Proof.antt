@@ -1,8 +1,7 @@
 use mathlib.Core.Path.{sym}
-use lib.Seq.{length-take-le}
 use lib.ListN.{length-take}
 use native.Mathlib.Omega.{arith}
-use Rattle.requests.proofs.PlaceLaws.{absolute-put, relative-put, special-root, malformed-root}
+use Rattle.requests.proofs.PlaceLaws.{path-long, absolute-put, relative-put, special-root, malformed-root}
 use borrow.Author.Needs.{needs}
 use Rattle.requests.proofs.path.full_path.Statement.{statement}
 use Rattle.requests.proofs.path.full_path.Tie as tie
@@ -11,19 +10,27 @@ enum-told : tie.Need-enum-told
 enum-told c = search needs
 
 slice-aggregate-copy : tie.Need-slice-aggregate-copy
-slice-aggregate-copy c = sym (length-take-le (c .before .before .before .before .before .before .args .path .end) (c .before .before .before .before .before .before .args .s .now) (omega (arith, c .before .before .before .before .before .before .pre .0 .inside)))
+slice-aggregate-copy c =
+    let b = c .before .before .before .before .before .before in
+    sym (path-long (b .args .s .now) (b .args .path) (b .args .domain) (b .pre .0))
 
 copy-requires : tie.Need-copy-requires
-copy-requires c κs = simp length-take (omega (arith, c .before .before .before .before .before .before .pre .0 .inside, c .before .before .before .before .before .before .pre .1))
+copy-requires c κs =
+    let p = c .before .before .before .before .before .before .pre in
+    simp length-take (omega (arith, p .0 .inside, p .1))
 
 enum-told-2 : tie.Need-enum-told-2
 enum-told-2 c = search needs
 
 slice-aggregate-full : tie.Need-slice-aggregate-full
-slice-aggregate-full c = sym (length-take-le (c .before .before .before .before .before .before .args .path .end) (c .before .before .before .before .before .before .args .s .now) (omega (arith, c .before .before .before .before .before .before .pre .0 .inside)))
+slice-aggregate-full c =
+    let b = c .before .before .before .before .before .before in
+    sym (path-long (b .args .s .now) (b .args .path) (b .args .domain) (b .pre .0))
 
 full-requires : tie.Need-full-requires
-full-requires c κs = simp length-take (omega (arith, c .before .before .before .before .before .before .pre .0 .inside, c .before .before .before .before .before .before .pre .1))
+full-requires c κs =
+    let p = c .before .before .before .before .before .before .pre in
+    simp length-take (omega (arith, p .0 .inside, p .1))
 
 enum-told-3 : tie.Need-enum-told-3
 enum-told-3 c = search needs
@@ -41,25 +48,33 @@ same-length : tie.Need-same-length
 same-length c = search needs
 
 returns : tie.Need-returns
-returns c = absolute-put _ (c .before .before .before .before .before .before .before .before .before .args .path) (c .before .before .before .before .before .before .before .before .before .args .domain) (c .before .before .before .before .before .before .before .before .before .pre .0) (c .before .before .before .before .before .enum-told .given .1) _ _ (c .before .before .copy .ensures)
+returns c =
+    let b = c .before .before .before .before .before .before .before .before .before in
+    absolute-put _ (b .args .path) (b .args .domain) (b .pre .0) (c .before .before .before .before .before .enum-told .given .1) _ _ (c .before .before .copy .ensures)
 
 same-length-2 : tie.Need-same-length-2
 same-length-2 c = search needs
 
 returns-2 : tie.Need-returns-2
-returns-2 c = relative-put _ (c .before .before .before .before .before .before .before .before .before .args .path) (c .before .before .before .before .before .before .before .before .before .args .domain) (c .before .before .before .before .before .before .before .before .before .pre .0) (c .before .before .before .before .before .enum-told2 .given .1) _ _ _ (c .before .before .full .ensures)
+returns-2 c =
+    let b = c .before .before .before .before .before .before .before .before .before in
+    relative-put _ (b .args .path) (b .args .domain) (b .pre .0) (c .before .before .before .before .before .enum-told2 .given .1) _ _ _ (c .before .before .full .ensures)
 
 same-length-3 : tie.Need-same-length-3
 same-length-3 c = search needs
 
 returns-3 : tie.Need-returns-3
-returns-3 c = special-root _ (c .before .before .before .before .before .before .before .before .args .path) (c .before .before .before .before .before .before .before .before .args .domain) (c .before .before .before .before .before .before .before .before .pre .0) (c .before .before .before .before .enum-told3 .given .1) _ _ _ (c .before .before .root .ensures)
+returns-3 c =
+    let b = c .before .before .before .before .before .before .before .before in
+    special-root _ (b .args .path) (b .args .domain) (b .pre .0) (c .before .before .before .before .enum-told3 .given .1) _ _ _ (c .before .before .root .ensures)
 
 same-length-4 : tie.Need-same-length-4
 same-length-4 c = search needs
 
 returns-4 : tie.Need-returns-4
-returns-4 c = malformed-root _ (c .before .before .before .before .before .before .before .before .args .path) (c .before .before .before .before .before .before .before .before .args .domain) (c .before .before .before .before .before .before .before .before .pre .0) (c .before .before .before .before .enum-told4 .given .1) _ _ _ (c .before .before .root2 .ensures)
+returns-4 c =
+    let b = c .before .before .before .before .before .before .before .before in
+    malformed-root _ (b .args .path) (b .args .domain) (b .pre .0) (c .before .before .before .before .enum-told4 .given .1) _ _ _ (c .before .before .root2 .ensures)
 
 pub full-path-spec : {M : Type 1} → statement M
 full-path-spec =

@@ -1,10 +1,7 @@
-use mathlib.Core.Bool.{Bool, not, _&&_}
-use mathlib.Core.Path.{refl, sym, ap, _∙_}
+use mathlib.Core.Path.{refl, sym}
 use Rattle.payload.specs.Meaning.{placeAt}
-use Rattle.rules.specs.Domain.{isControl}
-use Rattle.rules.specs.Layout.{watchesBytes}
-use Rattle.tables.proofs.WatchChanges.{kept-watches}
 use Rattle.handlers.proofs.Ways.{handled-as, refused-so, same-tables}
+use Rattle.requests.proofs.Alone.{watches-alone}
 use Rattle.requests.proofs.PlaceLaws.{put-within, put-long, put-front, foreign-place, own-place}
 use borrow.Author.Needs.{needs}
 use Rattle.requests.proofs.place.unwatch_place.Statement.{statement}
@@ -20,7 +17,12 @@ with-events-requires : tie.Need-with-events-requires
 with-events-requires c κs = search needs
 
 returns : tie.Need-returns
-returns c = λ w ww events. refused-so w _ _ _ events _ _ (foreign-place _ (c .before .before .before .before .before .before .before .args .path) (c .before .before .before .before .before .before .before .args .c) (c .before .before .before .before .before .before .before .pre .1 .path) w _ (ap (λ (b : Bool). b && not (isControl (c .before .before .before .before .before .before .before .args .c))) (sym (c .before .before .before .is-special .ensures)) ∙ (sym (c .before .before .is-foreign .ensures) ∙ c .before .if1 .taken))) (c .with-events .ensures) (same-tables refl refl (sym (kept-watches _ (c .before .before .before .before .before .before .before .pre .0)) ∙ ap watchesBytes (sym ww)) refl refl)
+returns c =
+    λ w ww events.
+    let b = c .before .before .before .before .before .before .before in
+    let a = b .args in
+    refused-so w _ _ _ events _ _ (foreign-place _ (a .path) (a .c) (b .pre .1 .path) _ _ (c .before .before .before .is-special .ensures) (c .before .before .is-foreign .ensures) w _ (c .before .if1 .taken)) (c .with-events .ensures)
+    (same-tables refl refl (watches-alone w _ (b .pre .0) ww) refl refl)
 
 slice-aggregate-place-text : tie.Need-slice-aggregate-place-text
 slice-aggregate-place-text c = search needs
@@ -29,10 +31,14 @@ place-text-requires : tie.Need-place-text-requires
 place-text-requires c κs = search needs
 
 array-share-prefix-text : tie.Need-array-share-prefix-text
-array-share-prefix-text c = put-within _ _ _ _ (c .before .before .place-text .ensures) (c .before .before .place-text .kept .1 .1 .1 .0)
+array-share-prefix-text c =
+    let t = c .before .before .place-text in
+    put-within _ _ _ _ (t .ensures) (t .kept .1 .1 .1 .0)
 
 slice-aggregate-unwatch : tie.Need-slice-aggregate-unwatch
-slice-aggregate-unwatch c = put-long _ _ _ _ (c .before .before .before .place-text .ensures) (c .before .before .before .place-text .kept .1 .1 .1 .0)
+slice-aggregate-unwatch c =
+    let t = c .before .before .before .place-text in
+    put-long _ _ _ _ (t .ensures) (t .kept .1 .1 .1 .0)
 
 sub-unwatch : tie.Need-sub-unwatch
 sub-unwatch c = search needs
@@ -53,7 +59,14 @@ same-length-2 : tie.Need-same-length-2
 same-length-2 c = search needs
 
 returns-2 : tie.Need-returns-2
-returns-2 c = λ w ww events. handled-as (own-place _ (c .before .before .before .before .before .before .before .before .before .before .before .before .before .before .before .before .before .before .args .path) (c .before .before .before .before .before .before .before .before .before .before .before .before .before .before .before .before .before .before .args .c) (c .before .before .before .before .before .before .before .before .before .before .before .before .before .before .before .before .before .before .pre .1 .path) w _ (ap (λ (b : Bool). b && not (isControl (c .before .before .before .before .before .before .before .before .before .before .before .before .before .before .before .before .before .before .args .c))) (sym (c .before .before .before .before .before .before .before .before .before .before .before .before .before .before .is-special .ensures)) ∙ (sym (c .before .before .before .before .before .before .before .before .before .before .before .before .before .is-foreign .ensures) ∙ c .before .before .before .before .before .before .before .before .before .before .before .before .if1 .left))) (c .before .before .before .before .unwatch .ensures w ww (placeAt (c .before .before .before .before .before .before .before .before .before .before .before .before .before .before .before .before .before .before .args .c) (c .before .before .before .before .before .before .before .before .before .before .before .before .before .before .before .before .before .before .args .s .now) (c .before .before .before .before .before .before .before .before .before .before .before .before .before .before .before .before .before .before .args .path)) (sym (put-front _ _ _ _ (c .before .before .before .before .before .before .before .before .before .before .place-text .ensures) (c .before .before .before .before .before .before .before .before .before .before .place-text .kept .1 .1 .1 .0))) events)
+returns-2 c =
+    λ w ww events.
+    let f = c .before .before .before .before .before .before .before .before .before .before .before .before in
+    let b = f .before .before .before .before .before .before in
+    let a = b .args in
+    let t = c .before .before .before .before .before .before .before .before .before .before .place-text in
+    handled-as (own-place _ (a .path) (a .c) (b .pre .1 .path) _ _ (f .before .before .is-special .ensures) (f .before .is-foreign .ensures) w _ (f .if1 .left))
+    (c .before .before .before .before .unwatch .ensures w ww (placeAt (a .c) (a .s .now) (a .path)) (sym (put-front _ _ _ _ (t .ensures) (t .kept .1 .1 .1 .0))) events)
 
 pub unwatch-place-spec : {M : Type 1} → statement M
 unwatch-place-spec =

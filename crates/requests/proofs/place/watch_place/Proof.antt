@@ -1,14 +1,11 @@
 use Prim.Native.Nat.{ℕ}
 use mathlib.Core.Option.{Option}
-use mathlib.Core.Bool.{Bool, not, _&&_}
-use mathlib.Core.Path.{refl, sym, ap, ap₂, _∙_}
+use mathlib.Core.Path.{refl, sym, ap₂, _∙_}
 use Rattle.payload.specs.Strings.{part}
-use Rattle.rules.specs.Domain.{isControl}
 use Rattle.rules.specs.Payload.{Place}
 use Rattle.rules.specs.World.{watching}
-use Rattle.rules.specs.Layout.{watchesBytes}
-use Rattle.tables.proofs.WatchChanges.{kept-watches}
 use Rattle.handlers.proofs.Ways.{handled-as, refused-so, same-tables}
+use Rattle.requests.proofs.Alone.{watches-alone}
 use Rattle.requests.proofs.PlaceLaws.{put-within, put-long, put-front, stands-so, foreign-place, own-place}
 use borrow.Author.Needs.{needs}
 use Rattle.requests.proofs.place.watch_place.Statement.{statement}
@@ -24,7 +21,12 @@ with-events-requires : tie.Need-with-events-requires
 with-events-requires c κs = search needs
 
 returns : tie.Need-returns
-returns c = λ w ww. refused-so w _ _ _ _ _ _ (foreign-place _ (c .before .before .before .before .before .before .before .before .args .path) (c .before .before .before .before .before .before .before .before .args .c) (c .before .before .before .before .before .before .before .before .pre .2 .path) w _ (ap (λ (b : Bool). b && not (isControl (c .before .before .before .before .before .before .before .before .args .c))) (sym (c .before .before .before .is-special .ensures)) ∙ (sym (c .before .before .is-foreign .ensures) ∙ c .before .if1 .taken))) (c .with-events .ensures) (same-tables refl refl (sym (kept-watches _ (c .before .before .before .before .before .before .before .before .pre .0)) ∙ ap watchesBytes (sym ww)) refl refl)
+returns c =
+    λ w ww.
+    let b = c .before .before .before .before .before .before .before .before in
+    let a = b .args in
+    refused-so w _ _ _ _ _ _ (foreign-place _ (a .path) (a .c) (b .pre .2 .path) _ _ (c .before .before .before .is-special .ensures) (c .before .before .is-foreign .ensures) w _ (c .before .if1 .taken)) (c .with-events .ensures)
+    (same-tables refl refl (watches-alone w _ (b .pre .0) ww) refl refl)
 
 is-relative-requires : tie.Need-is-relative-requires
 is-relative-requires c κs = search needs
@@ -36,10 +38,14 @@ place-text-requires : tie.Need-place-text-requires
 place-text-requires c κs = search needs
 
 array-share-prefix-text : tie.Need-array-share-prefix-text
-array-share-prefix-text c = put-within _ _ _ _ (c .before .before .place-text .ensures) (c .before .before .place-text .kept .1 .1 .1 .0)
+array-share-prefix-text c =
+    let t = c .before .before .place-text in
+    put-within _ _ _ _ (t .ensures) (t .kept .1 .1 .1 .0)
 
 slice-aggregate-watch : tie.Need-slice-aggregate-watch
-slice-aggregate-watch c = put-long _ _ _ _ (c .before .before .before .place-text .ensures) (c .before .before .before .place-text .kept .1 .1 .1 .0)
+slice-aggregate-watch c =
+    let t = c .before .before .before .place-text in
+    put-long _ _ _ _ (t .ensures) (t .kept .1 .1 .1 .0)
 
 depth-of-requires : tie.Need-depth-of-requires
 depth-of-requires c κs = search needs
@@ -54,7 +60,12 @@ part-watch-end : tie.Need-part-watch-end
 part-watch-end c = search needs
 
 watch-requires : tie.Need-watch-requires
-watch-requires c κs = let s = stands-so _ (c .before .before .before .before .before .before .before .before .before .before .before .before .before .before .before .before .before .args .path) (c .before .before .before .before .before .before .before .before .before .before .before .before .before .before .before .before .before .args .c) (c .before .before .before .before .before .before .before .before .before .before .before .before .before .before .before .before .before .pre .2 .path) _ _ _ (c .before .before .before .before .before .before .before .before .before .before .before .before .is-special .ensures) (c .before .before .before .before .before .before .before .before .before .is-relative .ensures) (put-front _ _ _ _ (c .before .before .before .before .before .before .before .place-text .ensures) (c .before .before .before .before .before .before .before .place-text .kept .1 .1 .1 .0)) in (c .before .before .before .before .before .before .before .before .before .before .before .before .before .before .before .before .before .pre .0, c .before .before .before .before .before .before .before .before .before .before .before .before .before .before .before .before .before .pre .1, s .placed, s .named, c .before .before .before .depth-of .ensures .1, c .before .before .before .before .before .before .before .before .before .before .before .before .before .before .before .before .before .pre .4, c .before .before .before .before .before .before .before .before .before .before .before .before .before .before .before .before .before .pre .5)
+watch-requires c κs =
+    let t = c .before .before .before .before .before .before .before in
+    let b = t .before .before .before .before .before .before .before .before .before .before in
+    let p = b .pre in
+    let s = stands-so _ (b .args .path) (b .args .c) (p .2 .path) _ _ _ (t .before .before .before .before .before .is-special .ensures) (t .before .before .is-relative .ensures) (put-front _ _ _ _ (t .place-text .ensures) (t .place-text .kept .1 .1 .1 .0)) in
+    (p .0, p .1, s .placed, s .named, c .before .before .before .depth-of .ensures .1, p .4, p .5)
 
 same-length : tie.Need-same-length
 same-length c = search needs
@@ -66,7 +77,17 @@ same-length-3 : tie.Need-same-length-3
 same-length-3 c = search needs
 
 returns-2 : tie.Need-returns-2
-returns-2 c = λ w ww. let s = stands-so _ (c .before .before .before .before .before .before .before .before .before .before .before .before .before .before .before .before .before .before .before .before .before .before .before .before .args .path) (c .before .before .before .before .before .before .before .before .before .before .before .before .before .before .before .before .before .before .before .before .before .before .before .before .args .c) (c .before .before .before .before .before .before .before .before .before .before .before .before .before .before .before .before .before .before .before .before .before .before .before .before .pre .2 .path) _ _ _ (c .before .before .before .before .before .before .before .before .before .before .before .before .before .before .before .before .before .before .before .is-special .ensures) (c .before .before .before .before .before .before .before .before .before .before .before .before .before .before .before .before .is-relative .ensures) (put-front _ _ _ _ (c .before .before .before .before .before .before .before .before .before .before .before .before .before .before .place-text .ensures) (c .before .before .before .before .before .before .before .before .before .before .before .before .before .before .place-text .kept .1 .1 .1 .0)) in handled-as (own-place _ (c .before .before .before .before .before .before .before .before .before .before .before .before .before .before .before .before .before .before .before .before .before .before .before .before .args .path) (c .before .before .before .before .before .before .before .before .before .before .before .before .before .before .before .before .before .before .before .before .before .before .before .before .args .c) (c .before .before .before .before .before .before .before .before .before .before .before .before .before .before .before .before .before .before .before .before .before .before .before .before .pre .2 .path) w _ (ap (λ (b : Bool). b && not (isControl (c .before .before .before .before .before .before .before .before .before .before .before .before .before .before .before .before .before .before .before .before .before .before .before .before .args .c))) (sym (c .before .before .before .before .before .before .before .before .before .before .before .before .before .before .before .before .before .before .before .is-special .ensures)) ∙ (sym (c .before .before .before .before .before .before .before .before .before .before .before .before .before .before .before .before .before .before .is-foreign .ensures) ∙ c .before .before .before .before .before .before .before .before .before .before .before .before .before .before .before .before .before .if1 .left)) ∙ sym (ap₂ (λ (p : Place) (k : Option ℕ). watching w (c .before .before .before .before .before .before .before .before .before .before .before .before .before .before .before .before .before .before .before .before .before .before .before .before .args .c) p (part (c .before .before .before .before .before .before .before .before .before .before .before .before .before .before .before .before .before .before .before .before .before .before .before .before .args .start) (c .before .before .before .before .before .before .before .before .before .before .before .before .before .before .before .before .before .before .before .before .before .before .before .before .args .end) (c .before .before .before .before .before .before .before .before .before .before .before .before .before .before .before .before .before .before .before .before .before .before .before .before .args .s .now)) k) (s .place) (c .before .before .before .before .before .before .before .before .before .before .depth-of .ensures .0))) (c .before .before .before .before .before .before .watch .ensures w ww)
+returns-2 c =
+    λ w ww.
+    let k = c .before .before .before .before .before .before .before .before .before .before in
+    let t = k .before .before .before .before in
+    let b = t .before .before .before .before .before .before .before .before .before .before in
+    let a = b .args in
+    let h = b .pre .2 .path in
+    let s = stands-so _ (a .path) (a .c) h _ _ _ (t .before .before .before .before .before .is-special .ensures) (t .before .before .is-relative .ensures) (put-front _ _ _ _ (t .place-text .ensures) (t .place-text .kept .1 .1 .1 .0)) in
+    let own = own-place _ (a .path) (a .c) h _ _ (t .before .before .before .before .before .is-special .ensures) (t .before .before .before .before .is-foreign .ensures) w _ (t .before .before .before .if1 .left) in
+    handled-as (own ∙ sym (ap₂ (λ (p : Place) (n : Option ℕ). watching w (a .c) p (part (a .start) (a .end) (a .s .now)) n) (s .place) (k .depth-of .ensures .0)))
+    (c .before .before .before .before .before .before .watch .ensures w ww)
 
 pub watch-place-spec : {M : Type 1} → statement M
 watch-place-spec =

@@ -30,11 +30,11 @@ key-of-requires c κs = (omega arith, c .before .before .before .pre)
 place-of-requires : tie.Need-place-of-requires Inv-loop μ-loop Inv-pairs μ-pairs
 place-of-requires c κs = tt
 
-array-read-if1 : tie.Need-array-read-if1 Inv-loop μ-loop Inv-pairs μ-pairs
-array-read-if1 c = c .place-of .ensures .1
+may-clash-requires : tie.Need-may-clash-requires Inv-loop μ-loop Inv-pairs μ-pairs
+may-clash-requires c κs = (c .before .before .place-of .ensures .1, c .before .before .before .before .before .pairs .inv .2 .long)
 
 loop-holds : tie.Need-loop-holds Inv-loop μ-loop Inv-pairs μ-pairs
-loop-holds c = (omega arith, c .before .before .before .before .pairs .inv .1, λ a n m l p q. absurd (omega arith))
+loop-holds c = (omega arith, c .before .before .before .before .before .before .before .pairs .inv .1, λ a n m l p q. absurd (omega arith))
 
 mul-if2 : tie.Need-mul-if2 Inv-loop μ-loop Inv-pairs μ-pairs
 mul-if2 c = omega arith
@@ -45,10 +45,11 @@ array-read-if2 c = omega arith
 same-names-requires : tie.Need-same-names-requires Inv-loop μ-loop Inv-pairs μ-pairs
 same-names-requires c κs =
     let l = c .before .before in
-    let k = c .before .before .before .before .before in
-    let p = c .before .before .before .before .before .before .before in
+    let m = c .before .before .before .before in
+    let k = m .before .before .before .before in
+    let p = k .before .before in
     let t = p .before .before .args .t .now in
-    let z = met-key (p .pairs .taken) (c .before .before .before .before .place-of .result) (k .key-of .result) (c .before .before .before .if1 .taken) in (
+    let z = met-key _ _ _ (k .key-of .result) (sym (m .may-clash .ensures) ∙ c .before .before .before .if1 .taken) in (
       omega arith,
       k .before .pairs-test .taken,
       p .before .before .pre,
@@ -65,8 +66,8 @@ loop-less c = omega arith
 loop-again : tie.Need-loop-again Inv-loop μ-loop Inv-pairs μ-pairs
 loop-again c =
     let l = c .before .before in
-    let k = c .before .before .before .before .before in
-    let p = c .before .before .before .before .before .before .before in
+    let k = c .before .before .before .before .before .before .before .before in
+    let p = k .before .before in
     let t = p .before .before .args .t .now in (
       omega arith,
       l .loop .inv .1,
@@ -83,7 +84,7 @@ array-write-keys : tie.Need-array-write-keys Inv-loop μ-loop Inv-pairs μ-pairs
 array-write-keys c = omega arith
 
 array-write-taken : tie.Need-array-write-taken Inv-loop μ-loop Inv-pairs μ-pairs
-array-write-taken c = c .before .place-of .ensures .1
+array-write-taken c = c .before .before .before .before .place-of .ensures .1
 
 add-i : tie.Need-add-i Inv-loop μ-loop Inv-pairs μ-pairs
 add-i c = omega arith
@@ -93,16 +94,17 @@ pairs-less c = omega arith
 
 pairs-again : tie.Need-pairs-again Inv-loop μ-loop Inv-pairs μ-pairs
 pairs-again c =
-    let a = c .before in
-    let k = c .before .before in
-    let p = c .before .before .before .before in
+    let m = c .before in
+    let a = m .before .before .before in
+    let k = a .before in
+    let p = k .before .before in
     let t = p .before .before .args .t .now in (
       omega arith,
       ⊎-elim (λ w. w .3 ∙ w .1 .inv .1) (λ w. w .1 ∙ p .pairs .inv .1) (c .if1 .came),
       keyed-next t (p .pairs .keys) (p .pairs .i) (k .key-of .result) (k .before .pairs-test .taken) (k .key-of .ensures) (p .pairs .inv .2),
       apart-next t (p .pairs .i) (p .pairs .inv .3) (⊎-elim
           (λ w. row-whole t (p .pairs .i) (w .1 .j) (w .1 .inv .0) (w .2 .left) (w .1 .inv .2))
-          (λ w. row-new t (p .pairs .taken) (p .pairs .i) (k .key-of .result) (a .place-of .result) (p .pairs .inv .4) (k .key-of .ensures) (a .place-of .ensures .0) (w .0 .left))
+          (λ w. row-new t (p .pairs .taken) (p .pairs .keys) (p .pairs .i) (k .key-of .result) (a .place-of .result) (k .before .pairs-test .taken) (p .pairs .inv .2) (p .pairs .inv .4) (k .key-of .ensures) (a .place-of .ensures .0) (sym (m .may-clash .ensures) ∙ w .0 .left))
           (c .if1 .came)),
       taken-next t (p .pairs .taken) (p .pairs .i) (k .key-of .result) (a .place-of .result) (k .key-of .ensures) (a .place-of .ensures .0) (a .place-of .ensures .1) (p .pairs .inv .4),
     )
@@ -113,10 +115,11 @@ returns c = c .before .pairs .inv .1 ∙ all-apart _ (c .before .pairs .i) (c .p
 returns-2 : tie.Need-returns-2 Inv-loop μ-loop Inv-pairs μ-pairs
 returns-2 c =
     let l = c .before .before .before .before in
-    let k = c .before .before .before .before .before .before .before in
-    let p = c .before .before .before .before .before .before .before .before .before in
+    let m = l .before .before in
+    let k = m .before .before .before .before in
+    let p = k .before .before in
     pair-found (p .before .before .args .t .now) (p .pairs .keys) (p .pairs .i) (l .loop .j) (k .key-of .result) (p .pairs .inv .2) (k .key-of .ensures)
-    (met-key (p .pairs .taken) (c .before .before .before .before .before .before .place-of .result) (k .key-of .result) (c .before .before .before .before .before .if1 .taken))
+    (met-key _ _ _ (k .key-of .result) (sym (m .may-clash .ensures) ∙ l .before .if1 .taken))
     (c .before .before .before .loop-test .taken) (c .before .before .if2 .taken) (sym (c .before .same-names .ensures) ∙ c .if3 .taken)
 
 pub all-distinct-spec : {M : Type 1} → statement M
@@ -130,7 +133,7 @@ all-distinct-spec =
     pairs-holds
     key-of-requires
     place-of-requires
-    array-read-if1
+    may-clash-requires
     loop-holds
     mul-if2
     array-read-if2

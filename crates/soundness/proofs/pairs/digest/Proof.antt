@@ -39,20 +39,14 @@ shared-slice-read-second c = search needs
 cast-second : tie.Need-cast-second
 cast-second c = omega (arith, c .shared-slice-known3 .given (length (c .before .before .before .before .before .args .s .now) - 2))
 
-mul-result : tie.Need-mul-result
-mul-result c = let s = c .before .before .before .before .before .args .s .now in let byte = c .shared-slice-known3 .given in omega (arith, byte 0, byte (length s - 1), byte (length s - 2), c .before .before .before .before .before .pre)
-
 add-result : tie.Need-add-result
 add-result c = let s = c .before .before .before .before .before .args .s .now in let byte = c .shared-slice-known3 .given in omega (arith, byte 0, byte (length s - 1), byte (length s - 2), c .before .before .before .before .before .pre)
 
-mul-result-2 : tie.Need-mul-result-2
-mul-result-2 c = let s = c .before .before .before .before .before .args .s .now in let byte = c .shared-slice-known3 .given in omega (arith, byte 0, byte (length s - 1), byte (length s - 2), c .before .before .before .before .before .pre)
+mul-result : tie.Need-mul-result
+mul-result c = let s = c .before .before .before .before .before .args .s .now in let byte = c .shared-slice-known3 .given in omega (arith, byte 0, byte (length s - 1), byte (length s - 2), c .before .before .before .before .before .pre)
 
 add-result-2 : tie.Need-add-result-2
 add-result-2 c = let s = c .before .before .before .before .before .args .s .now in let byte = c .shared-slice-known3 .given in omega (arith, byte 0, byte (length s - 1), byte (length s - 2), c .before .before .before .before .before .pre)
-
-mul-result-3 : tie.Need-mul-result-3
-mul-result-3 c = search needs
 
 add-result-3 : tie.Need-add-result-3
 add-result-3 c = let s = c .before .before .before .before .before .args .s .now in let byte = c .shared-slice-known3 .given in omega (arith, byte 0, byte (length s - 1), byte (length s - 2), c .before .before .before .before .before .pre)
@@ -77,10 +71,8 @@ digest-spec =
     sub-second
     shared-slice-read-second
     cast-second
-    mul-result
     add-result
-    mul-result-2
+    mul-result
     add-result-2
-    mul-result-3
     add-result-3
     returns-3)

@@ -2,7 +2,7 @@ use mathlib.Core.Path.{sym, _∙_}
 use native.Mathlib.Omega.{arith}
 use borrow.Author.Tests.{not-true, not-false}
 use borrow.Author.Needs.{needs}
-use Rattle.tables.proofs.EntriesKept.{change-marked, change-over, change-unfull, change-rest}
+use Rattle.tables.proofs.ChangesKept.{change-marked, change-over, change-unfull, change-rest}
 use Rattle.tables.proofs.transaction_soundness.change_kept.Statement.{statement}
 use Rattle.tables.proofs.transaction_soundness.change_kept.Tie as tie
 

@@ -5,7 +5,7 @@ use lib.ListN.{take, drop}
 use borrow.Author.Tests.{not-true, not-false}
 use Rattle.tables.specs.Entries.{changesKept}
 use Rattle.tables.proofs.Bytes.{and-first, and-rest}
-use Rattle.tables.proofs.EntriesKept.{changesRest, changes-start, changes-next, changes-end}
+use Rattle.tables.proofs.ChangesKept.{changesRest, changes-start, changes-next, changes-end}
 use Rattle.tables.proofs.transaction_soundness.changes_kept.Statement.{statement}
 use Rattle.tables.proofs.transaction_soundness.changes_kept.Tie as tie
 

@@ -1,7 +1,7 @@
 use mathlib.Core.Path.{sym, _∙_}
 use borrow.Author.Needs.{needs}
 use Rattle.paths.proofs.FormLaws.{form-absolute, form-special, form-relative, form-malformed}
-use Rattle.tables.proofs.EntriesKept.{full-by}
+use Rattle.tables.proofs.ChangesKept.{full-by}
 use Rattle.tables.proofs.transaction_soundness.is_full.Statement.{statement}
 use Rattle.tables.proofs.transaction_soundness.is_full.Tie as tie
 

@@ -8,7 +8,7 @@ use Rattle.tables.specs.Watch.{ownedBy}
 use Rattle.tables.specs.Kept.{KeptWatches}
 use Rattle.tables.proofs.Search.{swept, without-swept}
 use Rattle.tables.proofs.WatchChanges.{kept-watches, swept-watch}
-use Rattle.tables.proofs.WatchLaws.{length-watchesOf}
+use Rattle.tables.proofs.WatchBytes.{length-watchesOf}
 use Rattle.tables.proofs.watch_changes.remove_of.Statement.{statement}
 use Rattle.tables.proofs.watch_changes.remove_of.Tie as tie
 

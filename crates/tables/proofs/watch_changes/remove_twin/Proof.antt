@@ -7,7 +7,7 @@ use Rattle.tables.specs.Entry.{droppedIf}
 use Rattle.tables.specs.Kept.{KeptWatches}
 use Rattle.tables.proofs.Search.{swept, without-swept}
 use Rattle.tables.proofs.WatchChanges.{kept-watches, swept-watch}
-use Rattle.tables.proofs.WatchLaws.{length-watchesOf}
+use Rattle.tables.proofs.WatchBytes.{length-watchesOf}
 use Rattle.tables.proofs.watch_changes.remove_twin.Statement.{statement}
 use Rattle.tables.proofs.watch_changes.remove_twin.Tie as tie
 

@@ -7,7 +7,7 @@ use Rattle.rules.specs.Layout.{domainsOf, watchesOf}
 use Rattle.rules.specs.Sound.{goodWatches}
 use Rattle.tables.proofs.Bytes.{and-first, and-rest}
 use Rattle.tables.proofs.WatchGood.{good-next, good-over}
-use Rattle.tables.proofs.WatchLaws.{length-watchesOf}
+use Rattle.tables.proofs.WatchBytes.{length-watchesOf}
 use Rattle.tables.proofs.watch_soundness.good.Statement.{statement}
 use Rattle.tables.proofs.watch_soundness.good.Tie as tie
 

@@ -6,7 +6,7 @@ use borrow.Author.Needs.{needs}
 use Rattle.rules.specs.Layout.{domainsOf}
 use Rattle.rules.specs.Sound.{known, noNul}
 use Rattle.tables.proofs.Bytes.{bytes-known}
-use Rattle.tables.proofs.WatchGood.{good-free, good-unknown, good-nul, good-misplaced, good-placed, place-agree}
+use Rattle.tables.proofs.WatchGood.{good-free, good-unknown, good-nul, good-misplaced, good-placed, read-same, place-agree}
 use Rattle.tables.proofs.watch_soundness.place_good.Statement.{statement}
 use Rattle.tables.proofs.watch_soundness.place_good.Tie as tie
 
@@ -44,7 +44,10 @@ relative-requires : tie.Need-relative-requires
 relative-requires c κs = let b = c .before .before .before .before .before .before .before .before .before .before .before .before in record { below = b .pre .0; kept = b .pre .1; used = sym (c .before .before .before .before .before .before .before .before .before .used .ensures) ∙ not-false _ (c .before .before .before .before .before .before .before .before .if1 .left) }
 
 good-place-requires : tie.Need-good-place-requires
-good-place-requires c κs = search needs
+good-place-requires c κs =
+    let b = c .before .before .before .before .before .before .before .before .before .before .before .before .before in
+    let u = sym (c .before .before .before .before .before .before .before .before .before .before .used .ensures) ∙ not-false _ (c .before .before .before .before .before .before .before .before .before .if1 .left) in
+    read-same (b .args .s .now) (b .args .k) (b .pre .0) (bytes-known (b .args .s .now) (c .before .before .before .before .before .before .before .before .before .before .before .before .shared-slice-known .given)) (b .pre .1) u (c .relative .ensures) (c .before .before .path .ensures)
 
 returns-4 : tie.Need-returns-4
 returns-4 c =

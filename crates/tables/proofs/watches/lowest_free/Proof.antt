@@ -8,7 +8,7 @@ use Rattle.rules.specs.Entries.{lowest}
 use Rattle.rules.specs.Layout.{watchesOf}
 use Rattle.tables.specs.Watch.{nobody}
 use Rattle.tables.proofs.Search.{lowest-here, lowest-further, lowest-over}
-use Rattle.tables.proofs.WatchLaws.{length-watchesOf}
+use Rattle.tables.proofs.WatchBytes.{length-watchesOf}
 use Rattle.tables.proofs.watches.lowest_free.Statement.{statement}
 use Rattle.tables.proofs.watches.lowest_free.Tie as tie
 

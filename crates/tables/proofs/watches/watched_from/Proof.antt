@@ -5,7 +5,7 @@ use lib.ListN.{drop}
 use Rattle.rules.specs.Layout.{watchesOf}
 use Rattle.rules.specs.Sound.{twin, watched}
 use Rattle.tables.proofs.Search.{has-here, has-further, has-over}
-use Rattle.tables.proofs.WatchLaws.{length-watchesOf}
+use Rattle.tables.proofs.WatchBytes.{length-watchesOf}
 use Rattle.tables.proofs.watches.watched_from.Statement.{statement}
 use Rattle.tables.proofs.watches.watched_from.Tie as tie
 

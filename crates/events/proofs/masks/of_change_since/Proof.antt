@@ -1,0 +1,13 @@
+use Rattle.events.proofs.EitherLaws.{mask-either}
+use borrow.Author.Needs.{needs}
+use Rattle.events.proofs.masks.of_change_since.Statement.{statement}
+use Rattle.events.proofs.masks.of_change_since.Tie as tie
+
+beside-requires : tie.Need-beside-requires
+beside-requires c κs = search needs
+
+returns : tie.Need-returns
+returns c = λ before m. mask-either before _ _ _ _ (c .beside .ensures _ m)
+
+pub of-change-since-spec : {M : Type 1} → statement M
+of-change-since-spec = tie.close (tie.spec beside-requires returns)

@@ -1,0 +1,32 @@
+use borrow.Author.Needs.{needs}
+use Rattle.handlers.proofs.asking.tell.Statement.{statement}
+use Rattle.handlers.proofs.asking.tell.Tie as tie
+
+stale-all-requires : tie.Need-stale-all-requires
+stale-all-requires c κs = search needs
+
+change-since-requires : tie.Need-change-since-requires
+change-since-requires c κs = search needs
+
+with-events-requires : tie.Need-with-events-requires
+with-events-requires c κs = search needs
+
+same-length : tie.Need-same-length
+same-length c = search needs
+
+same-length-2 : tie.Need-same-length-2
+same-length-2 c = search needs
+
+returns : tie.Need-returns
+returns c = λ before m. record { stale = c .before .before .before .before .before .before .before .stale-all .ensures; count = c .before .before .before .change-since .result; heard = c .before .before .before .change-since .ensures before m; outcome = c .with-events .ensures }
+
+pub tell-spec : {M : Type 1} → statement M
+tell-spec =
+    tie.close
+    (tie.spec
+    stale-all-requires
+    change-since-requires
+    with-events-requires
+    same-length
+    same-length-2
+    returns)

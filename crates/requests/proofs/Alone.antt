@@ -1,0 +1,42 @@
+-- A table that a request leaves alone: its bytes are those of any world that agrees with it.
+use mathlib.Core.Path.{_≡_, sym, ap, subst, _∙_}
+use mathlib.Core.Bool.{true}
+use mathlib.Core.List.{flatMap}
+use lib.ListN.{length}
+use Rattle.rules.specs.Size.{mostTransactions, tableSize, copiesSize}
+use Rattle.rules.specs.Octets.{Octets, chunks}
+use Rattle.rules.specs.Layout.{tableBytes, tableOf, domainsBytes, domainsOf, watchesBytes, watchesOf, transactionsBytes, transactionsOf}
+use Rattle.rules.specs.Sound.{soundTable}
+use Rattle.rules.specs.World as W
+use Rattle.rules.specs.World.{World}
+use Rattle.rules.specs.Call.{Tables}
+use Rattle.rules.proofs.EntryLayouts.{whole, rows-joined}
+use Rattle.slots.proofs.Canonical.{sound-canonical}
+use Rattle.tables.specs.Kept.{KeptDomains, KeptWatches, KeptTransactions}
+use Rattle.tables.proofs.DomainLaws.{kept-domains}
+use Rattle.tables.proofs.WatchChanges.{kept-watches}
+use Rattle.tables.proofs.TransactionChanges.{kept-transactions}
+use Rattle.replies.specs.Handled.{Handled}
+use Rattle.replies.specs.declared.kinds.Outcome.{Outcome}
+use Rattle.handlers.specs.Leaves.{itsNodes, itsCopies, itsWatches, itsTransactions, itsDomains}
+use Rattle.handlers.proofs.Ways.{handled-as}
+
+module _ (w : World) (t : Octets) where
+  pub nodes-alone : soundTable t ≡ true → w .nodes ≡ tableOf t → t ≡ itsNodes w
+  nodes-alone h e = sym (sound-canonical t h .kept) ∙ ap tableBytes (sym e)
+
+  pub copies-alone : length t ≡ copiesSize → w .copies ≡ chunks mostTransactions tableSize t → t ≡ itsCopies w
+  copies-alone h e = sym (rows-joined mostTransactions tableSize t h) ∙ ap (flatMap whole) (sym e)
+
+  pub watches-alone : KeptWatches t → w .watches ≡ watchesOf t → t ≡ itsWatches w
+  watches-alone h e = sym (kept-watches t h) ∙ ap watchesBytes (sym e)
+
+  pub transactions-alone : KeptTransactions t → w .transactions ≡ transactionsOf t → t ≡ itsTransactions w
+  transactions-alone h e = sym (kept-transactions t h) ∙ ap transactionsBytes (sym e)
+
+  pub domains-alone : KeptDomains t → w .domains ≡ domainsOf t → t ≡ itsDomains w
+  domains-alone h e = sym (kept-domains t h) ∙ ap domainsBytes (sym e)
+
+-- the outcome and the tables by other names
+pub handled-so : {o o′ : W.Outcome} {t t′ : Tables} {reply reply′ events events′ : Octets} {r : Outcome} → o ≡ o′ → t ≡ t′ → Handled o′ t′ reply reply′ events events′ r → Handled o t reply reply′ events events′ r
+handled-so {o′ = o} {reply = a} {reply′ = b} {events = c} {events′ = d} {r = r} e k h = handled-as e (subst (λ (x : Tables). Handled o x a b c d r) (sym k) h)

@@ -1,0 +1,94 @@
+use mathlib.Core.Path.{refl, sym, _∙_}
+use Prim.Native.Nat.{_+_, _*_}
+use native.Mathlib.Omega.{arith}
+use borrow.Author.Tests.{not-true, not-false}
+use Rattle.slots.proofs.Reading.{known}
+use Rattle.soundness.proofs.Tests.{stop, pass}
+use Rattle.soundness.proofs.SlotLaws.{sizes-of, entries-by}
+use borrow.Author.Needs.{needs}
+use Rattle.soundness.proofs.entries.kept_entries.Statement.{statement}
+use Rattle.soundness.proofs.entries.kept_entries.Tie as tie
+
+mul-at : tie.Need-mul-at
+mul-at c = search needs
+
+add-at : tie.Need-add-at
+add-at c = search needs
+
+entry-count-requires : tie.Need-entry-count-requires
+entry-count-requires c κs = search needs
+
+lone-entry-requires : tie.Need-lone-entry-requires
+lone-entry-requires c κs = search needs
+
+returns : tie.Need-returns
+returns c =
+    let b = c .before .before .before .before in
+    let t = b .args .t .now in
+    c .lone-entry .ensures
+    ∙ sym (entries-by t (known t (c .before .before .before .shared-slice-known .given)) (b .pre .0 .whole) (b .args .i) (b .pre .0 .below) (b .pre .0 .used) (b .pre .1) _ _ 1 refl refl (sym (c .before .if1 .taken) ∙ c .before .before .entry-count .ensures))
+
+two-entries-requires : tie.Need-two-entries-requires
+two-entries-requires c κs = search needs
+
+returns-2 : tie.Need-returns-2
+returns-2 c =
+    let b = c .before .before .before .before .before in
+    let t = b .args .t .now in
+    c .two-entries .ensures
+    ∙ sym (entries-by t (known t (c .before .before .before .before .shared-slice-known .given)) (b .pre .0 .whole) (b .args .i) (b .pre .0 .below) (b .pre .0 .used) (b .pre .1) _ _ 2 refl refl (sym (c .before .if2 .taken) ∙ c .before .before .before .entry-count .ensures))
+
+shared-slice-read-first : tie.Need-shared-slice-read-first
+shared-slice-read-first c = search needs
+
+cast-first : tie.Need-cast-first
+cast-first c = omega (arith, c .shared-slice-known2 .given (c .before .before .before .before .before .args .i * 108 + 3))
+
+add-eight : tie.Need-add-eight
+add-eight c = search needs
+
+eight-requires : tie.Need-eight-requires
+eight-requires c κs = search needs
+
+low-domains-requires : tie.Need-low-domains-requires
+low-domains-requires c κs = omega (arith, c .before .shared-slice-known2 .given (c .before .before .before .before .before .before .args .i * 108 + 3))
+
+returns-3 : tie.Need-returns-3
+returns-3 c =
+    let b = c .before .before .before .before .before .before .before .before in
+    let t = b .args .t .now in
+    stop _ (sym (c .before .low-domains .ensures) ∙ not-true _ (c .if3 .taken))
+    ∙ sym (entries-by t (known t (c .before .before .before .shared-slice-known2 .given)) (b .pre .0 .whole) (b .args .i) (b .pre .0 .below) (b .pre .0 .used) (b .pre .1) _ _ _ refl (c .before .before .eight .ensures) refl)
+
+zero-past-requires : tie.Need-zero-past-requires
+zero-past-requires c κs =
+    let s = sizes-of _ _ (c .before .before .before .before .before .before .before .before .pre .1) in
+    omega (arith, c .before .before .before .before .before .before .entry-count .ensures, s .some, s .few)
+
+returns-4 : tie.Need-returns-4
+returns-4 c =
+    let b = c .before .before .before .before .before .before .before .before .before in
+    let t = b .args .t .now in
+    c .zero-past .ensures
+    ∙ pass (sym (c .before .before .low-domains .ensures) ∙ not-false _ (c .before .if3 .left)) refl
+    ∙ sym (entries-by t (known t (c .before .before .before .before .shared-slice-known2 .given)) (b .pre .0 .whole) (b .args .i) (b .pre .0 .below) (b .pre .0 .used) (b .pre .1) _ _ _ refl (c .before .before .before .eight .ensures) (c .before .before .before .before .before .before .before .entry-count .ensures))
+
+pub kept-entries-spec : {M : Type 1} → statement M
+kept-entries-spec =
+    tie.close
+    (tie.spec
+    mul-at
+    add-at
+    entry-count-requires
+    lone-entry-requires
+    returns
+    two-entries-requires
+    returns-2
+    shared-slice-read-first
+    cast-first
+    add-eight
+    eight-requires
+    low-domains-requires
+    returns-3
+    zero-past-requires
+    returns-4)

@@ -1,0 +1,134 @@
+use mathlib.Core.Path.{refl, _∙_}
+use Prim.Native.Nat.{_+_}
+use native.Mathlib.Omega.{arith}
+use borrow.Author.Tests.{eq-eqb, ne-eqb}
+use Rattle.slots.proofs.Reading.{known}
+use Rattle.soundness.proofs.Tests.{stop, pass}
+use Rattle.soundness.proofs.LoneEntry.{entry-high, entry-bits, entry-rest}
+use borrow.Author.Needs.{needs}
+use Rattle.soundness.proofs.entries.lone_entry.Statement.{statement}
+use Rattle.soundness.proofs.entries.lone_entry.Tie as tie
+
+shared-slice-read-first : tie.Need-shared-slice-read-first
+shared-slice-read-first c = search needs
+
+cast-first : tie.Need-cast-first
+cast-first c = omega (arith, c .shared-slice-known2 .given (c .before .before .args .at))
+
+add-second : tie.Need-add-second
+add-second c = search needs
+
+shared-slice-read-second : tie.Need-shared-slice-read-second
+shared-slice-read-second c = search needs
+
+cast-second : tie.Need-cast-second
+cast-second c = omega (arith, c .shared-slice-known3 .given (c .before .before .before .args .at + 1))
+
+add-third : tie.Need-add-third
+add-third c = search needs
+
+shared-slice-read-third : tie.Need-shared-slice-read-third
+shared-slice-read-third c = search needs
+
+cast-third : tie.Need-cast-third
+cast-third c = omega (arith, c .shared-slice-known4 .given (c .before .before .before .before .args .at + 2))
+
+mul-if1 : tie.Need-mul-if1
+mul-if1 c = omega (arith, c .shared-slice-known4 .given (c .before .before .before .before .args .at))
+
+mul-if1-2 : tie.Need-mul-if1-2
+mul-if1-2 c = omega (arith, c .shared-slice-known4 .given (c .before .before .before .before .args .at + 1))
+
+add-if1 : tie.Need-add-if1
+add-if1 c = omega (arith, c .shared-slice-known4 .given (c .before .before .before .before .args .at), c .shared-slice-known4 .given (c .before .before .before .before .args .at + 1))
+
+add-if1-2 : tie.Need-add-if1-2
+add-if1-2 c = omega (arith, c .shared-slice-known4 .given (c .before .before .before .before .args .at), c .shared-slice-known4 .given (c .before .before .before .before .args .at + 1), c .shared-slice-known4 .given (c .before .before .before .before .args .at + 2))
+
+returns : tie.Need-returns
+returns c =
+    let b = c .before .before .before .before .before in
+    let t = b .args .t .now in
+    entry-high t (known t (c .before .shared-slice-known4 .given)) (b .args .at) (b .pre) (c .if1 .taken)
+
+returns-2 : tie.Need-returns-2
+returns-2 c =
+    let b = c .before .before .before .before .before .before in
+    let t = b .args .t .now in
+    entry-bits t (known t (c .before .before .shared-slice-known4 .given)) (b .args .at) (b .pre) (c .if2 .taken)
+
+add-four : tie.Need-add-four
+add-four c = search needs
+
+four-requires : tie.Need-four-requires
+four-requires c κs = search needs
+
+returns-3 : tie.Need-returns-3
+returns-3 c =
+    let b = c .before .before .before .before .before .before .before .before in
+    let t = b .args .t .now in
+    stop _ (ne-eqb _ 0 (c .if3 .taken))
+    ∙ entry-rest t (known t (c .before .before .before .before .shared-slice-known4 .given)) (b .args .at) (b .pre) _ (c .before .four .ensures .0) (c .before .before .before .if1 .left) (c .before .before .if2 .left)
+
+add-result : tie.Need-add-result
+add-result c = search needs
+
+shared-slice-read-result : tie.Need-shared-slice-read-result
+shared-slice-read-result c = search needs
+
+cast-result : tie.Need-cast-result
+cast-result c = omega (arith, c .shared-slice-known5 .given (c .before .before .before .before .before .before .before .before .before .args .at + 7))
+
+mul-result : tie.Need-mul-result
+mul-result c = omega (arith, c .shared-slice-known5 .given (c .before .before .before .before .before .before .before .before .before .args .at + 7))
+
+add-result-2 : tie.Need-add-result-2
+add-result-2 c = search needs
+
+shared-slice-read-result-2 : tie.Need-shared-slice-read-result-2
+shared-slice-read-result-2 c = search needs
+
+cast-result-2 : tie.Need-cast-result-2
+cast-result-2 c = omega (arith, c .shared-slice-known6 .given (c .before .before .before .before .before .before .before .before .before .before .args .at + 8))
+
+add-result-3 : tie.Need-add-result-3
+add-result-3 c = omega (arith, c .shared-slice-known6 .given (c .before .before .before .before .before .before .before .before .before .before .args .at + 7), c .shared-slice-known6 .given (c .before .before .before .before .before .before .before .before .before .before .args .at + 8))
+
+returns-4 : tie.Need-returns-4
+returns-4 c =
+    let b = c .before .before .before .before .before .before .before .before .before .before in
+    let t = b .args .t .now in
+    let f = c .before .before .before in
+    pass (eq-eqb (f .four .result) 0 (c .before .before .if3 .left)) refl
+    ∙ entry-rest t (known t (c .shared-slice-known6 .given)) (b .args .at) (b .pre) _ (f .four .ensures .0) (f .before .before .if1 .left) (f .before .if2 .left)
+
+pub lone-entry-spec : {M : Type 1} → statement M
+lone-entry-spec =
+    tie.close
+    (tie.spec
+    shared-slice-read-first
+    cast-first
+    add-second
+    shared-slice-read-second
+    cast-second
+    add-third
+    shared-slice-read-third
+    cast-third
+    mul-if1
+    mul-if1-2
+    add-if1
+    add-if1-2
+    returns
+    returns-2
+    add-four
+    four-requires
+    returns-3
+    add-result
+    shared-slice-read-result
+    cast-result
+    mul-result
+    add-result-2
+    shared-slice-read-result-2
+    cast-result-2
+    add-result-3
+    returns-4)
