@@ -8,18 +8,22 @@ use std::hint::black_box;
 use std::process::{Command, ExitCode, Stdio};
 use std::time::{Duration, Instant};
 
-const SIZES: [usize; 3] = [10, 60, 127];
+const SIZES: [usize; 4] = [10, 60, 101, 127];
 const OPEN: [usize; 2] = [0, 3];
+/// The operations that are shown for a bare store: all but RELEASE.
+const BARE: [usize; 5] = [0, 1, 2, 3, 5];
 const GUEST: u32 = 5;
 const STRANGER: u32 = 4_000;
 
 const NOTES: &str = "\
 archive       median time of the proved calls, release build, tables put back before each
 model         the same calls by the Rust model of document 01 on the same bytes
+ratio         archive to model
 instructions  of the archive, by callgrind: the difference of two run lengths
 checks alone  a sender that isn't introduced: turned away (number 3) right after sizes and soundness
 table copy    a plain copy of all five tables, 66,545 bytes
-nodes         slots in use, the root too; open: transactions, START + WRITE + END T being the third of them where 3 are";
+nodes         slots in use, the root too; open: transactions, START + WRITE + END T being the third of them where 3 are
+the store     eight guests, five watches, two of which hear the WRITE; a bare store has the same nodes and no guest and no watch";
 
 type Request = fn(&mut Tables, u32, &[u8], &mut [u8], &mut [u8]) -> Results;
 
@@ -58,7 +62,8 @@ impl Core {
     }
 
     /// Tables like those of a box with guests: this many slots in use, five watches, and open transactions of domain 0.
-    fn stage(nodes: usize, open: usize) -> Core {
+    /// A bare store has the same nodes, all of domain 0, and no guest and no watch.
+    fn stage(nodes: usize, open: usize, bare: bool) -> Core {
         let zeros = |size| vec![0; size];
         let tables = [NODES, COPIES, WATCHES, TRANSACTIONS, DOMAINS].map(zeros);
         let mut core = Core { tables, reply: zeros(REPLY), events: zeros(EVENTS) };
@@ -67,19 +72,21 @@ impl Core {
             let results = core.call(archive::request, sender, &message(kind, tx_id, text));
             assert_eq!((results.number, core.reply[0]), (0, kind as u8), "{text}");
         };
-        for guest in GUEST..GUEST + 8 {
+        for guest in (GUEST..GUEST + 8).filter(|_| !bare) {
             send(0, 8, 0, &format!("{guest}|{}|{guest}|", 4096 * guest));
         }
         for (maker, path) in paths().into_iter().take(nodes - 1) {
-            send(maker, 11, 0, &format!("{path}|some value"));
-            if let Some(guest) = path.strip_prefix("/local/domain/").filter(|rest| !rest.contains('/')) {
+            send(if bare { 0 } else { maker }, 11, 0, &format!("{path}|some value"));
+            if let Some(guest) = path.strip_prefix("/local/domain/").filter(|rest| !bare && !rest.contains('/')) {
                 send(0, 14, 0, &format!("{path}|n{guest}|r0|"));
             }
         }
-        for watch in ["/local/domain|domains|1|", "/local/domain/5|home|", "@releaseDomain|gone|", "@introduceDomain|new|1|"] {
+        for watch in ["/local/domain|domains|1|", "/local/domain/5|home|", "@releaseDomain|gone|", "@introduceDomain|new|1|"].iter().filter(|_| !bare) {
             send(0, 4, 0, watch);
         }
-        send(GUEST, 4, 0, "name|own|");
+        if !bare {
+            send(GUEST, 4, 0, "name|own|");
+        }
         (0..open).for_each(|_| send(0, 6, 0, "|"));
         core
     }
@@ -158,12 +165,12 @@ fn copy_time(saved: &Core) -> f64 {
 }
 
 /// Instructions inside the archive's calls over one run of this program under callgrind.
-fn collected(operation: usize, nodes: usize, open: usize, times: usize) -> Option<u64> {
+fn collected(operation: usize, nodes: usize, open: usize, bare: bool, times: usize) -> Option<u64> {
     let output = Command::new("valgrind")
         .args(["--tool=callgrind", "--callgrind-out-file=/dev/null", "--toggle-collect=haabuvilk_request"])
         .arg(std::env::current_exe().ok()?)
         .arg("--count")
-        .args([operation, nodes, open, times].map(|n| n.to_string()))
+        .args([operation, nodes, open, bare as usize, times].map(|n| n.to_string()))
         .stdout(Stdio::null())
         .output()
         .ok()?;
@@ -172,15 +179,15 @@ fn collected(operation: usize, nodes: usize, open: usize, times: usize) -> Optio
     line.split(':').nth(1)?.trim().parse().ok()
 }
 
-fn instructions(operation: usize, nodes: usize, open: usize) -> Option<u64> {
-    let (short, long) = (collected(operation, nodes, open, 2)?, collected(operation, nodes, open, 12)?);
+fn instructions(operation: usize, nodes: usize, open: usize, bare: bool) -> Option<u64> {
+    let (short, long) = (collected(operation, nodes, open, bare, 2)?, collected(operation, nodes, open, bare, 12)?);
     Some((long - short) / 10)
 }
 
 /// The part that callgrind runs: an operation so many times.
 fn count(numbers: &[usize]) {
-    let &[operation, nodes, open, times] = numbers else { panic!("four numbers") };
-    let saved = Core::stage(nodes, before(operation, open));
+    let &[operation, nodes, open, bare, times] = numbers else { panic!("five numbers") };
+    let saved = Core::stage(nodes, before(operation, open), bare != 0);
     let mut core = saved.clone();
     let calls = calls(operation, before(operation, open));
     for _ in 0..times {
@@ -201,21 +208,31 @@ fn grouped(number: u64) -> String {
     out
 }
 
+/// A row of the table.
+fn row(operation: usize, nodes: usize, open: usize, bare: bool, valgrind: bool) {
+    let saved = Core::stage(nodes, before(operation, open), bare);
+    let calls = calls(operation, before(operation, open));
+    let (proved, model) = (time(&saved, archive::request, &calls), time(&saved, model::request, &calls));
+    let counted = if valgrind { instructions(operation, nodes, open, bare).map_or("?".into(), grouped) } else { "-".into() };
+    let (name, ratio) = (OPERATIONS[operation], proved / model);
+    println!("{name:26}{nodes:>6}{open:>6}{proved:>10.2} us{model:>10.2} us{ratio:>8.2}{counted:>14}");
+}
+
 fn table() -> ExitCode {
     let valgrind = Command::new("valgrind").arg("--version").stdout(Stdio::null()).stderr(Stdio::null()).status().is_ok_and(|s| s.success());
-    println!("{:26}{:>6}{:>6}{:>13}{:>13}{:>14}", "", "nodes", "open", "archive", "model", "instructions");
-    for (operation, name) in OPERATIONS.iter().enumerate() {
+    println!("{:26}{:>6}{:>6}{:>13}{:>13}{:>8}{:>14}", "", "nodes", "open", "archive", "model", "ratio", "instructions");
+    for operation in 0..OPERATIONS.len() {
         for open in OPEN {
             for nodes in SIZES {
-                let saved = Core::stage(nodes, before(operation, open));
-                let calls = calls(operation, before(operation, open));
-                let (proved, model) = (time(&saved, archive::request, &calls), time(&saved, model::request, &calls));
-                let counted = if valgrind { instructions(operation, nodes, open).map_or("?".into(), grouped) } else { "-".into() };
-                println!("{name:26}{nodes:>6}{open:>6}{proved:>10.2} us{model:>10.2} us{counted:>14}");
+                row(operation, nodes, open, false, valgrind);
             }
         }
     }
-    println!("{:26}{:>6}{:>6}{:>10.2} us", "table copy", "", "", copy_time(&Core::stage(60, 0)));
+    println!("{:26}{:>6}{:>6}{:>10.2} us", "table copy", "", "", copy_time(&Core::stage(60, 0, false)));
+    println!("a bare store:");
+    for operation in BARE {
+        row(operation, 101, 0, true, valgrind);
+    }
     println!("\n{NOTES}");
     if !valgrind {
         println!("valgrind is not installed: no instructions were counted");
