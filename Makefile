@@ -35,12 +35,10 @@ clients: archive
 	@sh tests/clients.sh
 
 soak: archive
-	@cargo build -q --release -p differential
-	@build/cargo/release/differential --minutes $(MINUTES) --seed $(SEED)
+	@sh tests/cargo.sh run -q --release -p differential -- --minutes $(MINUTES) --seed $(SEED)
 
 bench: archive
-	@cargo build -q --release -p bench
-	@build/cargo/release/bench
+	@sh tests/cargo.sh run -q --release -p bench
 
 programs:
 	rt check trace worked

@@ -7,4 +7,6 @@ lib=${HAABUVILK_LIB:-target/staticlib}
 out=$1
 shift
 mkdir -p "$(dirname "$out")"
-cc -std=c17 -D_GNU_SOURCE -Wall -Wextra -Werror -O2 "$@" -Iinclude -o "$out" host/*.c "$lib/libhaabuvilk.a"
+. host/x86-64.sh
+"$CC" -std=c17 -D_GNU_SOURCE -Wall -Wextra -Werror -O2 "$@" -Iinclude -o "$out" host/*.c "$lib/libhaabuvilk.a"
+runnable "$out"

@@ -4,7 +4,6 @@ set -eu
 cd "$(dirname "$0")/.."
 command -v cargo > /dev/null || { echo 'tests: cargo is missing'; exit 1; }
 cargo test -q --release -p model
-cargo build -q --release -p differential
-build/cargo/release/differential --calls 200000
+sh tests/cargo.sh run -q --release -p differential -- --calls 200000
 sh tests/host.sh
 echo 'tests: the model, the archive and the daemon passed'
