@@ -1,7 +1,7 @@
 -- EAGAIN, exactly: the proofs.
 use mathlib.Core.Path.{_≡_, refl, sym, _∙_, ap}
 use mathlib.Core.Logic.{_↔_}
-use mathlib.Core.Bool.{Bool, true, false, cond, false≢true, or-true}
+use mathlib.Core.Bool.{Bool, true, false, cond, false≢true, and-eq-true-iff, or-true}
 use mathlib.Core.List.{[], _∷_, _++_}
 use mathlib.Core.Option.{Option, none, some}
 use Prim.Native.Nat.{ℕ, suc, _-_}
@@ -11,18 +11,20 @@ use lib.Seq.{getD-set-other}
 use lib.Dec.{ltb}
 use borrow.Author.Tests.{eq-eqb}
 use Rattle.rules.specs.Octets.{nul, decimal}
-use Rattle.rules.specs.Entries.{lowest}
+use Rattle.rules.specs.Size.{mostTransactions}
+use Rattle.rules.specs.Entries.{isEmpty, lowest}
 use Rattle.rules.specs.Path.{Connection}
 use Rattle.rules.specs.Payload.{start, request}
 use Rattle.rules.specs.Answer.{EAGAIN, Reply, done, refused, OK}
 use Rattle.rules.specs.Layout.{Transaction, tableBytes}
-use Rattle.rules.specs.World.{World, Outcome, left, to, transactionOf, starting, closing, committing, ending, handle}
-use Rattle.rules.specs.Call.{outcomeOf}
+use Rattle.rules.specs.World.{World, Outcome, freshWorld, left, to, transactionOf, starting, closing, committing, ending, handle}
+use Rattle.rules.specs.Call.{txOf, outcomeOf}
 use Rattle.laws.specs.History.{Call, History, requestOf, served, after, run, changes, anyChange, transactionAt, isOpen, staysOpen}
-use Rattle.laws.specs.Eagain.{Opens, Commits, EagainExactly, UndisturbedCommits, ChangedAndBackCounts, StartAnswersItsNumber}
-use Rattle.rules.proofs.Places.{some-is, at-set}
+use Rattle.laws.specs.Eagain.{Opens, Commits, EagainExactly, UndisturbedCommits, ChangedAndBackCounts, StartAnswersItsNumber, RecordedExactly, Started, OpenSinceStart}
+use Rattle.rules.proofs.Places.{some-is, none-at, at-set}
 use Rattle.rules.proofs.Cases.{cond-case}
-use Rattle.laws.proofs.Calls.{served-is, open-at, is-open, run-kept}
+use Rattle.laws.proofs.Step.{recorded-is, opensAs, opens-start}
+use Rattle.laws.proofs.Calls.{served-is, effectOf, call-kept, open-at, is-open, RunKept, run-kept}
 
 -- ── START ──
 
@@ -97,15 +99,23 @@ ending-is w k first last o b = rw (b .asked, b .number, b .sender, outcomeOf) at
 
 -- ── the laws ──
 
+-- a transaction since its START
+abbrev entry : Call → Transaction
+entry first = record { holder = first .sender; stale = false; changes = [] }
+
+since-start : (w : World) (k : ℕ) (first : Call) (cs : History) → Opens w k first → staysOpen (after w first) k cs ≡ true → RunKept (after w first) k cs (entry first)
+since-start w k first cs a s =
+    let f = opened w k first a in
+    let x = begun w k first (f .0) a (f .1) (a .closed) (rw (f .2) at (a .opened)) .0 in
+    run-kept (after w first) k cs (entry first) (rw (f .2) x) s
+
 -- a commit's reply by what ran since its START
 commit-reply : (w : World) (k : ℕ) (first last : Call) (cs : History) (o : Outcome) → Opens w k first
     → staysOpen (after w first) k cs ≡ true → Commits (run (after w first) cs) k first last o
     → o .reply ≡ cond (anyChange (after w first) cs) (refused EAGAIN) OK
 commit-reply w k first last cs o a s b =
-    let f = opened w k first a in
-    let x = begun w k first (f .0) a (f .1) (a .closed) (rw (f .2) at (a .opened)) .0 in
-    let y = run-kept (after w first) k cs (record { holder = first .sender; stale = false; changes = [] }) (rw (f .2) x) s in
-    ap Outcome.reply (sym (ending-is _ k first last o b)) ∙ (ended _ (first .sender) k (y .0) (y .1) (sym (y .2)) ∙ ap (λ b. cond b (refused EAGAIN) OK) (y .3))
+    let y = since-start w k first cs a s in
+    ap Outcome.reply (sym (ending-is _ k first last o b)) ∙ (ended _ (first .sender) k (y .left) (y .there) (sym (y .holder)) ∙ ap (λ b. cond b (refused EAGAIN) OK) (y .stale))
 
 is-EAGAIN : (b : Bool) (r : Reply) → r ≡ cond b (refused EAGAIN) OK → (r ≡ refused EAGAIN) ↔ (b ≡ true)
 unfolding OK
@@ -132,3 +142,42 @@ pub start-answers-its-number : StartAnswersItsNumber
 start-answers-its-number w k c o a e =
     let f = opened w k c a in
     begun w k c o a e (a .closed) (rw (f .2 ∙ ap Outcome.world (some-is (sym (f .1) ∙ e))) at (a .opened)) .1
+
+-- ── what a commit changes ──
+
+pub recorded-exactly : RecordedExactly
+unfolding transactionAt isEmpty
+recorded-exactly w k first cs a s = let y = since-start w k first cs a s in recorded-is (run (after w first) cs) 0 k (y .left) (y .there) ∙ y .change
+
+-- a call after which transaction k is open, where it was not, is the START that opens it
+opening-call : (w : World) (k : ℕ) (c : Call) → isOpen w k ≡ false → isOpen (after w c) k ≡ true → Opens w k c
+unfolding transactionAt
+opening-call w k c p q = record { asked = go (effectOf w c .opens) refl; closed = p; opened = q }
+  where
+    start-asked : (m : Option Outcome) → (elim m [ none ↦ false | some o ↦ opensAs w (txOf (c .message)) (requestOf c) ]) ≡ true → requestOf c ≡ request start
+    start-asked none e = absurd (false≢true e)
+    start-asked (some o) e = opens-start w (txOf (c .message)) (requestOf c) e
+
+    go : (b : Bool) → effectOf w c .opens ≡ b → requestOf c ≡ request start
+    go true e = start-asked (served w c) e
+    go false e =
+        let y = open-at (after w c) k q in
+        let x = call-kept w c .from e k (y .0) (y .1) in
+        absurd (false≢true (sym p ∙ is-open w k (x .0) (x .1)))
+
+-- by cases: transaction k was open before the run and stayed so, or it has a START in it
+open-cases : (P : Type 0) (w : World) (k : ℕ) (cs : History) → isOpen (run w cs) k ≡ true
+    → (isOpen w k ≡ true → staysOpen w k cs ≡ true → P) → (Started w k cs → P) → P
+unfolding run staysOpen
+open-cases P w k [] e stayed begun = stayed e refl
+open-cases P w k (c ∷ cs) e stayed begun =
+    open-cases P (after w c) k cs e (go (isOpen w k) refl)
+    (λ s. begun (record { before = c ∷ s .before; first = s .first; later = s .later; parts = ap (λ cs. c ∷ cs) (s .parts); opens = s .opens; stays = s .stays }))
+  where
+    go : (b : Bool) → isOpen w k ≡ b → isOpen (after w c) k ≡ true → staysOpen (after w c) k cs ≡ true → P
+    go true p o s = stayed p (and-eq-true-iff _ _ .1 (o, s))
+    go false p o s = begun (record { before = []; first = c; later = cs; parts = refl; opens = opening-call w k c p o; stays = s })
+
+pub open-since-start : OpenSinceStart
+unfolding isOpen transactionAt freshWorld
+open-since-start cs k e = open-cases (Started freshWorld k cs) freshWorld k cs e (λ o s. absurd (false≢true (sym (rw (none-at mostTransactions k)) ∙ o))) (λ s. s)

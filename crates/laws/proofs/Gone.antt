@@ -254,12 +254,13 @@ event-owner c k p e h q =
     (and-eq-true-iff (leb 1 (length e)) (isControl (domainOf c) && eventDepth k) .0 (rw (q, goodPlace) at h) .1) .0)
 
 released-gone : (w : World) (d : Domain) → SoundWorld w → 1 ≤ d → GoneBy w d (releasing w d)
-unfolding releasing to withoutWatches withoutTransactions speaksFor
+unfolding releasing to withoutWatches withoutTransactions speaksFor introduced
 released-gone w d s l =
     cond-case (GoneBy w d) (introduced d (w .domains)) _ _
     (λ r. (
       record {
         watches = has-not theirs _ (λ i v q. at-without theirs (w .watches) i v q .1);
+        domains = has-not (eqb d) _ (λ i e q. at-without (eqb d) (w .domains) i e q .1);
         transactions = has-not held _ (λ k y q.
             let u = unstaled (not (isEmpty (ownedBy (w .nodes) d))) (without held (w .transactions)) k y q in
             rw (u .2) (at-without held (w .transactions) k (u .0) (u .1) .1));

@@ -1,18 +1,18 @@
--- What a call leaves of an open transaction: its holder, and its stale mark with the call's change.
+-- What a request leaves of an open transaction: its holder, its stale mark with the request's change, and whether it has recorded one.
 use mathlib.Core.Path.{_≡_, refl, sym, _∙_, ap}
-use mathlib.Core.Bool.{Bool, true, false, _||_, or-false, or-true}
+use mathlib.Core.Bool.{Bool, true, false, not, _||_, or-false, or-true, true≢false}
 use mathlib.Core.List.{[], _∷_}
 use mathlib.Core.Option.{Option, none, some}
 use Prim.Native.Nat.{ℕ, zero, suc}
 use lib.ListN.{getD, set}
-use Rattle.rules.specs.Entries.{lowest, without}
+use Rattle.rules.specs.Entries.{isEmpty, lowest, without}
 use Rattle.rules.specs.Layout.{Transaction, Transactions}
 use Rattle.rules.specs.World.{staled, staledIf}
-use Rattle.rules.proofs.Places.{nothing, some-is, set-cases, lowest-free, at-without}
+use Rattle.rules.proofs.Places.{nothing, some-is, At, set-cases, lowest-free, at-without}
 
 -- an entry that is stale after `staled` was there
-pub getD-staled : (xs : Transactions) (k : ℕ) (y : Transaction) → getD (staled xs) k none ≡ some y
-    → (x : Transaction) × (getD xs k none ≡ some x) × (y .holder ≡ x .holder) × (y .stale ≡ true) × (y .changes ≡ x .changes)
+pub getD-staled : (xs : Transactions) (k : ℕ) (y : Transaction) → At (staled xs) k y
+    → (x : Transaction) × At xs k x × (y .holder ≡ x .holder) × (y .stale ≡ true) × (y .changes ≡ x .changes)
 unfolding staled
 getD-staled [] k y e = absurd (nothing e)
 getD-staled (none ∷ xs) zero y e = absurd (nothing e)
@@ -20,44 +20,92 @@ getD-staled (none ∷ xs) (suc k) y e = getD-staled xs k y e
 getD-staled (some x ∷ xs) zero y e = (x, refl, ap Transaction.holder (sym (some-is e)), ap Transaction.stale (sym (some-is e)), ap Transaction.changes (sym (some-is e)))
 getD-staled (some x ∷ xs) (suc k) y e = getD-staled xs k y e
 
--- ── one call's effect on an open transaction ──
+-- ── one request's effect on the open transactions ──
 
--- after a call that changes the store or not, an entry open before and after has the same holder, and is stale if it was or the call changed the store
-pub record Kept (b : Bool) (xs ys : Transactions) : Type 0 where
-  pub at : (k : ℕ) (x y : Transaction) → getD xs k none ≡ some x → getD ys k none ≡ some y → (y .holder ≡ x .holder) × (y .stale ≡ (x .stale || b))
+-- whether it changes the store, which copies it alters, and whether it may open a transaction
+pub record Effect : Type 0 where
+  pub changes : Bool
+  pub alters : ℕ → Bool
+  pub opens : Bool
 
--- an entry that is after the call as it was before
-same-entry : (x y : Transaction) → some x ≡ some y → (y .holder ≡ x .holder) × (y .stale ≡ (x .stale || false))
-same-entry x y e = rw or-false (ap Transaction.holder (sym (some-is e)), ap Transaction.stale (sym (some-is e)))
+abbrev pub quiet : Effect
+quiet = record { changes = false; alters = λ k. false; opens = false }
 
-pub kept-all : (xs : Transactions) → Kept false xs xs
-kept-all xs = record { at = λ k x y p q. same-entry x y (sym p ∙ q) }
+-- the transaction has recorded a change
+abbrev pub hasChange : Transaction → Bool
+hasChange x = not (isEmpty (x .changes))
 
-pub kept-without : (test : Transaction → Bool) (xs : Transactions) → Kept false xs (without test xs)
-kept-without test xs = record { at = λ k x y p q. same-entry x y (sym p ∙ at-without test xs k y q .0) }
+-- transaction k before and after: the same holder, stale if it was or the store changed, with a change if it had one or its copy was altered
+pub record Continues (f : Effect) (k : ℕ) (x y : Transaction) : Type 0 where
+  pub holder : y .holder ≡ x .holder
+  pub stale : y .stale ≡ (x .stale || f .changes)
+  pub change : hasChange y ≡ (hasChange x || f .alters k)
 
--- an entry closed, or one written over an open one of the same holder and mark, or over a free place
-pub kept-set : (xs : Transactions) (j : ℕ) (e : Option Transaction)
-    → ((x y : Transaction) → getD xs j none ≡ some x → e ≡ some y → (y .holder ≡ x .holder) × (y .stale ≡ (x .stale || false)))
-    → Kept false xs (set xs j e)
-kept-set xs j e h =
+pub record Kept (f : Effect) (xs ys : Transactions) : Type 0 where
+  pub at : (k : ℕ) (x y : Transaction) → At xs k x → At ys k y → Continues f k x y
+  pub from : f .opens ≡ false → (k : ℕ) (y : Transaction) → At ys k y → (x : Transaction) × At xs k x
+
+-- the same effect in other words; what opens none may be said to open one
+pub kept-as : (f g : Effect) (xs ys : Transactions) → f .changes ≡ g .changes → ((k : ℕ) → f .alters k ≡ g .alters k) → (g .opens ≡ false → f .opens ≡ false)
+    → Kept f xs ys → Kept g xs ys
+kept-as f g xs ys p q r h =
     record {
-      at = λ k x y p q.
-          set-cases ((y .holder ≡ x .holder) × (y .stale ≡ (x .stale || false))) xs j k e y q (λ r f. h x y (rw r at p) f) (λ r f. same-entry x y (sym p ∙ f));
+      at = λ k x y e d.
+          let s = h .at k x y e d in
+          record { holder = s .holder; stale = s .stale ∙ ap (λ b. x .stale || b) p; change = s .change ∙ ap (λ b. hasChange x || b) (q k) };
+      from = λ o. h .from (r o);
     }
 
-pub kept-closed : (xs : Transactions) (j : ℕ) → Kept false xs (set xs j none)
-kept-closed xs j = kept-set xs j none λ x y p q. absurd (nothing q)
+-- an entry that is after the request as it was before
+same-entry : (k : ℕ) (x y : Transaction) → some x ≡ some y → Continues quiet k x y
+same-entry k x y e =
+    let s = sym (some-is e) in
+    record { holder = ap Transaction.holder s; stale = ap Transaction.stale s ∙ sym (or-false _); change = ap hasChange s ∙ sym (or-false _) }
 
-pub kept-opened : (xs : Transactions) (z : Transaction) → Kept false xs (set xs (lowest xs) (some z))
-kept-opened xs z = kept-set xs (lowest xs) (some z) λ x y p q. absurd (nothing (sym (lowest-free xs) ∙ p))
+pub kept-all : (xs : Transactions) → Kept quiet xs xs
+kept-all xs = record { at = λ k x y p q. same-entry k x y (sym p ∙ q); from = λ o k y q. (y, q) }
 
-pub kept-staledIf : (b : Bool) (xs ys : Transactions) → Kept false xs ys → Kept b xs (staledIf b ys)
+pub kept-without : (test : Transaction → Bool) (xs : Transactions) → Kept quiet xs (without test xs)
+kept-without test xs =
+    record { at = λ k x y p q. same-entry k x y (sym p ∙ at-without test xs k y q .0); from = λ o k y q. (y, at-without test xs k y q .0) }
+
+-- an entry closed, or one written over another or into a free place, by a request that alters no other copy
+pub kept-set : (f : Effect) (xs : Transactions) (j : ℕ) (e : Option Transaction) → f .changes ≡ false → ((k : ℕ) → (k ≡ j → ⊥) → f .alters k ≡ false)
+    → ((x y : Transaction) → At xs j x → e ≡ some y → Continues f j x y) → (f .opens ≡ false → (y : Transaction) → e ≡ some y → (x : Transaction) × At xs j x)
+    → Kept f xs (set xs j e)
+kept-set f xs j e c n h s =
+    record {
+      at = λ k x y p q. set-cases (Continues f k x y) xs j k e y q (λ r d. rw r (h x y (rw r at p) d)) (λ r d. other k x y r (same-entry k x y (sym p ∙ d)));
+      from = λ o k y q. set-cases ((x : Transaction) × At xs k x) xs j k e y q (λ r d. rw r (s o y d)) (λ r d. (y, d));
+    }
+  where
+    other : (k : ℕ) (x y : Transaction) → (k ≡ j → ⊥) → Continues quiet k x y → Continues f k x y
+    other k x y r t = record { holder = t .holder; stale = rw c (t .stale); change = rw (n k r) (t .change) }
+
+pub kept-closed : (xs : Transactions) (j : ℕ) → Kept quiet xs (set xs j none)
+kept-closed xs j = kept-set quiet xs j none refl (λ k r. refl) (λ x y p q. absurd (nothing q)) (λ o y q. absurd (nothing q))
+
+abbrev pub opening : Effect
+opening = record { changes = false; alters = λ k. false; opens = true }
+
+pub kept-opened : (xs : Transactions) (z : Transaction) → Kept opening xs (set xs (lowest xs) (some z))
+kept-opened xs z =
+    kept-set opening xs (lowest xs) (some z) refl (λ k r. refl)
+    (λ x y p q. absurd (nothing (sym (lowest-free xs) ∙ p)))
+    (λ o y q. absurd (true≢false o))
+
+-- a change of the store, or none
+abbrev pub changing : Bool → Effect
+changing b = record { changes = b; alters = λ k. false; opens = false }
+
+pub kept-staledIf : (b : Bool) (xs ys : Transactions) → Kept quiet xs ys → Kept (changing b) xs (staledIf b ys)
 unfolding staledIf
 kept-staledIf false xs ys h = h
 kept-staledIf true xs ys h =
     record {
       at = λ k x y p q.
           let s = getD-staled ys k y q in
-          (s .2 ∙ h .at k x (s .0) p (s .1) .0, s .3 ∙ sym (or-true (x .stale)));
+          let t = h .at k x (s .0) p (s .1) in
+          record { holder = s .2 ∙ t .holder; stale = s .3 ∙ sym (or-true (x .stale)); change = ap (λ cs. not (isEmpty cs)) (s .4) ∙ t .change };
+      from = λ o k y q. let s = getD-staled ys k y q in h .from o k (s .0) (s .1);
     }

@@ -16,13 +16,13 @@ use Rattle.rules.specs.Node.{root, freshTable, nodeAt}
 use Rattle.rules.specs.Layout.{domainsOf}
 use Rattle.rules.specs.Sound.{goodEntries, reachesRoot, goodName, goodNode, goodNodes, goodRoot, distinct, goodTable, known}
 use Rattle.rules.specs.World.{World, Outcome, freshWorld}
-use Rattle.rules.specs.Call.{Verdict, wrongSize, unsound, stranger, callNumber, isHandled, Tables, sizedTables, sound, worldOf, tablesOf, txOf, frameVerdict, requestVerdict, outcome, turnedAway, delivered, requestBy, requestCall}
+use Rattle.rules.specs.Call.{Verdict, wrongSize, unsound, stranger, callNumber, isHandled, Tables, sizedTables, sound, worldOf, tablesOf, Result, txOf, frameVerdict, requestVerdict, outcome, turnedAway, delivered, requestBy, requestCall}
 use Rattle.rules.proofs.Cases.{cond-known}
 use Rattle.rules.proofs.Places.{nothing, none-at}
 use Rattle.rules.proofs.Fitting.{fresh-fits}
 use Rattle.rules.proofs.GoodTables.{good-of}
 use Rattle.laws.specs.History.{Call, History, requestOf, served, after, run}
-use Rattle.laws.specs.Soundness.{Lendable, FreshIsSound, CallsKeepSound, SoundBytesStay, CallsOnBytes, HistoriesAreSound, Lent, runBytes, Roomy, HistoriesOnBytes}
+use Rattle.laws.specs.Soundness.{Lendable, FreshIsSound, CallsKeepSound, SoundBytesStay, CallsOnBytes, HistoriesAreSound, Misfit, Lent, lentTables, resultOn, leftBy, runBytes, fitting, heeded, verdictOn, resultOf, resultBy, HistoriesOnBytes}
 use Rattle.laws.proofs.Calls.{served-is, served-known, request-good}
 use Rattle.laws.proofs.SoundWorld.{SoundWorld}
 use Rattle.laws.proofs.SoundRequests.{outcome-keeps}
@@ -147,16 +147,69 @@ calls-on-bytes t reply events c m l r e =
 
 -- ── histories on bytes ──
 
-follow : (w : World) (ls : List Lent) → SoundWorld w → Roomy ls → runBytes (tablesOf w) ls ≡ tablesOf (run w (map Lent.call ls))
-unfolding runBytes run
-follow w [] s r = refl
-follow w (x ∷ ls) s r =
-    let c = x .call in
-    let l = encoded w s in
-    let u = requestCall (tablesOf w) (x .reply) (x .events) (c .sender) (c .message) .tables in
-    let e : worldOf u ≡ after w c = calls-on-bytes (tablesOf w) (x .reply) (x .events) (c .sender) (c .message) l (r .0) (r .1) ∙ ap (λ (v : World). after v c) (world-back w s) in
-    let b : u ≡ tablesOf (after w c) = sym (bytes-back u (calls-keep-sound (tablesOf w) (x .reply) (x .events) (c .sender) (c .message) l)) ∙ ap tablesOf e in
-    ap (λ (t : Tables). runBytes t ls) b ∙ follow (after w c) ls (call-keeps w c s) (r .2)
+module _ (w : World) (s : SoundWorld w) where
+  domains-back : domainsOf (tablesOf w .domains) ≡ w .domains
+  unfolding worldOf
+  domains-back = ap World.domains (world-back w s)
+
+  -- a lent call, and the same with these tables
+  abbrev lending : Lent → Option Misfit → Lent
+  lending l m = record { call = l .call; misfit = m; reply = l .reply; events = l .events }
+
+  -- a call that is lent the store's own tables, and buffers that have their sizes or not
+  own-tables : (l : Lent) (b k : Bool) (v : Verdict) → let c = l .call in let o = outcome w (c .sender) (c .message) in
+      requestBy (tablesOf w) (l .reply) (l .events) (cond b (cond k v stranger) wrongSize) (c .sender) (c .message)
+      ≡ cond b (resultOf (tablesOf w) l (cond k v stranger) (cond (k && isHandled v) (some o) none)) (resultOf (tablesOf w) l wrongSize none)
+  unfolding requestBy isHandled resultOf
+  own-tables l false k v = refl
+  own-tables l true false v = refl
+  own-tables l true true v = rw (world-back w s) (chosen (isHandled v))
+    where
+      o : Outcome
+      o = outcome w (l .call .sender) (l .call .message)
+
+      chosen : (b : Bool) → cond b (resultOf (tablesOf w) l v (some o)) (resultOf (tablesOf w) l v none) ≡ resultOf (tablesOf w) l v (cond b (some o) none)
+      chosen true = refl
+      chosen false = refl
+
+  -- the whole result of a call on a sound world's bytes
+  result-is : (l : Lent) → resultOn (tablesOf w) l ≡ resultBy w l
+  unfolding resultOn resultBy resultOf lentTables fitting requestCall requestVerdict requestBy verdictOn served isHandled
+  result-is l = by (l .misfit)
+    where
+      by : (m : Option Misfit) → resultOn (tablesOf w) (lending l m) ≡ resultBy w (lending l m)
+      by (some m) = rw (m .wrong)
+      by none = rw (encoded w s .sized, encoded w s .sound, domains-back)
+          (own-tables (lending l none) (eqb (length (l .reply)) replySize && eqb (length (l .events)) eventsSize) (known (domainOf (l .call .sender)) (w .domains)) (frameVerdict (l .call .message)))
+
+  -- and the store's bytes after it
+  left-is : (l : Lent) → leftBy (tablesOf w) l ≡ tablesOf (cond (fitting l) (after w (l .call)) w)
+  unfolding leftBy fitting resultBy resultOf lentTables turnedAway delivered after
+  left-is l = by (l .misfit)
+    where
+      told : (b : Bool) (v : Verdict) (m : Option Outcome) → let x = lending l none in
+          cond b (resultOf (tablesOf w) x v m) (resultOf (tablesOf w) x wrongSize none) .tables ≡ tablesOf (cond b (elim m as (λ m. World) [ none ↦ w | some o ↦ o .world ]) w)
+      told true v none = refl
+      told true v (some o) = refl
+      told false v m = refl
+
+      by : (m : Option Misfit) → leftBy (tablesOf w) (lending l m) ≡ tablesOf (cond (fitting (lending l m)) (after w (l .call)) w)
+      by (some m) = refl
+      by none =
+          ap Result.tables (result-is (lending l none))
+          ∙ told (eqb (length (l .reply)) replySize && eqb (length (l .events)) eventsSize) (verdictOn w (l .call)) (served w (l .call))
+
+follow : (w : World) (ls : List Lent) → SoundWorld w → runBytes (tablesOf w) ls ≡ tablesOf (run w (heeded ls))
+unfolding runBytes run heeded
+follow w [] s = refl
+follow w (l ∷ ls) s = ap (λ (t : Tables). runBytes t ls) (left-is w s l) ∙ go (fitting l) (follow (after w (l .call)) ls (call-keeps w (l .call) s)) (follow w ls s)
+  where
+    go : (b : Bool) → runBytes (tablesOf (after w (l .call))) ls ≡ tablesOf (run (after w (l .call)) (heeded ls)) → runBytes (tablesOf w) ls ≡ tablesOf (run w (heeded ls))
+        → runBytes (tablesOf (cond b (after w (l .call)) w)) ls ≡ tablesOf (run w (cond b (l .call ∷ heeded ls) (heeded ls)))
+    go true e f = e
+    go false e f = f
 
 pub histories-on-bytes : HistoriesOnBytes
-histories-on-bytes ls r = follow freshWorld ls fresh-sound r
+histories-on-bytes ls l =
+    let e = follow freshWorld ls fresh-sound in
+    (e, ap (λ (t : Tables). resultOn t l) e ∙ result-is (run freshWorld (heeded ls)) (run-keeps freshWorld (heeded ls) fresh-sound) l)

@@ -139,7 +139,7 @@ pub transactions-good : (ds : Domains) (xs : Transactions) (cs : List Octets) �
     → goodTransactions ds xs cs ≡ true
 unfolding goodTransactions
 transactions-good ds [] cs l h = refl
-transactions-good ds (none ∷ xs) [] l h = refl
+transactions-good ds (none ∷ xs) [] l h = absurd (omega arith)
 transactions-good ds (none ∷ xs) (c ∷ cs) l h = transactions-good ds xs cs (omega arith) (λ k. h (suc k))
 transactions-good ds (some x ∷ xs) [] l h = absurd (omega arith)
 transactions-good ds (some x ∷ xs) (c ∷ cs) l h =

@@ -8,9 +8,9 @@ use Prim.Native.Nat.{ℕ, suc}
 use Rattle.rules.specs.Octets.{nul, decimal}
 use Rattle.rules.specs.Payload.{start, end, request}
 use Rattle.rules.specs.Answer.{EAGAIN, done, refused, OK}
-use Rattle.rules.specs.World.{World, Outcome}
+use Rattle.rules.specs.World.{World, Outcome, freshWorld}
 use Rattle.rules.specs.Call.{txOf}
-use Rattle.laws.specs.History.{Call, History, requestOf, served, after, run, changes, anyChange, isOpen, staysOpen}
+use Rattle.laws.specs.History.{Call, History, requestOf, served, after, run, recorded, changes, anyChange, anyAlteration, isOpen, staysOpen}
 
 -- a START that opens transaction k
 pub record Opens (w : World) (k : ℕ) (c : Call) : Type 0 where
@@ -52,3 +52,24 @@ abbrev pub StartAnswersItsNumber : Type 0
 StartAnswersItsNumber =
     (w : World) (k : ℕ) (c : Call) (o : Outcome) → Opens w k c → served w c ≡ some o
     → o .reply ≡ done (decimal (suc k) ++ nul)
+
+-- ── what a commit changes ──
+
+-- A transaction has recorded a change exactly if, since its START, one of its requests changed its copy: so `changes` counts just the commits that bring a change.
+abbrev pub RecordedExactly : Type 0
+RecordedExactly =
+    (w : World) (k : ℕ) (first : Call) (cs : History) → Opens w k first → staysOpen (after w first) k cs ≡ true
+    → recorded (run (after w first) cs) k ≡ anyAlteration (after w first) k cs
+
+-- the START of transaction k in a history, since which it stayed open
+pub record Started (w : World) (k : ℕ) (cs : History) : Type 0 where
+  pub before : History
+  pub first : Call
+  pub later : History
+  pub parts : cs ≡ before ++ first ∷ later
+  pub opens : Opens (run w before) k first
+  pub stays : staysOpen (after (run w before) first) k later ≡ true
+
+-- From the fresh store each transaction that is open has a START since which it stayed open.
+abbrev pub OpenSinceStart : Type 0
+OpenSinceStart = (cs : History) (k : ℕ) → isOpen (run freshWorld cs) k ≡ true → Started freshWorld k cs

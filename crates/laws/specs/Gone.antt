@@ -14,14 +14,16 @@ use Rattle.rules.specs.Payload.{event, release, request}
 use Rattle.rules.specs.Answer.{OK}
 use Rattle.rules.specs.Event.{Watch, Record}
 use Rattle.rules.specs.Layout.{Transaction}
+use Rattle.rules.specs.Sound.{introduced}
 use Rattle.rules.specs.World.{World, Outcome, freshWorld}
 use Rattle.laws.specs.History.{Call, History, requestOf, served, run}
 
--- nothing of domain d is left: no watch, no open transaction, no node that it owns
+-- nothing of domain d is left: no watch, no open transaction, no node that it owns; and it is not introduced
 pub record Gone (d : Domain) (w : World) : Type 0 where
   pub watches : has (λ (v : Watch). eqb d (domainOf (v .owner))) (w .watches) ≡ false
   pub transactions : has (λ (x : Transaction). eqb d (domainOf (x .holder))) (w .transactions) ≡ false
   pub nodes : has (λ (n : Node). eqb d (n .owner .domain)) (w .nodes) ≡ false
+  pub domains : introduced d (w .domains) ≡ false
 
 -- a record of these is the release of domain d, for the watch in place i
 pub record Hears (d : Domain) (i : ℕ) (rs : List Record) : Type 0 where

@@ -2,7 +2,7 @@
 use mathlib.Core.Bool.{Bool, true, false, cond, not, _&&_, _||_}
 use mathlib.Core.List.{List, [], _∷_}
 use mathlib.Core.Option.{Option, none, some}
-use Prim.Native.Nat.{ℕ, _-_}
+use Prim.Native.Nat.{ℕ, suc, _-_}
 use lib.ListN.{getD}
 use lib.Dec.{eqb}
 use Rattle.rules.specs.Octets.{Octets}
@@ -13,7 +13,7 @@ use Rattle.rules.specs.Payload.{Ask, directory, read, getPerms, write, mkdir, r
 use Rattle.rules.specs.Answer.{Reply, done, refused}
 use Rattle.rules.specs.Layout.{Transaction}
 use Rattle.rules.specs.Sound.{known}
-use Rattle.rules.specs.World.{World, Outcome}
+use Rattle.rules.specs.World.{World, Outcome, copyOf}
 use Rattle.rules.specs.Call.{typeOf, txOf, payloadOf, frameVerdict, isHandled, outcome}
 
 -- a message and the connection that sent it
@@ -106,3 +106,31 @@ isOpen w k = elim (transactionAt w k) [ none ↦ false | some x ↦ true ]
 unfoldable pub staysOpen : World → ℕ → History → Bool
 staysOpen w k [] = true
 staysOpen w k (c ∷ cs) = isOpen (after w c) k && staysOpen (after w c) k cs
+
+-- ── requests in a transaction ──
+
+-- a request in transaction k, by its reply, that changes the transaction's copy
+unfoldable pub alteredBy : World → ℕ → ℕ → Reply → Request → Bool
+alteredBy w k tx r (ask a ns) = eqb tx (suc k) && alters (copyOf w k) ns r a
+alteredBy w k tx r (watch p t depth) = false
+alteredBy w k tx r (unwatch p t) = false
+alteredBy w k tx r start = false
+alteredBy w k tx r (end commit) = false
+alteredBy w k tx r (introduce d page channel) = false
+alteredBy w k tx r (release d) = false
+alteredBy w k tx r (domainPath d) = false
+alteredBy w k tx r (isIntroduced d) = false
+alteredBy w k tx r reset = false
+
+unfoldable pub alteredAs : World → ℕ → ℕ → Reply → Parsed → Bool
+alteredAs w k tx r unknown = false
+alteredAs w k tx r invalid = false
+alteredAs w k tx r (request q) = alteredBy w k tx r q
+
+unfoldable pub altersCopy : World → ℕ → Call → Bool
+altersCopy w k c = elim (served w c) [ none ↦ false | some o ↦ alteredAs w k (txOf (c .message)) (o .reply) (requestOf c) ]
+
+-- some call of the history is a request in transaction k that changes its copy
+unfoldable pub anyAlteration : World → ℕ → History → Bool
+anyAlteration w k [] = false
+anyAlteration w k (c ∷ cs) = altersCopy w k c || anyAlteration (after w c) k cs

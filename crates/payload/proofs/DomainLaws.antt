@@ -12,7 +12,7 @@ use Rattle.rules.specs.Size.{lastDomain}
 use Rattle.rules.specs.Octets.{Octets, text, nul, same, numberIn, signed}
 use Rattle.rules.specs.Path.{Domain}
 use Rattle.rules.specs.Payload as rules
-use Rattle.rules.specs.Payload.{invalid, request, strings, ofDomain, introducing, introducingOf, bare, starting, ending}
+use Rattle.rules.specs.Payload.{invalid, request, strings, ofDomain, introducePayload, introducingOf, bare, startPayload, endPayload}
 use Rattle.rules.proofs.Decimals.{range-bounds}
 use Rattle.payload.specs.Strings.{part}
 use Rattle.payload.specs.Parts.{partsOf}
@@ -76,11 +76,11 @@ module _ (s : Octets) (e : ℕ) (one : OneString s e) where
 
 -- ── INTRODUCE ──
 
-pub introduce-other : (s : Octets) → ((a b c : ℕ) → partsOf (strings s) ≡ Three a b c → ⊥) → Means s Invalid (λ (d : Domain). introducing (strings s))
-unfolding partsOf introducing
+pub introduce-other : (s : Octets) → ((a b c : ℕ) → partsOf (strings s) ≡ Three a b c → ⊥) → Means s Invalid (λ (d : Domain). introducePayload (strings s))
+unfolding partsOf introducePayload
 introduce-other s h = invalid-means s _ (λ d. by (strings s) h)
   where
-    by : (o : Option (List Octets)) → ((a b c : ℕ) → partsOf o ≡ Three a b c → ⊥) → introducing o ≡ invalid
+    by : (o : Option (List Octets)) → ((a b c : ℕ) → partsOf o ≡ Three a b c → ⊥) → introducePayload o ≡ invalid
     by none h = refl
     by (some []) h = refl
     by (some (x ∷ [])) h = refl
@@ -89,27 +89,27 @@ introduce-other s h = invalid-means s _ (λ d. by (strings s) h)
     by (some (x ∷ y ∷ z ∷ w ∷ ws)) h = refl
 
 module _ (s : Octets) (a b c : ℕ) (h : ThreeStrings s a b c) where
-  introducing-at : introducing (strings s)
+  introducing-at : introducePayload (strings s)
       ≡ introducingOf (numberIn 1 lastDomain (take a s)) (signed (part (a + 1) b s)) (numberIn 0 (2 ^ 32 - 1) (part (b + 1) c s))
-  unfolding introducing
-  introducing-at = ap introducing (h .all)
+  unfolding introducePayload
+  introducing-at = ap introducePayload (h .all)
 
-  pub introduce-no-domain : numberIn 1 lastDomain (take a s) ≡ none → Means s Invalid (λ (d : Domain). introducing (strings s))
+  pub introduce-no-domain : numberIn 1 lastDomain (take a s) ≡ none → Means s Invalid (λ (d : Domain). introducePayload (strings s))
   unfolding introducingOf
   introduce-no-domain x = invalid-means s _ (λ d. introducing-at ∙ rw x)
 
   module _ (i : ℕ) (x : numberIn 1 lastDomain (take a s) ≡ some i) where
-    pub introduce-no-page : signed (part (a + 1) b s) ≡ none → Means s Invalid (λ (d : Domain). introducing (strings s))
+    pub introduce-no-page : signed (part (a + 1) b s) ≡ none → Means s Invalid (λ (d : Domain). introducePayload (strings s))
     unfolding introducingOf
     introduce-no-page y = invalid-means s _ (λ d. introducing-at ∙ rw (x, y))
 
     module _ (page : ℕ) (y : signed (part (a + 1) b s) ≡ some page) where
-      pub introduce-no-channel : numberIn 0 (2 ^ 32 - 1) (part (b + 1) c s) ≡ none → Means s Invalid (λ (d : Domain). introducing (strings s))
+      pub introduce-no-channel : numberIn 0 (2 ^ 32 - 1) (part (b + 1) c s) ≡ none → Means s Invalid (λ (d : Domain). introducePayload (strings s))
       unfolding introducingOf
       introduce-no-channel z = invalid-means s _ (λ d. introducing-at ∙ rw (x, y, z))
 
       pub introduce-means : (channel : ℕ) → numberIn 0 (2 ^ 32 - 1) (part (b + 1) c s) ≡ some channel →
-          Means s (Introduce i page channel) (λ (d : Domain). introducing (strings s))
+          Means s (Introduce i page channel) (λ (d : Domain). introducePayload (strings s))
       unfolding meant introducingOf
       introduce-means channel z =
           let l = range-bounds _ _ _ _ x in
@@ -126,19 +126,19 @@ module _ (s : Octets) where
   unfolding bare
   bare-by r b h = rw h
 
-  starting-out : (tx : ℕ) → tx ≡ 0 → starting tx s ≡ bare rules.start s
-  unfolding starting
+  starting-out : (tx : ℕ) → tx ≡ 0 → startPayload tx s ≡ bare rules.start s
+  unfolding startPayload
   starting-out tx e = rw (eq-eqb _ _ e)
 
-  pub start-inside : (tx : ℕ) → (tx ≡ 0 → ⊥) → Means s Invalid (λ (d : Domain). starting tx s)
-  unfolding starting
+  pub start-inside : (tx : ℕ) → (tx ≡ 0 → ⊥) → Means s Invalid (λ (d : Domain). startPayload tx s)
+  unfolding startPayload
   start-inside tx e = invalid-means s _ (λ d. rw (ne-eqb _ _ e))
 
-  pub start-means : (tx : ℕ) → tx ≡ 0 → same s nul ≡ true → Means s Start (λ (d : Domain). starting tx s)
+  pub start-means : (tx : ℕ) → tx ≡ 0 → same s nul ≡ true → Means s Start (λ (d : Domain). startPayload tx s)
   unfolding meant
   start-means tx e h = record { meaning = λ d. sym (starting-out tx e ∙ bare-by rules.start true h); sound = tt }
 
-  pub start-not : (tx : ℕ) → tx ≡ 0 → same s nul ≡ false → Means s Invalid (λ (d : Domain). starting tx s)
+  pub start-not : (tx : ℕ) → tx ≡ 0 → same s nul ≡ false → Means s Invalid (λ (d : Domain). startPayload tx s)
   start-not tx e h = invalid-means s _ (λ d. starting-out tx e ∙ bare-by rules.start false h)
 
   pub reset-means : same s nul ≡ true → Means s Reset (λ (d : Domain). bare rules.reset s)
@@ -149,18 +149,18 @@ module _ (s : Octets) where
   reset-not h = invalid-means s _ (λ d. bare-by rules.reset false h)
 
   ending-by : (b c : Bool) → same s (text "T" ++ nul) ≡ b → same s (text "F" ++ nul) ≡ c →
-      ending s ≡ cond b (request (rules.end true)) (cond c (request (rules.end false)) invalid)
-  unfolding ending
+      endPayload s ≡ cond b (request (rules.end true)) (cond c (request (rules.end false)) invalid)
+  unfolding endPayload
   ending-by b c g h = rw (g, h)
 
-  pub end-commit : same s (84 ∷ 0 ∷ []) ≡ true → Means s (End true) (λ (d : Domain). ending s)
+  pub end-commit : same s (84 ∷ 0 ∷ []) ≡ true → Means s (End true) (λ (d : Domain). endPayload s)
   unfolding meant text
   end-commit h = record { meaning = λ d. sym (ending-by true (same s (text "F" ++ nul)) h refl); sound = tt }
 
-  pub end-drop : same s (84 ∷ 0 ∷ []) ≡ false → same s (70 ∷ 0 ∷ []) ≡ true → Means s (End false) (λ (d : Domain). ending s)
+  pub end-drop : same s (84 ∷ 0 ∷ []) ≡ false → same s (70 ∷ 0 ∷ []) ≡ true → Means s (End false) (λ (d : Domain). endPayload s)
   unfolding meant text
   end-drop g h = record { meaning = λ d. sym (ending-by false true g h); sound = tt }
 
-  pub end-not : same s (84 ∷ 0 ∷ []) ≡ false → same s (70 ∷ 0 ∷ []) ≡ false → Means s Invalid (λ (d : Domain). ending s)
+  pub end-not : same s (84 ∷ 0 ∷ []) ≡ false → same s (70 ∷ 0 ∷ []) ≡ false → Means s Invalid (λ (d : Domain). endPayload s)
   unfolding text
   end-not g h = invalid-means s _ (λ d. ending-by false false g h)

@@ -7,7 +7,7 @@ use octets::compare::same;
 
 // START: outside a transaction, with a single nul.
 pub fn start(tx: u32, s: &[u8]) -> Request
-    ensures { λ r. ⌜ Means (now (s .entry)) r (λ (d : Domain). rules.starting tx (now (s .entry))) ⌝ }
+    ensures { λ r. ⌜ Means (now (s .entry)) r (λ (d : Domain). rules.startPayload tx (now (s .entry))) ⌝ }
 {
     if tx != 0 {
         return Request::Invalid;
@@ -32,7 +32,7 @@ pub fn reset(s: &[u8]) -> Request
 
 // END: T commits, F drops.
 pub fn end(s: &[u8]) -> Request
-    ensures { λ r. ⌜ Means (now (s .entry)) r (λ (d : Domain). rules.ending (now (s .entry))) ⌝ }
+    ensures { λ r. ⌜ Means (now (s .entry)) r (λ (d : Domain). rules.endPayload (now (s .entry))) ⌝ }
 {
     if same(s, b"T\0") {
         return Request::End(true);

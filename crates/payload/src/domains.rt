@@ -1,7 +1,7 @@
 // Requests about a domain.
 ghost use mathlib.Core.Path.{_≡_};
 ghost use Rattle.rules.specs.Path.{Domain};
-ghost use Rattle.rules.specs.Payload.{strings, introducing, ofDomain};
+ghost use Rattle.rules.specs.Payload.{strings, introducePayload, ofDomain};
 ghost use Rattle.payload.specs.Meaning.{Means};
 ghost use Rattle.payload.specs.Answers.{lowOf, aboutOf, toldOf};
 use crate::answer::Request;
@@ -14,7 +14,7 @@ use octets::decimals::signed;
 
 // INTRODUCE: a domain id from 1 on, a page and a channel.
 pub fn introduce(s: &[u8]) -> Request
-    ensures { λ r. ⌜ Means (now (s .entry)) r (λ (d : Domain). introducing (strings (now (s .entry)))) ⌝ }
+    ensures { λ r. ⌜ Means (now (s .entry)) r (λ (d : Domain). introducePayload (strings (now (s .entry)))) ⌝ }
 {
     let Parts::Three(a, b, c) = apart(s) else {
         return Request::Invalid;

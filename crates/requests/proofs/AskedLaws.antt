@@ -85,7 +85,7 @@ below-four P a b c d (suc (suc (suc (suc k)))) n h l = absurd (omega arith)
 given-entries : (es : Entries) → EntriesSound es → es .count ≤ 4 → Given (es .count) (accessIn es) (domainsIn es)
 given-entries es s h =
     record {
-      some = s .some-entry;
+      least = s .some-entry;
       few = h;
       accesses = h;
       domains = h;

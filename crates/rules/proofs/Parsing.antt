@@ -11,7 +11,7 @@ use Rattle.rules.specs.Size.{lastDomain, deepestWatch}
 use Rattle.rules.specs.Octets.{Octets, text, nul, same, numberIn, signed}
 use Rattle.rules.specs.Path.{Domain, Connection, domainOf, Names, Given, malformed, absolute, relative, special, given, allNames, base, slashed, beyond}
 use Rattle.rules.specs.Node.{Entry}
-use Rattle.rules.specs.Payload.{Ask, directory, read, getPerms, write, mkdir, rm, setPerms, Place, Request, ask, release, domainPath, isIntroduced, Parsed, invalid, request, Taken, before, ended, strings, firstString, accessLetter, entryOf, entriesOf, namesOf, placeOf, proper, asking, plain, writing, setting, settingAll, depthFor, watchingTo, watching, unwatching, introducingOf, introducing, ofDomain, bare, starting, ending, parse}
+use Rattle.rules.specs.Payload.{Ask, directory, read, getPerms, write, mkdir, rm, setPerms, Place, Request, ask, release, domainPath, isIntroduced, Parsed, invalid, request, Taken, before, ended, strings, firstString, accessLetter, entryOf, entriesOf, namesOf, placeOf, proper, asking, plain, writing, setting, settingAll, depthFor, watchingTo, watchPayload, unwatchPayload, introducingOf, introducePayload, ofDomain, bare, startPayload, endPayload, parse}
 use Rattle.rules.proofs.Cases.{cond-case, cond-known}
 use Rattle.rules.specs.Sound.{goodEntries, noNul, strictlyBelow}
 use Rattle.rules.proofs.Decimals.{range-bounds}
@@ -177,8 +177,8 @@ module _ (c : Connection) where
   placed none f g h = tt
   placed (some p) f g h = h p g
 
-  watching-good : (ss : Option (List Octets)) → Whenever (Each (λ (t : Octets). noNul t ≡ true)) ss → Fine (watching (domainOf c) ss)
-  unfolding watching
+  watching-good : (ss : Option (List Octets)) → Whenever (Each (λ (t : Octets). noNul t ≡ true)) ss → Fine (watchPayload (domainOf c) ss)
+  unfolding watchPayload
   watching-good none n = tt
   watching-good (some []) n = tt
   watching-good (some (s ∷ [])) n = tt
@@ -187,16 +187,16 @@ module _ (c : Connection) where
       placed (placeOf (domainOf c) (given s)) _ (place-is c s) (λ p g. watchingTo-good p t (numberIn 0 deepestWatch k) g (n .1 .0) (range 0 deepestWatch k))
   watching-good (some (s ∷ t ∷ k ∷ u ∷ us)) n = tt
 
-  unwatching-good : (ss : Option (List Octets)) → Fine (unwatching (domainOf c) ss)
-  unfolding unwatching
+  unwatching-good : (ss : Option (List Octets)) → Fine (unwatchPayload (domainOf c) ss)
+  unfolding unwatchPayload
   unwatching-good none = tt
   unwatching-good (some []) = tt
   unwatching-good (some (s ∷ [])) = tt
   unwatching-good (some (s ∷ t ∷ [])) = placed (placeOf (domainOf c) (given s)) _ (place-is c s) (λ p g. tt)
   unwatching-good (some (s ∷ t ∷ u ∷ us)) = tt
 
-  introducing-good : (ss : Option (List Octets)) → Fine (introducing ss)
-  unfolding introducing introducingOf
+  introducing-good : (ss : Option (List Octets)) → Fine (introducePayload ss)
+  unfolding introducePayload introducingOf
   introducing-good none = tt
   introducing-good (some []) = tt
   introducing-good (some (s ∷ [])) = tt
@@ -224,7 +224,7 @@ module _ (c : Connection) where
   -- ── every message ──
 
   pub parse-good : (type tx : ℕ) (s : Octets) → Fine (parse c type tx s)
-  unfolding parse bare starting ending
+  unfolding parse bare startPayload endPayload
   parse-good type tx s =
       let ss = strings s in
       next 1 _ _ (plain-good directory ss tt tt)

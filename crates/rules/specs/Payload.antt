@@ -156,20 +156,20 @@ watchingTo p t none = invalid
 watchingTo p t (some k) = cond (depthFor p k) (request (watch p t (some k))) invalid
 
 -- a path, a token, and perhaps a depth, "0 to 255, else EINVAL"
-unfoldable pub watching : Domain → Option (List Octets) → Parsed
-watching d none = invalid
-watching d (some []) = invalid
-watching d (some (s ∷ [])) = invalid
-watching d (some (s ∷ t ∷ [])) = elim (placeOf d (given s)) [ none ↦ invalid | some p ↦ request (watch p t none) ]
-watching d (some (s ∷ t ∷ k ∷ [])) = elim (placeOf d (given s)) [ none ↦ invalid | some p ↦ watchingTo p t (numberIn 0 deepestWatch k) ]
-watching d (some (s ∷ t ∷ k ∷ u ∷ us)) = invalid
+unfoldable pub watchPayload : Domain → Option (List Octets) → Parsed
+watchPayload d none = invalid
+watchPayload d (some []) = invalid
+watchPayload d (some (s ∷ [])) = invalid
+watchPayload d (some (s ∷ t ∷ [])) = elim (placeOf d (given s)) [ none ↦ invalid | some p ↦ request (watch p t none) ]
+watchPayload d (some (s ∷ t ∷ k ∷ [])) = elim (placeOf d (given s)) [ none ↦ invalid | some p ↦ watchingTo p t (numberIn 0 deepestWatch k) ]
+watchPayload d (some (s ∷ t ∷ k ∷ u ∷ us)) = invalid
 
-unfoldable pub unwatching : Domain → Option (List Octets) → Parsed
-unwatching d none = invalid
-unwatching d (some []) = invalid
-unwatching d (some (s ∷ [])) = invalid
-unwatching d (some (s ∷ t ∷ [])) = elim (placeOf d (given s)) [ none ↦ invalid | some p ↦ request (unwatch p t) ]
-unwatching d (some (s ∷ t ∷ u ∷ us)) = invalid
+unfoldable pub unwatchPayload : Domain → Option (List Octets) → Parsed
+unwatchPayload d none = invalid
+unwatchPayload d (some []) = invalid
+unwatchPayload d (some (s ∷ [])) = invalid
+unwatchPayload d (some (s ∷ t ∷ [])) = elim (placeOf d (given s)) [ none ↦ invalid | some p ↦ request (unwatch p t) ]
+unwatchPayload d (some (s ∷ t ∷ u ∷ us)) = invalid
 
 unfoldable pub introducingOf : Option ℕ → Option ℕ → Option ℕ → Parsed
 introducingOf none p c = invalid
@@ -178,13 +178,13 @@ introducingOf (some i) (some p) none = invalid
 introducingOf (some i) (some p) (some c) = request (introduce i p c)
 
 -- a domain id from 1 on, a page ("a signed decimal in 64 bits") and a channel ("0 to 4,294,967,295")
-unfoldable pub introducing : Option (List Octets) → Parsed
-introducing none = invalid
-introducing (some []) = invalid
-introducing (some (s ∷ [])) = invalid
-introducing (some (s ∷ t ∷ [])) = invalid
-introducing (some (s ∷ t ∷ u ∷ [])) = introducingOf (numberIn 1 lastDomain s) (signed t) (numberIn 0 (2 ^ 32 - 1) u)
-introducing (some (s ∷ t ∷ u ∷ v ∷ vs)) = invalid
+unfoldable pub introducePayload : Option (List Octets) → Parsed
+introducePayload none = invalid
+introducePayload (some []) = invalid
+introducePayload (some (s ∷ [])) = invalid
+introducePayload (some (s ∷ t ∷ [])) = invalid
+introducePayload (some (s ∷ t ∷ u ∷ [])) = introducingOf (numberIn 1 lastDomain s) (signed t) (numberIn 0 (2 ^ 32 - 1) u)
+introducePayload (some (s ∷ t ∷ u ∷ v ∷ vs)) = invalid
 
 -- a domain id alone
 unfoldable pub ofDomain : ℕ → (Domain → Request) → Option (List Octets) → Parsed
@@ -198,11 +198,11 @@ unfoldable pub bare : Request → Octets → Parsed
 bare r s = cond (same s nul) (request r) invalid
 
 -- "START with tx_id not 0: EINVAL"
-unfoldable pub starting : ℕ → Octets → Parsed
-starting tx s = cond (eqb tx 0) (bare start s) invalid
+unfoldable pub startPayload : ℕ → Octets → Parsed
+startPayload tx s = cond (eqb tx 0) (bare start s) invalid
 
-unfoldable pub ending : Octets → Parsed
-ending s = cond (same s (text "T" ++ nul)) (request (end true)) (cond (same s (text "F" ++ nul)) (request (end false)) invalid)
+unfoldable pub endPayload : Octets → Parsed
+endPayload s = cond (same s (text "T" ++ nul)) (request (end true)) (cond (same s (text "F" ++ nul)) (request (end false)) invalid)
 
 -- What the box handles, by type. "Other types get ENOSYS."
 unfoldable pub parse : Connection → ℕ → ℕ → Octets → Parsed
@@ -212,11 +212,11 @@ parse c type tx s =
     cond (eqb type 1) (plain d directory ss)
     (cond (eqb type 2) (plain d read ss)
     (cond (eqb type 3) (plain d getPerms ss)
-    (cond (eqb type 4) (watching d ss)
-    (cond (eqb type 5) (unwatching d ss)
-    (cond (eqb type 6) (starting tx s)
-    (cond (eqb type 7) (ending s)
-    (cond (eqb type 8) (introducing ss)
+    (cond (eqb type 4) (watchPayload d ss)
+    (cond (eqb type 5) (unwatchPayload d ss)
+    (cond (eqb type 6) (startPayload tx s)
+    (cond (eqb type 7) (endPayload s)
+    (cond (eqb type 8) (introducePayload ss)
     (cond (eqb type 9) (ofDomain 1 release ss)
     (cond (eqb type 10) (ofDomain 0 domainPath ss)
     (cond (eqb type 11) (writing d (firstString s))

@@ -136,7 +136,7 @@ goodChanges (c ∷ cs) = goodChange c && goodChanges cs
 -- each open transaction's holder is known and its copy sound; "a closed transaction's copy may hold anything"
 unfoldable pub goodTransactions : Domains → Transactions → List Octets → Bool
 goodTransactions ds [] copies = true
-goodTransactions ds (none ∷ xs) [] = true
+goodTransactions ds (none ∷ xs) [] = goodTransactions ds xs []
 goodTransactions ds (none ∷ xs) (copy ∷ copies) = goodTransactions ds xs copies
 goodTransactions ds (some x ∷ xs) [] = false
 goodTransactions ds (some x ∷ xs) (copy ∷ copies) =

@@ -12,15 +12,16 @@ use Rattle.rules.specs.Answer.{EINVAL, EACCES, ENOENT, ENOSPC, EAGAIN, R
 use Rattle.rules.specs.Layout.{slotBytes}
 use Rattle.rules.specs.Sound.{known}
 use Rattle.rules.specs.World.{World, Outcome, freshWorld}
-use Rattle.rules.specs.Call.{isHandled, frameVerdict, outcome, replyTo}
+use Rattle.rules.specs.Call.{Tables, tablesOf, isHandled, frameVerdict, outcome, replyTo}
 
 -- ── a line ──
 
--- what is seen of a call: its whole reply, its event count, or how a slot begins after it
+-- what is seen of a call: its whole reply, its event count, how a slot begins after it, or that every byte of the tables is as it was
 pub data Seen : Type 0 where
   replies : Reply → Seen
   records : ℕ → Seen
   slot : ℕ → Octets → Seen
+  unaltered : Seen
 
 pub record Step : Type 0 where
   pub sender : Connection
@@ -32,21 +33,28 @@ pub record Line : Type 0 where
   pub says : S.String
   pub steps : List Step
 
-unfoldable pub isSeen : Octets → Outcome → Seen → Bool
-isSeen m o (replies r) = same (replyTo m (o .reply)) (replyTo m r)
-isSeen m o (records n) = eqb (length (o .records)) n
-isSeen m o (slot i bytes) = begins bytes (slotBytes (getD (o .world .nodes) i none))
+unfoldable pub sameTables : Tables → Tables → Bool
+sameTables t u =
+    same (t .nodes) (u .nodes)
+    && (same (t .copies) (u .copies) && (same (t .watches) (u .watches) && (same (t .transactions) (u .transactions) && same (t .domains) (u .domains))))
 
-unfoldable pub allSeen : Octets → Outcome → List Seen → Bool
-allSeen m o [] = true
-allSeen m o (s ∷ ss) = isSeen m o s && allSeen m o ss
+-- of a message on the tables w
+unfoldable pub isSeen : World → Octets → Outcome → Seen → Bool
+isSeen w m o (replies r) = same (replyTo m (o .reply)) (replyTo m r)
+isSeen w m o (records n) = eqb (length (o .records)) n
+isSeen w m o (slot i bytes) = begins bytes (slotBytes (getD (o .world .nodes) i none))
+isSeen w m o unaltered = sameTables (tablesOf w) (tablesOf (o .world))
+
+unfoldable pub allSeen : World → Octets → Outcome → List Seen → Bool
+allSeen w m o [] = true
+allSeen w m o (s ∷ ss) = isSeen w m o s && allSeen w m o ss
 
 -- each call is handled on the tables that the one before it left, and what must be seen is seen
 unfoldable pub stepsHold : World → List Step → Bool
 stepsHold w [] = true
 stepsHold w (s ∷ ss) =
     let o = outcome w (s .sender) (s .message) in
-    known (domainOf (s .sender)) (w .domains) && (isHandled (frameVerdict (s .message)) && (allSeen (s .message) o (s .seen) && stepsHold (o .world) ss))
+    known (domainOf (s .sender)) (w .domains) && (isHandled (frameVerdict (s .message)) && (allSeen w (s .message) o (s .seen) && stepsHold (o .world) ss))
 
 unfoldable pub lineHolds : Line → Bool
 lineHolds l = stepsHold freshWorld (l .steps)
@@ -133,7 +141,11 @@ starred =
         seen = replies OK ∷ slot 1 (0x80 ∷ 0x04 ∷ 0x01 ∷ []) ∷ slot 2 (0x81 ∷ 0x04 ∷ 0x09 ∷ []) ∷ slot 0 (0x80 ∷ 0x00 ∷ 0x01 ∷ []) ∷ [];
       } ∷ [];
     }
-    ∷ record { says = "RM `/x`: OK, no change."; steps = record { sender = 0; message = RM "/x"; seen = replies OK ∷ records 0 ∷ [] } ∷ [] }
+    ∷ record {
+      says = "RM `/x`: OK, no change.";
+      steps = record { sender = 0; message = RM "/x"; seen = replies OK ∷ records 0 ∷ unaltered ∷ [] } ∷ call 0 START (done (string "1")) ∷ call 0 (RM "/x") OK
+          ∷ call 0 (COMMIT 1) OK ∷ [];
+    }
     ∷ record { says = "RM `/x/y`: ENOENT."; steps = call 0 (RM "/x/y") (refused ENOENT) ∷ [] }
     ∷ record { says = "READ `/a/`: EINVAL."; steps = call 0 (READ "/a/") (refused EINVAL) ∷ [] }
     ∷ record {

@@ -110,11 +110,11 @@ module _ (count : ℕ) (access domain : List ℕ) (g : Given count access domain
   entry-fits k h = record { access = g .kinds k h; domain = g .ids k h }
 
   pub owner-fits : EntryFits (entryIn access domain 0)
-  owner-fits = entry-fits 0 (g .some)
+  owner-fits = entry-fits 0 (g .least)
 
   pub others-fit : Each EntryFits (othersIn count access domain)
   unfolding othersIn
-  others-fit = let c = g .some in each-listed access domain (count - 1) (λ k h. entry-fits k (omega arith))
+  others-fit = let c = g .least in each-listed access domain (count - 1) (λ k h. entry-fits k (omega arith))
 
   pub others-many : length (othersIn count access domain) ≡ count - 1
   unfolding othersIn
@@ -126,7 +126,7 @@ module _ (count : ℕ) (access domain : List ℕ) (g : Given count access domain
   unfolding numbered entryIn othersIn
   given-at k h =
       let c = g .few in
-      let s = g .some in
+      let s = g .least in
       let es = entryIn access domain 0 ∷ othersIn count access domain in
       let d = entryIn access domain 0 in (
         sym (number-at es k d (omega (arith, others-many)) ∙ ap numbered (getD-take (suc (count - 1)) (four access domain) k d (omega arith) ∙ listed access domain k d (omega arith))),
@@ -134,7 +134,7 @@ module _ (count : ℕ) (access domain : List ℕ) (g : Given count access domain
       )
 
   pub given-past : (k : ℕ) → count ≤ k → 0 ≡ entryNumber (entryIn access domain 0 ∷ othersIn count access domain) k
-  given-past k h = let s = g .some in sym (number-past (entryIn access domain 0 ∷ othersIn count access domain) k (omega (arith, others-many)))
+  given-past k h = let s = g .least in sym (number-past (entryIn access domain 0 ∷ othersIn count access domain) k (omega (arith, others-many)))
 
 -- ── an heir's owner ──
 

@@ -36,7 +36,7 @@ othersIn count access domain = take (count - 1) (entryIn access domain 1 ∷ ent
 
 -- one to four entries that fit their fields
 pub record Given (count : ℕ) (access domain : List ℕ) : Type 0 where
-  pub some : 1 ≤ count
+  pub least : 1 ≤ count
   pub few : count ≤ mostEntries
   pub accesses : count ≤ length access
   pub domains : count ≤ length domain

@@ -22,7 +22,7 @@ use Rattle.rules.proofs.TransactionLayouts.{ChangeFits}
 use Rattle.tables.specs.Entry.{taken, entryOr}
 use Rattle.tables.specs.Kept.{KeptTransactions}
 use Rattle.tables.specs.Transaction.{opened, noChange}
-use Rattle.tables.specs.Entries.{goodOpen, goodEntries, soundEntries, soundCopies}
+use Rattle.tables.specs.Entries.{goodOpen, allOpenGood, soundEntries, soundCopies}
 use Rattle.tables.proofs.Search.{free-none, taken-some}
 
 -- ── a change ──
@@ -72,24 +72,24 @@ module _ (ds : Domains) (x : Option Transaction) where
     pub open-known : known (entryOr (opened 0) x .holder) ds ≡ true → goodOpen ds x ≡ goodChanges (entryOr (opened 0) x .changes)
     open-known k = open-is ∙ rw k
 
-pub entries-next : (ds : Domains) (xs : Transactions) (i : ℕ) → i < length xs → goodEntries ds (drop i xs) ≡ (goodOpen ds (getD xs i none) && goodEntries ds (drop (i + 1) xs))
-unfolding goodEntries
+pub entries-next : (ds : Domains) (xs : Transactions) (i : ℕ) → i < length xs → allOpenGood ds (drop i xs) ≡ (goodOpen ds (getD xs i none) && allOpenGood ds (drop (i + 1) xs))
+unfolding allOpenGood
 entries-next ds xs i h = rw (drop-cons xs i none h, add-one) refl
 
-pub entries-over : (ds : Domains) (xs : Transactions) (i : ℕ) → length xs ≤ i → goodEntries ds (drop i xs) ≡ true
-unfolding goodEntries
+pub entries-over : (ds : Domains) (xs : Transactions) (i : ℕ) → length xs ≤ i → allOpenGood ds (drop i xs) ≡ true
+unfolding allOpenGood
 entries-over ds xs i h = rw (drop-of-length-le xs {i = i} h)
 
 -- ── entries and copies ──
 
 -- a copy for each place
-pub entries-copies : (ds : Domains) (xs : Transactions) (copies : List Octets) → length copies ≡ length xs → goodTransactions ds xs copies ≡ (goodEntries ds xs && soundCopies xs copies)
-unfolding goodTransactions goodEntries goodOpen soundCopies
+pub entries-copies : (ds : Domains) (xs : Transactions) (copies : List Octets) → length copies ≡ length xs → goodTransactions ds xs copies ≡ (allOpenGood ds xs && soundCopies xs copies)
+unfolding goodTransactions allOpenGood goodOpen soundCopies
 entries-copies ds [] copies h = refl
 entries-copies ds (x ∷ xs) [] h = absurd (omega arith)
 entries-copies ds (none ∷ xs) (copy ∷ copies) h = entries-copies ds xs copies (omega arith)
 entries-copies ds (some x ∷ xs) (copy ∷ copies) h =
-    rw (entries-copies ds xs copies (omega arith)) (regroup (known (domainOf (x .holder)) ds) (goodChanges (x .changes)) (soundTable copy) (goodEntries ds xs) (soundCopies xs copies))
+    rw (entries-copies ds xs copies (omega arith)) (regroup (known (domainOf (x .holder)) ds) (goodChanges (x .changes)) (soundTable copy) (allOpenGood ds xs) (soundCopies xs copies))
   where
     regroup : (a b c d e : Bool) → (a && (b && (c && (d && e)))) ≡ ((a && b && d) && (c && e))
     regroup true true true d e = refl
@@ -103,7 +103,7 @@ pub sound-parts : (ds : Domains) (copies : List Octets) (s : Octets) → length 
     → soundTransactions ds copies s ≡ (soundEntries ds s && soundCopies (transactionsOf s) copies)
 unfolding soundTransactions soundEntries
 sound-parts ds copies s h =
-    rw (entries-copies ds (transactionsOf s) copies h) (regroup (eqb (length s) transactionsSize) (same (transactionsBytes (transactionsOf s)) s) (goodEntries ds (transactionsOf s)) (soundCopies (transactionsOf s) copies))
+    rw (entries-copies ds (transactionsOf s) copies h) (regroup (eqb (length s) transactionsSize) (same (transactionsBytes (transactionsOf s)) s) (allOpenGood ds (transactionsOf s)) (soundCopies (transactionsOf s) copies))
   where
     regroup : (a b c d : Bool) → (a && (b && (c && d))) ≡ ((a && (b && c)) && d)
     regroup true true c d = refl
@@ -117,6 +117,6 @@ kept-of s w e = record { whole = w; same = same-eq (transactionsBytes (transacti
 pub sound-kept : (ds : Domains) (s : Octets) → soundEntries ds s ≡ true → KeptTransactions s
 unfolding soundEntries
 sound-kept ds s h =
-    let p = both-true (eqb (length s) transactionsSize) (same (transactionsBytes (transactionsOf s)) s && goodEntries ds (transactionsOf s)) h in
-    let q = both-true (same (transactionsBytes (transactionsOf s)) s) (goodEntries ds (transactionsOf s)) (p .1) in
+    let p = both-true (eqb (length s) transactionsSize) (same (transactionsBytes (transactionsOf s)) s && allOpenGood ds (transactionsOf s)) h in
+    let q = both-true (same (transactionsBytes (transactionsOf s)) s) (allOpenGood ds (transactionsOf s)) (p .1) in
     kept-of s (eqb-true (length s) transactionsSize (p .0)) (q .0)

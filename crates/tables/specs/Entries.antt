@@ -24,15 +24,15 @@ unfoldable pub goodOpen : Domains → Option Transaction → Bool
 goodOpen ds none = true
 goodOpen ds (some x) = known (domainOf (x .holder)) ds && goodChanges (x .changes)
 
-unfoldable pub goodEntries : Domains → Transactions → Bool
-goodEntries ds [] = true
-goodEntries ds (x ∷ xs) = goodOpen ds x && goodEntries ds xs
+unfoldable pub allOpenGood : Domains → Transactions → Bool
+allOpenGood ds [] = true
+allOpenGood ds (x ∷ xs) = goodOpen ds x && allOpenGood ds xs
 
 -- what soundTransactions asks of the entries
 unfoldable pub soundEntries : Domains → Octets → Bool
 soundEntries ds s =
     let xs = transactionsOf s in
-    eqb (length s) transactionsSize && (same (transactionsBytes xs) s && goodEntries ds xs)
+    eqb (length s) transactionsSize && (same (transactionsBytes xs) s && allOpenGood ds xs)
 
 -- and of the copies: that of each open transaction is sound
 unfoldable pub soundCopies : Transactions → List Octets → Bool

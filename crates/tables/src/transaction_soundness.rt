@@ -11,7 +11,7 @@ ghost use Rattle.rules.specs.Layout.{domainsOf, transactionBytes, transactionIn
 ghost use Rattle.rules.specs.Sound.{goodChange, goodChanges};
 ghost use Rattle.tables.specs.Kept.{keptAt, KeptTransactions};
 ghost use Rattle.tables.specs.Transaction.{transactionOf, changeOf, OpenTransaction, HasChange};
-ghost use Rattle.tables.specs.Entries.{changeKept, changesKept, goodOpen, goodEntries, soundEntries};
+ghost use Rattle.tables.specs.Entries.{changeKept, changesKept, goodOpen, allOpenGood, soundEntries};
 use crate::domains::known;
 use crate::numbers::two;
 use crate::transactions::CHANGE_SIZE;
@@ -173,7 +173,7 @@ fn place_good(s: &[u8], domains: &[u8], k: usize) -> bool
 
 fn good(s: &[u8], domains: &[u8]) -> bool
     requires { ⌜ KeptTransactions (now s) × (length (now domains) ≡ domainsSize) ⌝ }
-    ensures { λ r. ⌜ r ≡ goodEntries (domainsOf (now (domains .entry))) (transactionsOf (now (s .entry))) ⌝ }
+    ensures { λ r. ⌜ r ≡ allOpenGood (domainsOf (now (domains .entry))) (transactionsOf (now (s .entry))) ⌝ }
 {
     let mut i = 0;
     while i < TRANSACTIONS {

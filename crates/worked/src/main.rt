@@ -28,7 +28,10 @@ fn looks() {
     worked(
         b"RM `/x`: OK, no change.",
         b"0 RM 0 /x|\n\
-          slot 1",
+          slot 1\n\
+          0 TRANSACTION_START 0 |\n\
+          0 RM 0 /x|\n\
+          0 TRANSACTION_END 1 T|",
     );
     worked(b"RM `/x/y`: ENOENT.", b"0 RM 0 /x/y|");
     worked(b"READ `/a/`: EINVAL.", b"0 READ 0 /a/|");

@@ -38,7 +38,7 @@ returns c =
     let p = c .before .before .before .before .before .before in
     let g = b .pre .3 in
     let many = others-many _ _ _ g in
-    let one = g .some in
+    let one = g .least in
     let few = g .few in
     entries-put _ (b .pre .1) (b .args .i) (b .pre .0) (b .pre .2) _ _ (owner-fits _ _ _ g) (others-fit _ _ _ g) (omega arith) _ _ _ _ (p .before .before .before .before .before .before .parent .ensures .1) (p .before .before .before .before .name-length .ensures) (p .before .before .value-length .ensures) (omega arith) (p .put-given .ensures) (c .before .before .put-fields .ensures)
 

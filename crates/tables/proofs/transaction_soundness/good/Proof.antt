@@ -4,7 +4,7 @@ use native.Mathlib.Omega.{arith}
 use lib.ListN.{drop}
 use borrow.Author.Tests.{not-true, not-false}
 use Rattle.rules.specs.Layout.{domainsOf, transactionsOf}
-use Rattle.tables.specs.Entries.{goodEntries}
+use Rattle.tables.specs.Entries.{allOpenGood}
 use Rattle.tables.proofs.Bytes.{and-first, and-rest}
 use Rattle.tables.proofs.EntriesGood.{entries-next, entries-over}
 use Rattle.tables.proofs.TransactionLaws.{length-transactionsOf}
@@ -12,7 +12,7 @@ use Rattle.tables.proofs.transaction_soundness.good.Statement.{statemen
 use Rattle.tables.proofs.transaction_soundness.good.Tie as tie
 
 abbrev Inv-loop : tie.InvT-loop
-Inv-loop s domains i₀ i = (i ≤ 3) × (goodEntries (domainsOf domains) (transactionsOf s) ≡ goodEntries (domainsOf domains) (drop i (transactionsOf s)))
+Inv-loop s domains i₀ i = (i ≤ 3) × (allOpenGood (domainsOf domains) (transactionsOf s) ≡ allOpenGood (domainsOf domains) (drop i (transactionsOf s)))
 
 abbrev μ-loop : tie.MeasureT-loop
 μ-loop s domains i₀ i = 3 - i
