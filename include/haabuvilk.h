@@ -37,18 +37,18 @@ extern "C" {
 #define HAABUVILK_TRANSACTION_COUNT 3
 #define HAABUVILK_RECORD 268
 
-/* What a call answers. */
+/* What a call answers. Tables that fresh made and requests alone altered are sound; crates/rules/specs/Sound.antt says which others are. */
 enum haabuvilk_number {
     HAABUVILK_HANDLED = 0,    /* done: the results and buffers are filled */
     HAABUVILK_SIZE = 1,       /* a lent buffer has the wrong size */
-    HAABUVILK_UNSOUND = 2,    /* a table is not sound: not what fresh and requests leave */
+    HAABUVILK_UNSOUND = 2,    /* a table is not sound, of those that the call looks at (see each call) */
     HAABUVILK_STRANGER = 3,   /* the sender is neither 0 nor introduced */
     HAABUVILK_FRAME = 4,      /* the message has under 16 bytes, or not 16 and its len */
     HAABUVILK_TOO_LONG = 5,   /* its len is above 4,096: close the connection, what follows cannot be framed */
     HAABUVILK_NO_MESSAGE = 6  /* this record is not for this watch, or there is no such record or watch */
 };
 
-/* Fills the five tables with the fresh store. Answers 0 or 1. */
+/* Fills the five tables with the fresh store, whatever they held. Answers 0 or 1. */
 uint32_t haabuvilk_fresh(uint8_t *nodes, size_t nodes_size, uint8_t *copies, size_t copies_size,
                          uint8_t *watches, size_t watches_size, uint8_t *transactions, size_t transactions_size,
                          uint8_t *domains, size_t domains_size);
@@ -56,6 +56,8 @@ uint32_t haabuvilk_fresh(uint8_t *nodes, size_t nodes_size, uint8_t *copies, siz
 /*
  * One message from one sender. Answers 0 to 5, the first that applies of: 1, 2, 3, under 16 bytes (4), 5, another total than 16 + len (4).
  * Number 5 shows in the header alone, so a caller need not wait for the payload of such a message.
+ * For number 2 it looks at the nodes, the watches, the transactions, the domains and the copy of each open transaction. The copy of a
+ * closed transaction may hold anything.
  *
  * On 0: the reply to be sent back is the first `reply_length` bytes of `reply` (an error is a reply too), and the first `event_count`
  * records of `events` say which watches hear what; `page` and `channel` are those of an INTRODUCE that succeeded, else 0.
@@ -70,7 +72,8 @@ uint32_t haabuvilk_request(uint8_t *nodes, size_t nodes_size, uint8_t *copies, s
 
 /*
  * The event message of one record for one watch, 0 to 15, with the tables and records as the request left them: ask before the next
- * request. Answers 0, 1, 2 or 6; on 0 the message is the first `message_length` bytes of `message`.
+ * request. Answers 0, 1, 2 or 6, the first that applies of 1, 2, 6. For number 2 it looks at the watches and the domains alone; the
+ * records may hold anything. On 0 the message is the first `message_length` bytes of `message`, and the bytes past it stay as they were.
  */
 uint32_t haabuvilk_event_message(const uint8_t *watches, size_t watches_size, const uint8_t *domains, size_t domains_size,
                                  const uint8_t *events, size_t events_size, uint32_t event_count,
