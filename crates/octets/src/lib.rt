@@ -3,6 +3,7 @@ pub mod compare;
 pub mod decimals;
 pub mod numbers;
 pub mod parts;
+pub mod sizes;
 pub mod written;
 
 // What a decimal says.

@@ -1,10 +1,10 @@
 -- The calls on bytes: what each answers, and every byte of every lent buffer after it.
 use mathlib.Core.Bool.{Bool, true, false, cond, _&&_}
 use mathlib.Core.List.{_++_, flatMap}
-use Prim.Native.Nat.{ℕ, _+_}
+use Prim.Native.Nat.{ℕ, _+_, _-_}
 use lib.ListN.{length, take, drop}
 use lib.Dec.{eqb, ltb}
-use Rattle.rules.specs.Size.{mostTransactions, headerSize, longestPayload, tableSize, copiesSize, watchesSize, transactionsSize, domainsSize, replySize, eventsSize}
+use Rattle.rules.specs.Size.{mostTransactions, headerSize, reqAt, txAt, lenAt, longestPayload, tableSize, copiesSize, watchesSize, transactionsSize, domainsSize, replySize, eventsSize}
 use Rattle.rules.specs.Octets.{Octets, nul, fourBytes, littleEndian, chunks, paste}
 use Rattle.rules.specs.Domain.{Connection, domainOf}
 use Rattle.rules.specs.Payload.{Parsed, unknown, invalid, request, parse}
@@ -116,10 +116,10 @@ unfoldable pub typeOf : Octets → ℕ
 typeOf m = littleEndian m 0
 
 unfoldable pub txOf : Octets → ℕ
-txOf m = littleEndian m 8
+txOf m = littleEndian m txAt
 
 unfoldable pub lenOf : Octets → ℕ
-lenOf m = littleEndian m 12
+lenOf m = littleEndian m lenAt
 
 unfoldable pub payloadOf : Octets → Octets
 payloadOf m = drop headerSize m
@@ -149,7 +149,7 @@ replyPayload (done s) = s
 replyPayload (refused e) = errnoText e ++ nul
 
 unfoldable pub replyTo : Octets → Reply → Octets
-replyTo m r = fourBytes (replyType (typeOf m) r) ++ (take 8 (drop 4 m) ++ (fourBytes (length (replyPayload r)) ++ replyPayload r))
+replyTo m r = fourBytes (replyType (typeOf m) r) ++ (take (lenAt - reqAt) (drop reqAt m) ++ (fourBytes (length (replyPayload r)) ++ replyPayload r))
 
 -- steps 1 and 2, then the rest
 unfoldable pub outcomeOf : World → Connection → ℕ → Parsed → Outcome

@@ -5,7 +5,7 @@ use mathlib.Core.Option.{Option, none, some}
 use Prim.Native.Nat.{ℕ, zero, suc, _+_, _*_, _-_}
 use lib.ListN.{length, take, drop, replicate}
 use lib.Dec.{eqb}
-use Rattle.rules.specs.Size.{slots, slotSize, fieldsSize, entriesSize, longestName, longestValue, mostEntries, mostDomains, domainSize, mostWatches, watchSize, longestPath, longestToken, mostTransactions, transactionSize, mostChanges, changeSize}
+use Rattle.rules.specs.Size.{slots, slotSize, fieldsSize, entriesSize, nameAt, longestName, valueAt, longestValue, mostEntries, mostDomains, domainSize, mostWatches, watchFieldsSize, tokenAt, watchSize, longestPath, longestToken, mostTransactions, changesAt, changesSize, transactionSize, mostChanges, changeFieldsSize, changeSize, recordPathAt}
 use Rattle.rules.specs.Octets.{Octets, padded, chunks, bigEndian, field, Bits, _bits_, pack, bitsAt, bit}
 use Rattle.rules.specs.Domain.{Domain, Connection}
 use Rattle.rules.specs.Path.{malformed, absolute, relative, special, given, namesIn, pathText}
@@ -44,8 +44,8 @@ unfoldable pub nodeOf : Octets → ℕ → ℕ → Node
 nodeOf s head es =
     record {
       parent = bitsAt head 16 7;
-      name = textAt s (fieldsSize + entriesSize) longestName (bitsAt head 10 6);
-      value = textAt s (fieldsSize + entriesSize + longestName) longestValue (bitsAt head 3 7);
+      name = textAt s nameAt longestName (bitsAt head 10 6);
+      value = textAt s valueAt longestValue (bitsAt head 3 7);
       owner = entryAt es 3;
       others = take (bitsAt head 0 3 - 1) (entryAt es 2 ∷ entryAt es 1 ∷ entryAt es 0 ∷ []);
     }
@@ -100,7 +100,7 @@ watchBits w =
 
 unfoldable pub watchBytes : Option Watch → Octets
 watchBytes none = replicate watchSize 0
-watchBytes (some w) = bigEndian 6 (pack (watchBits w)) ++ (padded longestPath (placeText (w .place)) ++ padded longestToken (w .token))
+watchBytes (some w) = bigEndian watchFieldsSize (pack (watchBits w)) ++ (padded longestPath (placeText (w .place)) ++ padded longestToken (w .token))
 
 -- what is neither a full path nor an event's name is read as an empty event name, which no sound watch has
 unfoldable pub placeIn : Bool → Octets → Place
@@ -110,14 +110,14 @@ unfoldable pub watchAt : Octets → ℕ → Watch
 watchAt s head =
     record {
       owner = bitsAt head 16 16;
-      place = placeIn (eqb (bitsAt head 46 1) 1) (textAt s 6 longestPath (bitsAt head 7 9));
+      place = placeIn (eqb (bitsAt head 46 1) 1) (textAt s watchFieldsSize longestPath (bitsAt head 7 9));
       depth = cond (eqb (bitsAt head 45 1) 1) (some (bitsAt head 32 8)) none;
-      token = textAt s (6 + longestPath) longestToken (bitsAt head 0 6);
+      token = textAt s tokenAt longestToken (bitsAt head 0 6);
     }
 
 unfoldable pub watchIn : Octets → Option Watch
 watchIn s =
-    let head = field s 0 6 in
+    let head = field s 0 watchFieldsSize in
     let w = watchAt s head in
     cond (eqb (bitsAt head 47 1) 1) (some w) none
 
@@ -139,31 +139,31 @@ Transactions = List (Option Transaction)
 
 unfoldable pub changeBytes : Change → Octets
 changeBytes c =
-    bigEndian 2 (pack (1 bits bit (c .removal) ∷ 6 bits 0 ∷ 9 bits length (pathText (c .names)) ∷ []))
+    bigEndian changeFieldsSize (pack (1 bits bit (c .removal) ∷ 6 bits 0 ∷ 9 bits length (pathText (c .names)) ∷ []))
     ++ padded longestPath (pathText (c .names))
 
 unfoldable pub transactionBytes : Option Transaction → Octets
 transactionBytes none = replicate transactionSize 0
 transactionBytes (some x) =
-    bigEndian 3 (pack (1 bits 1 ∷ 1 bits bit (x .stale) ∷ 2 bits 0 ∷ 4 bits length (x .changes) ∷ 16 bits x .holder ∷ []))
-    ++ padded (mostChanges * changeSize) (flatMap changeBytes (x .changes))
+    bigEndian changesAt (pack (1 bits 1 ∷ 1 bits bit (x .stale) ∷ 2 bits 0 ∷ 4 bits length (x .changes) ∷ 16 bits x .holder ∷ []))
+    ++ padded changesSize (flatMap changeBytes (x .changes))
 
 unfoldable pub changeIn : Octets → Change
 changeIn s =
-    let head = field s 0 2 in
-    record { removal = eqb (bitsAt head 15 1) 1; names = namesIn (textAt s 2 longestPath (bitsAt head 0 9)) }
+    let head = field s 0 changeFieldsSize in
+    record { removal = eqb (bitsAt head 15 1) 1; names = namesIn (textAt s changeFieldsSize longestPath (bitsAt head 0 9)) }
 
 unfoldable pub transactionAt : Octets → ℕ → Transaction
 transactionAt s head =
     record {
       holder = bitsAt head 0 16;
       stale = eqb (bitsAt head 22 1) 1;
-      changes = map changeIn (take (bitsAt head 16 4) (chunks mostChanges changeSize (drop 3 s)));
+      changes = map changeIn (take (bitsAt head 16 4) (chunks mostChanges changeSize (drop changesAt s)));
     }
 
 unfoldable pub transactionIn : Octets → Option Transaction
 transactionIn s =
-    let head = field s 0 3 in
+    let head = field s 0 changesAt in
     let x = transactionAt s head in
     cond (eqb (bitsAt head 23 1) 1) (some x) none
 
@@ -181,5 +181,5 @@ maskBits (b ∷ bs) = 1 bits bit b ∷ maskBits bs
 
 unfoldable pub recordBytes : Record → Octets
 recordBytes r =
-    bigEndian 4 (pack (maskBits (r .mask) ++ (9 bits length (r .path) ∷ 7 bits 0 ∷ [])))
+    bigEndian recordPathAt (pack (maskBits (r .mask) ++ (9 bits length (r .path) ∷ 7 bits 0 ∷ [])))
     ++ padded longestPath (r .path)

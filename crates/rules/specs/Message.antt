@@ -5,7 +5,7 @@ use mathlib.Core.Option.{Option, none, some}
 use Prim.Native.Nat.{ℕ, suc, _-_, _*_}
 use lib.ListN.{length, getD, take, drop}
 use lib.Dec.{eqb, ltb, leb}
-use Rattle.rules.specs.Size.{mostWatches, mostRecords, recordSize, longestPath, watchesSize, domainsSize, eventsSize, messageSize, lastDomain}
+use Rattle.rules.specs.Size.{mostWatches, mostRecords, maskSize, recordPathAt, recordSize, longestPath, watchesSize, domainsSize, eventsSize, messageSize, lastDomain}
 use Rattle.rules.specs.Octets.{Octets, nul, same, fourBytes, field, bitsAt, numberIn, paste}
 use Rattle.rules.specs.Domain.{Domain, domainOf}
 use Rattle.rules.specs.Path.{base, pathText, isBelow}
@@ -27,13 +27,13 @@ recordAt events i = take recordSize (drop (i * recordSize) events)
 
 -- the mask's bit for watch k, watch 0 first
 unfoldable pub maskBit : Octets → ℕ → Bool
-maskBit r k = eqb (bitsAt (field r 0 2) (mostWatches - 1 - k) 1) 1
+maskBit r k = eqb (bitsAt (field r 0 maskSize) (mostWatches - 1 - k) 1) 1
 
 unfoldable pub pathLength : Octets → ℕ
-pathLength r = bitsAt (field r 2 2) 7 9
+pathLength r = bitsAt (field r maskSize (recordPathAt - maskSize)) 7 9
 
 unfoldable pub pathIn : Octets → Octets
-pathIn r = textAt r 4 longestPath (pathLength r)
+pathIn r = textAt r recordPathAt longestPath (pathLength r)
 
 -- ── the reported path ──
 

@@ -59,22 +59,38 @@ deepestWatch = 255
 
 -- ── bytes ──
 
+-- a message's header: type, req_id, tx_id, len
 abbrev pub headerSize : ℕ
 headerSize = 16
+
+abbrev pub reqAt : ℕ
+reqAt = 4
+
+abbrev pub txAt : ℕ
+txAt = 8
+
+abbrev pub lenAt : ℕ
+lenAt = 12
 
 -- a stored path: a slash and a name a level
 abbrev pub longestPath : ℕ
 longestPath = deepest * (1 + longestName)
 
--- a slot's fields and its permission entries stand before the name
+-- a slot: its fields, its permission entries, the name, the value
 abbrev pub fieldsSize : ℕ
 fieldsSize = 3
 
 abbrev pub entriesSize : ℕ
 entriesSize = 9
 
+abbrev pub nameAt : ℕ
+nameAt = fieldsSize + entriesSize
+
+abbrev pub valueAt : ℕ
+valueAt = nameAt + longestName
+
 abbrev pub slotSize : ℕ
-slotSize = fieldsSize + entriesSize + longestName + longestValue
+slotSize = valueAt + longestValue
 
 abbrev pub tableSize : ℕ
 tableSize = slots * slotSize
@@ -88,23 +104,48 @@ domainSize = 3
 abbrev pub domainsSize : ℕ
 domainsSize = mostDomains * domainSize
 
+-- a watch: its fields, the path, the token
+abbrev pub watchFieldsSize : ℕ
+watchFieldsSize = 6
+
+abbrev pub tokenAt : ℕ
+tokenAt = watchFieldsSize + longestPath
+
 abbrev pub watchSize : ℕ
-watchSize = 6 + longestPath + longestToken
+watchSize = tokenAt + longestToken
 
 abbrev pub watchesSize : ℕ
 watchesSize = mostWatches * watchSize
 
+-- a change: its fields, the path
+abbrev pub changeFieldsSize : ℕ
+changeFieldsSize = 2
+
 abbrev pub changeSize : ℕ
-changeSize = 2 + longestPath
+changeSize = changeFieldsSize + longestPath
+
+-- a transaction: its fields, the changes
+abbrev pub changesAt : ℕ
+changesAt = 3
+
+abbrev pub changesSize : ℕ
+changesSize = mostChanges * changeSize
 
 abbrev pub transactionSize : ℕ
-transactionSize = 3 + mostChanges * changeSize
+transactionSize = changesAt + changesSize
 
 abbrev pub transactionsSize : ℕ
 transactionsSize = mostTransactions * transactionSize
 
+-- an event record: its mask, the path's length, the path
+abbrev pub maskSize : ℕ
+maskSize = 2
+
+abbrev pub recordPathAt : ℕ
+recordPathAt = 4
+
 abbrev pub recordSize : ℕ
-recordSize = 4 + longestPath
+recordSize = recordPathAt + longestPath
 
 abbrev pub eventsSize : ℕ
 eventsSize = mostRecords * recordSize

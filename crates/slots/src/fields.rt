@@ -9,9 +9,11 @@ ghost use Rattle.rules.specs.Layout.{tableOf};
 ghost use Rattle.rules.specs.Node.{nodeAt};
 ghost use Rattle.slots.specs.Slot.{Bytes, slotAt, isUsed, nameLength, valueLength, entryCount, entryOf};
 
-pub const SLOTS: usize = 128;
+use octets::sizes::FIELDS_SIZE;
+use octets::sizes::NAME_AT;
+use octets::sizes::SLOT_SIZE;
+use octets::sizes::VALUE_AT;
 
-pub const SLOT_SIZE: usize = 108;
 
 pub fn used(t: &[u8], i: usize) -> bool
     requires { ⌜ (i < slots) × (length (now t) ≡ tableSize) ⌝ }
@@ -56,7 +58,7 @@ pub fn name(t: &[u8], i: usize) -> &[u8]
     ensures { λ r. ⌜ now r ≡ nodeAt (tableOf (now (t .entry))) i .name ⌝ }
 {
     let n = name_length(t, i);
-    let from = i * SLOT_SIZE + 12;
+    let from = i * SLOT_SIZE + NAME_AT;
     &t[from..from + n]
 }
 
@@ -66,7 +68,7 @@ pub fn value(t: &[u8], i: usize) -> &[u8]
     ensures { λ r. ⌜ now r ≡ nodeAt (tableOf (now (t .entry))) i .value ⌝ }
 {
     let n = value_length(t, i);
-    let from = i * SLOT_SIZE + 44;
+    let from = i * SLOT_SIZE + VALUE_AT;
     &t[from..from + n]
 }
 
@@ -101,7 +103,7 @@ pub fn entry_at(t: &[u8], i: usize, k: usize) -> Entry
     requires { ⌜ (i < slots) × (length (now t) ≡ tableSize) × (k < mostEntries) ⌝ }
     ensures { λ r. ⌜ (r .access ≡ entryOf (now (t .entry)) i k .access) × (r .domain ≡ entryOf (now (t .entry)) i k .domain) ⌝ }
 {
-    let bits = three(t, i * SLOT_SIZE + 3 + 2 * k);
+    let bits = three(t, i * SLOT_SIZE + FIELDS_SIZE + 2 * k);
     if k == 0 {
         return parted(bits / 64);
     }

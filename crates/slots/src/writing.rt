@@ -6,13 +6,12 @@ ghost use mathlib.Core.Option.{none, some};
 ghost use Prim.Native.Nat.{_+_, _*_, _/_, _≤_, _<_};
 ghost use lib.ListN.{length, set};
 ghost use lib.Dec.{eqb};
-ghost use Rattle.rules.specs.Size.{slots, slotSize, longestValue, mostEntries};
+ghost use Rattle.rules.specs.Size.{slots, slotSize, fieldsSize, entriesSize, longestValue, mostEntries};
 ghost use Rattle.rules.specs.Octets.{padded, paste, bigEndian};
 ghost use Rattle.rules.specs.Layout.{tableOf, tableBytes};
 ghost use Rattle.rules.specs.Node.{nodeAt, heir, newNode, withValue, withEntries};
 ghost use Rattle.slots.specs.Slot.{Canonical, slotAt, isUsed};
 ghost use Rattle.slots.specs.Written.{fieldsOf, entriesOf, entryNumber, entriesBytes, entryIn, othersIn, Given, Room};
-use crate::fields::SLOT_SIZE;
 use crate::fields::entry_at;
 use crate::fields::entry_count;
 use crate::fields::name_length;
@@ -20,10 +19,12 @@ use crate::fields::parent;
 use crate::fields::value_length;
 use octets::parts::clear;
 use octets::parts::copy;
-
-const NAME_SIZE: usize = 32;
-
-const VALUE_SIZE: usize = 64;
+use octets::sizes::FIELDS_SIZE;
+use octets::sizes::LONGEST_NAME;
+use octets::sizes::LONGEST_VALUE;
+use octets::sizes::NAME_AT;
+use octets::sizes::SLOT_SIZE;
+use octets::sizes::VALUE_AT;
 
 // Frees slot i.
 pub fn clear_slot(t: &mut [u8], i: usize)
@@ -45,8 +46,8 @@ fn put_text(t: &mut [u8], at: usize, room: usize, s: &[u8])
 
 // Puts the first fields of a used slot.
 fn put_fields(t: &mut [u8], at: usize, parent: usize, name: usize, value: usize, entries: usize)
-    requires { ⌜ (at + 3 ≤ length (now t)) × (parent < 128) × (name < 64) × (value < 128) × (entries < 8) ⌝ }
-    ensures { λ _. ⌜ now (t .exit) ≡ paste at (bigEndian 3 (fieldsOf parent name value entries)) (now (t .entry)) ⌝ }
+    requires { ⌜ (at + fieldsSize ≤ length (now t)) × (parent < 128) × (name < 64) × (value < 128) × (entries < 8) ⌝ }
+    ensures { λ _. ⌜ now (t .exit) ≡ paste at (bigEndian fieldsSize (fieldsOf parent name value entries)) (now (t .entry)) ⌝ }
 {
     t[at] = (128 + parent) as u8;
     t[at + 1] = (name * 4 + value / 32) as u8;
@@ -55,8 +56,8 @@ fn put_fields(t: &mut [u8], at: usize, parent: usize, name: usize, value: usize,
 
 // Puts four entries of 18 bits.
 fn put_four(t: &mut [u8], at: usize, a: u32, b: u32, c: u32, d: u32)
-    requires { ⌜ (at + 9 ≤ length (now t)) × (a < 262144) × (b < 262144) × (c < 262144) × (d < 262144) ⌝ }
-    ensures { λ _. ⌜ now (t .exit) ≡ paste at (bigEndian 9 (entriesOf a b c d)) (now (t .entry)) ⌝ }
+    requires { ⌜ (at + entriesSize ≤ length (now t)) × (a < 262144) × (b < 262144) × (c < 262144) × (d < 262144) ⌝ }
+    ensures { λ _. ⌜ now (t .exit) ≡ paste at (bigEndian entriesSize (entriesOf a b c d)) (now (t .entry)) ⌝ }
 {
     t[at] = (a / 1024) as u8;
     t[at + 1] = (a / 4 % 256) as u8;
@@ -78,7 +79,7 @@ pub fn put_value(t: &mut [u8], i: usize, v: &[u8])
     let name = name_length(t, i);
     let entries = entry_count(t, i);
     let at = i * SLOT_SIZE;
-    put_text(t, at + 44, VALUE_SIZE, v);
+    put_text(t, at + VALUE_AT, LONGEST_VALUE, v);
     put_fields(t, at, above, name, v.len(), entries);
 }
 
@@ -119,18 +120,18 @@ fn inherited(number: u32, domain: u32) -> u32
 // Puts the entries of `parent` into slot i, with the domain as owner unless it is 0.
 fn put_heirs(t: &mut [u8], i: usize, parent: usize, domain: u32)
     requires { ⌜ (i < slots) × (parent < slots) × Canonical (now t) × (isUsed (slotAt (now t) parent) ≡ true) × (domain < 65536) ⌝ }
-    ensures { λ _. ⌜ now (t .exit) ≡ paste (i * slotSize + 3) (entriesBytes (heir domain (nodeAt (tableOf (now (t .entry))) parent .owner)) (nodeAt (tableOf (now (t .entry))) parent .others)) (now (t .entry)) ⌝ }
+    ensures { λ _. ⌜ now (t .exit) ≡ paste (i * slotSize + fieldsSize) (entriesBytes (heir domain (nodeAt (tableOf (now (t .entry))) parent .owner)) (nodeAt (tableOf (now (t .entry))) parent .others)) (now (t .entry)) ⌝ }
 {
     let a = inherited(entry_number(t, parent, 0), domain);
     let b = entry_number(t, parent, 1);
     let c = entry_number(t, parent, 2);
     let d = entry_number(t, parent, 3);
-    put_four(t, i * SLOT_SIZE + 3, a, b, c, d);
+    put_four(t, i * SLOT_SIZE + FIELDS_SIZE, a, b, c, d);
 }
 
 // Puts given entries.
 fn put_given(t: &mut [u8], at: usize, count: usize, access: &[u32], domain: &[u32])
-    requires { ⌜ (at + 9 ≤ length (now t)) × Given count (now access) (now domain) ⌝ }
+    requires { ⌜ (at + entriesSize ≤ length (now t)) × Given count (now access) (now domain) ⌝ }
     ensures { λ _. ⌜ now (t .exit) ≡ paste at (entriesBytes (entryIn (now (access .entry)) (now (domain .entry)) 0) (othersIn count (now (access .entry)) (now (domain .entry)))) (now (t .entry)) ⌝ }
 {
     let a = given_number(access, domain, count, 0);
@@ -149,7 +150,7 @@ pub fn put_entries(t: &mut [u8], i: usize, count: usize, access: &[u32], domain:
     let name = name_length(t, i);
     let value = value_length(t, i);
     let at = i * SLOT_SIZE;
-    put_given(t, at + 3, count, access, domain);
+    put_given(t, at + FIELDS_SIZE, count, access, domain);
     put_fields(t, at, above, name, value, count);
 }
 
@@ -161,7 +162,7 @@ pub fn put_node(t: &mut [u8], i: usize, parent: usize, name: &[u8], value: &[u8]
     let entries = entry_count(t, parent);
     let at = i * SLOT_SIZE;
     put_heirs(t, i, parent, domain);
-    put_text(t, at + 12, NAME_SIZE, name);
-    put_text(t, at + 44, VALUE_SIZE, value);
+    put_text(t, at + NAME_AT, LONGEST_NAME, name);
+    put_text(t, at + VALUE_AT, LONGEST_VALUE, value);
     put_fields(t, at, parent, name.len(), value.len(), entries);
 }
