@@ -8,12 +8,10 @@ ghost use Rattle.rules.specs.Octets.{field};
 ghost use Rattle.rules.specs.Layout.{tableOf};
 ghost use Rattle.rules.specs.Node.{nodeAt};
 ghost use Rattle.slots.specs.Slot.{Bytes, slotAt, isUsed, nameLength, valueLength, entryCount, entryOf};
-
 use octets::sizes::FIELDS_SIZE;
 use octets::sizes::NAME_AT;
 use octets::sizes::SLOT_SIZE;
 use octets::sizes::VALUE_AT;
-
 
 pub fn used(t: &[u8], i: usize) -> bool
     requires { ⌜ (i < slots) × (length (now t) ≡ tableSize) ⌝ }
