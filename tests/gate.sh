@@ -1,5 +1,6 @@
 #!/bin/sh
-# rt's gate, and then the Rust and C tests on the archive made from the same proof. rt's verdict is printed last, and only if all passed.
+# rt's gate, where its edits were refused, and then the Rust and C tests on the archive made from the same proof. rt's verdict is printed last,
+# and only if all passed.
 set -eu
 cd "$(dirname "$0")/.."
 unset HAABUVILK_LIB
@@ -10,6 +11,7 @@ if [ -e build/ci.failed ]; then
     cat build/ci.verdict
     exit 1
 fi
+sh tests/edit-logs.sh
 rt staticlib haabuvilk
 sh tests/run.sh
 cat build/ci.verdict

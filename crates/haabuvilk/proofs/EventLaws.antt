@@ -15,7 +15,7 @@ use Rattle.rules.specs.Message.{messageOf, refusedWith, sent, sizedMessage, eve
 use Rattle.rules.proofs.Compare.{both-true}
 use Rattle.message.specs.Asked.{sentAs, sentOver}
 use Rattle.message.specs.declared.Sent.{Sent}
-use Rattle.haabuvilk.specs.Lent.{delivered}
+use Rattle.haabuvilk.specs.Lent.{messaged, MessageMeets}
 
 module _ (watches domains events message : Octets) where
   sent-over : (o : Option Octets) → sentOver message o ≡ sent watches domains events message o
@@ -23,7 +23,8 @@ module _ (watches domains events message : Octets) where
   sent-over none = refl
   sent-over (some m) = refl
 
-  pub wrong-size : (count i k : ℕ) → sizedMessage watches domains events message ≡ false → delivered 1 0 message ≡ eventCall watches domains events message count i k
+  pub wrong-size : (count i k : ℕ) → sizedMessage watches domains events message ≡ false
+      → MessageMeets watches domains events message count i k (messaged 1 0 message)
   unfolding eventCall refusedWith callNumber
   wrong-size count i k z = rw z refl
 
@@ -37,16 +38,17 @@ module _ (watches domains events message : Octets) where
         (eqb-true _ _ (b .0), eqb-true _ _ (c .0), eqb-true _ _ (c .1))
 
     module _ (count i k : ℕ) where
-      pub unsound-domains : soundDomains domains ≡ false → delivered 2 0 message ≡ eventCall watches domains events message count i k
+      pub unsound-domains : soundDomains domains ≡ false → MessageMeets watches domains events message count i k (messaged 2 0 message)
       unfolding eventCall refusedWith callNumber
       unsound-domains d = rw (z, d) refl
 
       module _ (d : soundDomains domains ≡ true) where
-        pub unsound-watches : soundWatches (domainsOf domains) watches ≡ false → delivered 2 0 message ≡ eventCall watches domains events message count i k
+        pub unsound-watches : soundWatches (domainsOf domains) watches ≡ false → MessageMeets watches domains events message count i k (messaged 2 0 message)
         unfolding eventCall refusedWith callNumber
         unsound-watches w = rw (z, d, w) refl
 
         pub answered : (r e : Sent) (after : Octets) → soundWatches (domainsOf domains) watches ≡ true → r ≡ e
-            → sentAs r after ≡ sentOver message (messageOf (watchesOf watches) events count i k) → sentAs e after ≡ eventCall watches domains events message count i k
+            → sentAs r after ≡ sentOver message (messageOf (watchesOf watches) events count i k)
+            → MessageMeets watches domains events message count i k (sentAs e after)
         unfolding eventCall
         answered r e after w q h = ap (λ (x : Sent). sentAs x after) (sym q) ∙ h ∙ sent-over (messageOf (watchesOf watches) events count i k) ∙ sym (rw (z, d, w) refl)

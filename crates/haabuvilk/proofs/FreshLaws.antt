@@ -16,7 +16,7 @@ use Rattle.rules.specs.World.{freshWorld}
 use Rattle.rules.specs.Call.{Tables, callNumber, sizedTables, tablesOf, freshCall}
 use Rattle.rules.proofs.Compare.{both-true}
 use Rattle.rules.proofs.Paste.{paste-whole}
-use Rattle.haabuvilk.specs.Lent.{lent, refreshed}
+use Rattle.haabuvilk.specs.Lent.{lent, refreshed, FreshMeets}
 
 -- ── bytes ──
 
@@ -74,7 +74,7 @@ tables-sized t z =
       domains = eqb-true _ _ (d .1);
     }
 
-pub fresh-refused : (t : Tables) → sizedTables t ≡ false → refreshed 1 t ≡ freshCall t
+pub fresh-refused : (t : Tables) → sizedTables t ≡ false → FreshMeets t (refreshed 1 t)
 unfolding freshCall callNumber
 fresh-refused t z = rw z refl
 
@@ -87,7 +87,7 @@ fresh-tables =
 
 pub fresh-done : (t : Tables) {n c w x d : Octets} → sizedTables t ≡ true → n ≡ tableBytes freshTable → c ≡ replicate (length (t .copies)) 0
     → w ≡ replicate (length (t .watches)) 0 → x ≡ replicate (length (t .transactions)) 0 → d ≡ replicate (length (t .domains)) 0
-    → refreshed 0 (lent n c w x d) ≡ freshCall t
+    → FreshMeets t (refreshed 0 (lent n c w x d))
 unfolding freshCall callNumber
 fresh-done t z en ec ew ex ed =
     let s = tables-sized t z in

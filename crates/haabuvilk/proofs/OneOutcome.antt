@@ -3,22 +3,25 @@ use mathlib.Core.Path.{_≡_, sym, ap, _∙_}
 use Prim.Native.Nat.{ℕ}
 use Rattle.rules.specs.Octets.{Octets}
 use Rattle.rules.specs.Domain.{Connection}
-use Rattle.rules.specs.Call.{Tables, Refreshed, freshCall, Result, requestCall}
-use Rattle.rules.specs.Message.{Delivered, eventCall}
-use Rattle.haabuvilk.specs.Lent.{refreshed, delivered, requested}
+use Rattle.rules.specs.Call.{Tables, Refreshed, Result}
+use Rattle.rules.specs.Message.{Delivered}
+use Rattle.haabuvilk.specs.Lent.{refreshed, messaged, requested, FreshMeets, MessageMeets, RequestMeets}
 
-pub one-fresh-outcome : (lent : Tables) (n m : ℕ) (s t : Tables) → refreshed n s ≡ freshCall lent → refreshed m t ≡ freshCall lent → (n ≡ m) × (s ≡ t)
+pub one-fresh-outcome : (lent : Tables) (n m : ℕ) (s t : Tables)
+    → FreshMeets lent (refreshed n s) → FreshMeets lent (refreshed m t)
+    → (n ≡ m) × (s ≡ t)
 one-fresh-outcome lent n m s t p q = let e = p ∙ sym q in (ap (λ (r : Refreshed). r .number) e, ap (λ (r : Refreshed). r .tables) e)
 
 pub one-message-outcome : (watches domains events message : Octets) (count i k : ℕ) (n m a b : ℕ) (x y : Octets)
-    → delivered n a x ≡ eventCall watches domains events message count i k → delivered m b y ≡ eventCall watches domains events message count i k
+    → MessageMeets watches domains events message count i k (messaged n a x) → MessageMeets watches domains events message count i k (messaged m b y)
     → (n ≡ m) × (a ≡ b) × (x ≡ y)
 one-message-outcome watches domains events message count i k n m a b x y p q =
     let e = p ∙ sym q in
     (ap (λ (r : Delivered). r .number) e, ap (λ (r : Delivered). r .messageLength) e, ap (λ (r : Delivered). r .message) e)
 
-pub one-request-outcome : (lent : Tables) (reply events : Octets) (c : Connection) (message : Octets) (n m l k i j p q a b : ℕ) (s t : Tables) (x y u v : Octets)
-    → requested n l i p a s x u ≡ requestCall lent reply events c message → requested m k j q b t y v ≡ requestCall lent reply events c message
+pub one-request-outcome : (lent : Tables) (reply events : Octets) (c : Connection) (message : Octets)
+    (n m l k i j p q a b : ℕ) (s t : Tables) (x y u v : Octets)
+    → RequestMeets lent reply events c message (requested n l i p a s x u) → RequestMeets lent reply events c message (requested m k j q b t y v)
     → (n ≡ m) × (l ≡ k) × (i ≡ j) × (p ≡ q) × (a ≡ b) × (s ≡ t) × (x ≡ y) × (u ≡ v)
 one-request-outcome lent reply events c message n m l k i j p q a b s t x y u v f g =
     let e = f ∙ sym g in (

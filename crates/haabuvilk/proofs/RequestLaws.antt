@@ -29,7 +29,7 @@ use Rattle.replies.specs.Framed.{Told, Held, Framed}
 use Rattle.replies.specs.Handled.{Handled}
 use Rattle.replies.specs.declared.kinds.Outcome.{Outcome}
 use Rattle.requests.specs.Served.{Served}
-use Rattle.haabuvilk.specs.Lent.{requested}
+use Rattle.haabuvilk.specs.Lent.{requested, RequestMeets}
 
 -- ── the number 0 ──
 
@@ -89,7 +89,8 @@ module _ (t : Tables) (reply events : Octets) (c : Connection) (m : Octets) wher
   by-number n noEvent e z = rw e refl
 
   -- where the number is not 0
-  pub turned-away : (n : ℕ) → n ≡ callNumber (requestVerdict t reply events c m) → (n ≡ 0 → ⊥) → requested n 0 0 0 0 t reply events ≡ requestCall t reply events c m
+  pub turned-away : (n : ℕ) → n ≡ callNumber (requestVerdict t reply events c m) → (n ≡ 0 → ⊥)
+      → RequestMeets t reply events c m (requested n 0 0 0 0 t reply events)
   unfolding requestCall
   turned-away n e z = by-number n (requestVerdict t reply events c m) e z
 
@@ -107,7 +108,7 @@ module _ (t : Tables) (reply events : Octets) (c : Connection) (m : Octets) wher
   pub answered : (type tx : ℕ) {after : Tables} {told replied recorded : Octets} {r : Outcome} {l : ℕ}
       → callNumber (requestVerdict t reply events c m) ≡ 0 → type ≡ littleEndian m 0 → tx ≡ littleEndian m 8
       → Handled (outcomeOf (worldOf t) c tx (parse c type tx (take (length m - 16) (drop 16 m)))) after reply told events recorded r → Framed m (r .reply) told replied l
-      → requested 0 l (r .events) (r .page) (r .channel) after replied recorded ≡ requestCall t reply events c m
+      → RequestMeets t reply events c m (requested 0 l (r .events) (r .page) (r .channel) after replied recorded)
   unfolding requestCall outcome typeOf txOf delivered callNumber
   answered type tx {after} {told} {replied} {recorded} {r} {l} e y x h f =
       let h′ : Handled (outcome (worldOf t) c m) after reply told events recorded r = rw (← y, ← x, ← payload-part m) h in

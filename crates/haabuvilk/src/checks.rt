@@ -30,7 +30,8 @@ const LONGEST_PAYLOAD: u32 = 4096;
 // Whether transaction k is closed or its copy a sound node table.
 fn sound_copy(copies: &[u8], transactions: &[u8], k: usize) -> bool
     requires { ⌜ (k < mostTransactions) × (length (now copies) ≡ copiesSize) × (length (now transactions) ≡ transactionsSize) ⌝ }
-    ensures { λ r. ⌜ r ≡ soundCopy (getD (transactionsOf (now (transactions .entry))) k none) (take tableSize (drop (k * tableSize) (now (copies .entry)))) ⌝ }
+    ensures { λ r. ⌜ r ≡ soundCopy
+        (getD (transactionsOf (now (transactions .entry))) k none) (take tableSize (drop (k * tableSize) (now (copies .entry)))) ⌝ }
 {
     if !is_open(transactions, k) {
         return true;
@@ -63,7 +64,8 @@ pub fn sound_tables(
     domains: &[u8],
 ) -> bool
     requires { ⌜ sizedTables (lent (now nodes) (now copies) (now watches) (now transactions) (now domains)) ≡ true ⌝ }
-    ensures { λ r. ⌜ r ≡ sound (lent (now (nodes .entry)) (now (copies .entry)) (now (watches .entry)) (now (transactions .entry)) (now (domains .entry))) ⌝ }
+    ensures { λ r. ⌜ r ≡ sound
+        (lent (now (nodes .entry)) (now (copies .entry)) (now (watches .entry)) (now (transactions .entry)) (now (domains .entry))) ⌝ }
 {
     if !sound(nodes) {
         return false;
@@ -110,7 +112,9 @@ pub fn verdict(
     reply: &[u8],
     events: &[u8],
 ) -> u32
-    ensures { λ r. ⌜ r ≡ callNumber (requestVerdict (lent (now (nodes .entry)) (now (copies .entry)) (now (watches .entry)) (now (transactions .entry)) (now (domains .entry))) (now (reply .entry)) (now (events .entry)) sender (now (message .entry))) ⌝ }
+    ensures { λ r. ⌜ r ≡ callNumber (requestVerdict
+        (lent (now (nodes .entry)) (now (copies .entry)) (now (watches .entry)) (now (transactions .entry)) (now (domains .entry)))
+        (now (reply .entry)) (now (events .entry)) sender (now (message .entry))) ⌝ }
 {
     if !sized_tables(nodes, copies, watches, transactions, domains) {
         return 1;

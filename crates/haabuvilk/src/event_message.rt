@@ -1,7 +1,5 @@
 // The event message of one record for one watch.
-ghost use mathlib.Core.Path.{_≡_};
-ghost use Rattle.rules.specs.Message.{eventCall};
-ghost use Rattle.haabuvilk.specs.Lent.{delivered};
+ghost use Rattle.haabuvilk.specs.Lent.{messaged, MessageMeets};
 use crate::sizes::sized_message;
 use message::Sent;
 use tables::domains::sound_domains;
@@ -19,7 +17,8 @@ pub extern "C" fn haabuvilk_event_message<'a>(
     message: &mut [u8],
     message_length: &mut u32,
 ) -> u32
-    ensures { λ r. ⌜ delivered r (now («message_length» .exit)) (now (message .exit)) ≡ eventCall (now (watches .entry)) (now (domains .entry)) (now (events .entry)) (now (message .entry)) «event_count» «record» watch ⌝ }
+    ensures { λ r. ⌜ MessageMeets (now (watches .entry)) (now (domains .entry)) (now (events .entry)) (now (message .entry)) «event_count» «record» watch
+        (messaged r (now («message_length» .exit)) (now (message .exit))) ⌝ }
 {
     *message_length = 0;
     if !sized_message(watches, domains, events, message) {

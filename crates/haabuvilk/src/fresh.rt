@@ -4,8 +4,7 @@ ghost use lib.ListN.{length, replicate};
 ghost use Rattle.rules.specs.Size.{tableSize};
 ghost use Rattle.rules.specs.Layout.{tableBytes};
 ghost use Rattle.rules.specs.Node.{freshTable};
-ghost use Rattle.rules.specs.Call.{freshCall};
-ghost use Rattle.haabuvilk.specs.Lent.{lent, refreshed};
+ghost use Rattle.haabuvilk.specs.Lent.{lent, refreshed, FreshMeets};
 use crate::sizes::sized_tables;
 use octets::parts::clear;
 
@@ -36,7 +35,9 @@ pub extern "C" fn haabuvilk_fresh(
     transactions: &mut [u8],
     domains: &mut [u8],
 ) -> u32
-    ensures { λ r. ⌜ refreshed r (lent (now (nodes .exit)) (now (copies .exit)) (now (watches .exit)) (now (transactions .exit)) (now (domains .exit))) ≡ freshCall (lent (now (nodes .entry)) (now (copies .entry)) (now (watches .entry)) (now (transactions .entry)) (now (domains .entry))) ⌝ }
+    ensures { λ r. ⌜ FreshMeets
+        (lent (now (nodes .entry)) (now (copies .entry)) (now (watches .entry)) (now (transactions .entry)) (now (domains .entry)))
+        (refreshed r (lent (now (nodes .exit)) (now (copies .exit)) (now (watches .exit)) (now (transactions .exit)) (now (domains .exit)))) ⌝ }
 {
     if !sized_tables(nodes, copies, watches, transactions, domains) {
         return 1;

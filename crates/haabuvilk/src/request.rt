@@ -1,7 +1,5 @@
 // One message from one sender.
-ghost use mathlib.Core.Path.{_≡_};
-ghost use Rattle.rules.specs.Call.{requestCall};
-ghost use Rattle.haabuvilk.specs.Lent.{lent, requested};
+ghost use Rattle.haabuvilk.specs.Lent.{lent, requested, RequestMeets};
 use crate::checks::verdict;
 use nodes::kinds::HEADER_SIZE;
 use octets::numbers::number32;
@@ -25,7 +23,12 @@ pub extern "C" fn haabuvilk_request(
     page: &mut u64,
     channel: &mut u32,
 ) -> u32
-    ensures { λ r. ⌜ requested r (now («reply_length» .exit)) (now («event_count» .exit)) (now (page .exit)) (now (channel .exit)) (lent (now (nodes .exit)) (now (copies .exit)) (now (watches .exit)) (now (transactions .exit)) (now (domains .exit))) (now (reply .exit)) (now (events .exit)) ≡ requestCall (lent (now (nodes .entry)) (now (copies .entry)) (now (watches .entry)) (now (transactions .entry)) (now (domains .entry))) (now (reply .entry)) (now (events .entry)) sender (now (message .entry)) ⌝ }
+    ensures { λ r. ⌜ RequestMeets
+        (lent (now (nodes .entry)) (now (copies .entry)) (now (watches .entry)) (now (transactions .entry)) (now (domains .entry)))
+        (now (reply .entry)) (now (events .entry)) sender (now (message .entry))
+        (requested r (now («reply_length» .exit)) (now («event_count» .exit)) (now (page .exit)) (now (channel .exit))
+        (lent (now (nodes .exit)) (now (copies .exit)) (now (watches .exit)) (now (transactions .exit)) (now (domains .exit)))
+        (now (reply .exit)) (now (events .exit))) ⌝ }
 {
     *reply_length = 0;
     *event_count = 0;

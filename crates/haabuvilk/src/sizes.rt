@@ -28,7 +28,8 @@ pub fn sized_tables(
     transactions: &[u8],
     domains: &[u8],
 ) -> bool
-    ensures { λ r. ⌜ r ≡ sizedTables (lent (now (nodes .entry)) (now (copies .entry)) (now (watches .entry)) (now (transactions .entry)) (now (domains .entry))) ⌝ }
+    ensures { λ r. ⌜ r ≡ sizedTables
+        (lent (now (nodes .entry)) (now (copies .entry)) (now (watches .entry)) (now (transactions .entry)) (now (domains .entry))) ⌝ }
 {
     if nodes.len() != NODES_SIZE {
         return false;

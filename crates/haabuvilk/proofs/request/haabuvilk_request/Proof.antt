@@ -31,6 +31,9 @@ same-length-6 c = search needs
 same-length-7 : tie.Need-same-length-7
 same-length-7 c = search needs
 
+returns : tie.Need-returns
+returns c = turned-away _ _ _ _ _ _ (c .before .verdict .ensures) (c .if1 .taken)
+
 abbrev start : tie.Else1 → tie.Start
 start c = c .before .before .before .before .before .before .before .before .before .before .before .before .before .before .before .before .before
 
@@ -39,9 +42,6 @@ tables b = lent (b .args .nodes .now) (b .args .copies .now) (b .args .watches .
 
 ready-for : (c : tie.Else1) → let b = start c in Ready (tables b) (b .args .sender) (b .args .reply .now) (b .args .events .now) (b .args .message .now)
 ready-for c = ready _ _ _ _ _ (sym (c .before .verdict .ensures) ∙ c .if1 .left)
-
-returns : tie.Need-returns
-returns c = turned-away _ _ _ _ _ _ (c .before .verdict .ensures) (c .if1 .taken)
 
 number32-requires : tie.Need-number32-requires
 number32-requires c κs = let r = ready-for c in omega arith
