@@ -5,7 +5,7 @@ use mathlib.Core.List.{[], _∷_, _++_}
 use Prim.Native.Nat.{ℕ, _<_}
 use native.Mathlib.Nat.{zero-add}
 use native.Mathlib.Omega.{arith}
-use lib.ListN.{length, set}
+use lib.ListN.{length, set, replicate}
 use borrow.Author.Tests.{ne-eqb}
 use Rattle.rules.specs.Size.{slots, longestPath}
 use Rattle.rules.specs.Octets.{Octets}
@@ -22,8 +22,8 @@ use Rattle.slots.specs.Slot.{slotAt, isUsed}
 use Rattle.slots.proofs.Canonical.{sound-canonical, sound-good, name-length-is, node-fits, used-some}
 use Rattle.soundness.specs.declared.answer.Walk.{Walk}
 use Rattle.soundness.specs.declared.answer.Walk.the-variants.{Lost, Root}
-use Rattle.soundness.specs.Walks.{Short, textTo, written, Walked}
-use Rattle.soundness.proofs.WalkLaws.{up-append}
+use Rattle.soundness.specs.Walks.{Short, Lent, stepsTo, textTo, taken, Walked}
+use Rattle.soundness.proofs.WalkLaws.{up-append, all-taken, none-known}
 
 -- ── what a sound table's slots satisfy ──
 
@@ -51,6 +51,9 @@ module _ (t : Octets) (s : soundTable t ≡ true) where
       let x = used-some (slotAt t i) u in
       good-table .reaches i (x .0) (x .1)
 
+  pub nothing-lent : (into : Octets) → length into ≡ longestPath → Lent t (replicate slots 0) into
+  nothing-lent into l = record { table = sound-short; levels = λ j z. absurd (z (none-known slots j)); room = λ n. omega arith; alone = λ n. none-known slots }
+
 -- ── path texts ──
 
 last-text : (ns : Names) (n : Name) → pathText (ns ++ (n ∷ [])) ≡ slashed (ns ++ (n ∷ []))
@@ -70,17 +73,19 @@ pub root-put : (t into : Octets) (i : ℕ) → i ≡ 0 → 0 < length into → P
 unfolding pathText pathOf pathUp
 root-put t into i e h = rw e (record { bytes = set-paste into 0 47 h; behind = refl })
 
-module _ (t into after : Octets) (i : ℕ) (h : i ≡ 0 → ⊥) (r : reachesRoot 8 (tableOf t) i ≡ true) (l : length into ≡ longestPath) (up : Walk) (w : Walked 8 t i into after up) where
-  pub never-lost : up ≡ Lost → ⊥
+module _ (t into after : Octets) (i : ℕ) (h : i ≡ 0 → ⊥) (r : reachesRoot 8 (tableOf t) i ≡ true) (l : length into ≡ longestPath) (way : Walk) (w : Walked 8 t i into after way) where
+  found : way ≡ Root (stepsTo 8 t i) (length (taken (textTo 8 t i) into))
+  found = w .found ∙ rw r refl
+
+  pub never-lost : way ≡ Lost → ⊥
   never-lost e =
-      let f : up ≡ Root (length (textTo 8 t i)) = w .found ∙ rw r refl in
+      let f = found in
       let z : _≡_ {A = ℕ} 0 1 = cc in
       omega arith
 
-  pub path-put : (n : ℕ) → up ≡ Root n → Put 0 (pathText (pathOf (tableOf t) i)) into after n
-  unfolding written
-  path-put n e =
-      let f : up ≡ Root (length (textTo 8 t i)) = w .found ∙ rw r refl in
-      let same : n ≡ length (textTo 8 t i) = cc in
-      rw (path-text t i h)
-      (record { bytes = w .left ∙ rw (r, ne-eqb (length into) 0 (λ z. omega arith)) refl; behind = same ∙ sym (zero-add (length (textTo 8 t i))) })
+  pub path-put : (k n : ℕ) → way ≡ Root k n → Put 0 (pathText (pathOf (tableOf t) i)) into after n
+  path-put k n e =
+      let f = found in
+      let same : n ≡ length (taken (textTo 8 t i) into) = cc in
+      let whole : taken (textTo 8 t i) into ≡ pathText (pathOf (tableOf t) i) = all-taken (textTo 8 t i) into (λ z. omega arith) ∙ sym (path-text t i h) in
+      record { bytes = w .left ∙ rw (r, whole) refl; behind = same ∙ ap length whole ∙ sym (zero-add (length (pathText (pathOf (tableOf t) i)))) }

@@ -31,7 +31,7 @@ use Rattle.soundness.proofs.EntryLaws.{counted, packed-bound, entries-l
 pub record Sizes (t : Octets) (i : ℕ) : Type 0 where
   pub name : nameLength t i ≤ 32
   pub value : valueLength t i ≤ 64
-  pub some : 1 ≤ entryCount t i
+  pub least : 1 ≤ entryCount t i
   pub few : entryCount t i ≤ 4
 
 pub sizes-of : (t : Octets) (i : ℕ) → sized t i ≡ true → Sizes t i
@@ -43,11 +43,11 @@ sizes-of t i e =
     let p = both-true (leb n 32) (leb v 64 && (leb 1 c && leb c 4)) e in
     let q = both-true (leb v 64) (leb 1 c && leb c 4) (p .1) in
     let r = both-true (leb 1 c) (leb c 4) (q .1) in
-    record { name = leb-true n 32 (p .0); value = leb-true v 64 (q .0); some = leb-true 1 c (r .0); few = leb-true c 4 (r .1) }
+    record { name = leb-true n 32 (p .0); value = leb-true v 64 (q .0); least = leb-true 1 c (r .0); few = leb-true c 4 (r .1) }
 
 of-sizes : (t : Octets) (i : ℕ) → Sizes t i → sized t i ≡ true
 unfolding sized
-of-sizes t i s = both (le-leb (nameLength t i) 32 (s .name)) (both (le-leb (valueLength t i) 64 (s .value)) (both (le-leb 1 (entryCount t i) (s .some)) (le-leb (entryCount t i) 4 (s .few))))
+of-sizes t i s = both (le-leb (nameLength t i) 32 (s .name)) (both (le-leb (valueLength t i) 64 (s .value)) (both (le-leb 1 (entryCount t i) (s .least)) (le-leb (entryCount t i) 4 (s .few))))
 
 bytes-drop : (n : ℕ) (t : Octets) → Bytes t → Bytes (drop n t)
 bytes-drop n t b k = rw (getD-drop n t k 0) (b (n + k))
@@ -104,7 +104,7 @@ module _ (t : Octets) (bytes : Bytes t) (whole : length t ≡ tableSize) (i : �
 
     kept-number : Sizes t i → pack (nodeBits (meant t i)) ≡ head t i
     unfolding nameLength valueLength entryCount
-    kept-number s = number ∙ rw (min-eq-left (s .name), min-eq-left (s .value), min-eq-left {n = entryCount t i - 1} {m = 3} (omega (arith, s .few))) (omega (arith, fields-of (head t i) bound first, s .some))
+    kept-number s = number ∙ rw (min-eq-left (s .name), min-eq-left (s .value), min-eq-left {n = entryCount t i - 1} {m = 3} (omega (arith, s .few))) (omega (arith, fields-of (head t i) bound first, s .least))
 
     -- the fields that the node has are the slot's where they are within the sizes
     head-part : eqb (pack (nodeBits (meant t i))) (head t i) ≡ sized t i
@@ -115,7 +115,7 @@ module _ (t : Octets) (bytes : Bytes t) (whole : length t ≡ tableSize) (i : �
         let e : pack (nodeBits (meant t i)) ≡ head t i = eqb-true (pack (nodeBits (meant t i))) (head t i) p in
         let u = uncut (nameLength t i) (valueLength t i) (entryCount t i) (mod-lt _ (omega arith)) (mod-lt _ (omega arith)) (mod-lt _ (omega arith))
         (aligned (head t i / 65536 % 128) (nameLength t i) (valueLength t i) (entryCount t i) (min (nameLength t i) 32) (min (valueLength t i) 64) (min (entryCount t i - 1) 3) (pack (nodeBits (meant t i))) (head t i) (fields-of (head t i) bound first) number e) in
-        of-sizes t i (record { name = u .0; value = u .1; some = u .2; few = u .3 }))
+        of-sizes t i (record { name = u .0; value = u .1; least = u .2; few = u .3 }))
         (λ p.
         let s = sizes-of t i p in
         eq-eqb (pack (nodeBits (meant t i))) (head t i) (kept-number s))
@@ -162,7 +162,7 @@ module _ (t : Octets) (bytes : Bytes t) (whole : length t ≡ tableSize) (i : �
     unfolding entries field
     second-part s =
         same-big 9 _ (take 9 (drop 3 (chunk t i))) (part-bytes 3 9) (part-length 3 9 (omega arith))
-        (rw counted-is (packed-bound (field t (i * 108 + 3) 9) (entryCount t i) entries-bound (s .some) (s .few)))
+        (rw counted-is (packed-bound (field t (i * 108 + 3) 9) (entryCount t i) entries-bound (s .least) (s .few)))
         ∙ ap (eqb (pack (entryBits 4 (meant t i .owner ∷ meant t i .others)))) (field-part t (i * 108) 108 3 9 (omega arith))
 
     -- a part of the slot is one of the table
@@ -232,7 +232,7 @@ module _ (t : Octets) (bytes : Bytes t) (whole : length t ≡ tableSize) (i : �
         let m : field t (i * 108 + 3) 9 ≡ first * 256 ^ 8 + rest = split ∙ rw (field-one t (i * 108 + 3) (omega arith), ← ef, ← er) refl in
         let r : rest < 256 ^ 8 = rw er (field-bound t bytes 8 (i * 108 + 3 + 1) (omega arith)) in
         rw (used-node t i h u, counted-is, ec)
-        (entries-low (field t (i * 108 + 3) 9) (entryCount t i) first rest entries-bound (s .some) (s .few) r m)
+        (entries-low (field t (i * 108 + 3) 9) (entryCount t i) first rest entries-bound (s .least) (s .few) r m)
 
   -- an unused slot
   module _ (u : isUsed (slotAt t i) ≡ false) where

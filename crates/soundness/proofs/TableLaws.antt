@@ -1,17 +1,17 @@
 -- The whole check, part by part.
-use mathlib.Core.Path.{_≡_, refl, sym, ap, subst, _∙_}
-use mathlib.Core.Bool.{Bool, true, false, false≢true, cond, not, _&&_, _||_, and-true, and-assoc, or-true}
+use mathlib.Core.Path.{_≡_, refl, sym, ap, _∙_}
+use mathlib.Core.Bool.{Bool, true, false, false≢true, cond, not, _&&_, and-true, and-assoc}
 use mathlib.Core.List.{List, _∷_}
 use mathlib.Core.Option.{Option, none, some}
 use Prim.Native.Nat.{ℕ, zero, suc, _+_, _*_, _-_, _≤_, _<_}
-use native.Mathlib.Nat.{zero-add, pos-of-ne-zero}
+use native.Mathlib.Nat.{zero-add}
 use native.Mathlib.Numerals.{add-one}
 use native.Mathlib.Omega.{arith}
 use native.Mathlib.Decide.{ℕ-discrete}
 use lib.ListN.{length, getD, take, drop, set, replicate, length-set, length-replicate}
 use lib.Seq.{getD-set-same, getD-set-other}
 use lib.Dec.{eqb}
-use borrow.Author.Tests.{eq-eqb, ne-eqb, eqb-true}
+use borrow.Author.Tests.{eq-eqb, ne-eqb}
 use Rattle.rules.specs.Size.{slots, slotSize, tableSize, deepest}
 use Rattle.rules.specs.Octets.{Octets, same}
 use Rattle.rules.specs.Node.{Entry, Node, Table, nodeAt}
@@ -27,10 +27,10 @@ use Rattle.slots.proofs.Canonical.{entry-is, used-some}
 use Rattle.soundness.specs.declared.answer.Walk.{Walk}
 use Rattle.soundness.specs.declared.answer.Walk.the-variants.{Lost, Root}
 use Rattle.soundness.specs.Parts.{fair, goodSlot, sized, every, Used}
-use Rattle.soundness.specs.Walks.{Short, Walked, Level, chained}
+use Rattle.soundness.specs.Walks.{Short, Walked, Level, Lent, chained}
 use Rattle.soundness.proofs.Tests.{both}
 use Rattle.soundness.proofs.SlotLaws.{unsized, sizes-of}
-use Rattle.soundness.proofs.WalkLaws.{lost-case, root-case, root-reached}
+use Rattle.soundness.proofs.WalkLaws.{lost-case, root-case, steps-bound, none-known}
 
 -- ── every slot ──
 
@@ -134,44 +134,23 @@ wrong-length t n = sym (rw (ne-eqb (length t) tableSize n) refl)
 
 -- ── chains ──
 
--- more steps are enough too
-reaches-more : (k m : ℕ) (ts : Table) (i : ℕ) → k ≤ m → reachesRoot k ts i ≡ true → reachesRoot m ts i ≡ true
-unfolding reachesRoot
-reaches-more zero m ts i h e = rw (eqb-true i 0 e) (root-reached m ts)
-reaches-more (suc k) zero ts i h e = absurd (omega arith)
-reaches-more (suc k) (suc m) ts i h e = by (eqb i 0) (getD ts i none) e (λ j. reaches-more k m ts j (omega arith))
-  where
-    by : (b : Bool) (x : Option Node) → (b || elim x [ none ↦ false | some n ↦ reachesRoot k ts (n .parent) ]) ≡ true
-        → ((j : ℕ) → reachesRoot k ts j ≡ true → reachesRoot m ts j ≡ true) → (b || elim x [ none ↦ false | some n ↦ reachesRoot m ts (n .parent) ]) ≡ true
-    by true x f g = refl
-    by false none f g = absurd (false≢true f)
-    by false (some n) f g = g (n .parent) f
-
--- a step below a slot that reaches the root
-reaches-below : (k : ℕ) (ts : Table) (i : ℕ) (n : Node) → getD ts i none ≡ some n → reachesRoot k ts (nodeAt ts i .parent) ≡ true → reachesRoot (suc k) ts i ≡ true
-unfolding reachesRoot
-reaches-below k ts i n e f =
-    let g : reachesRoot k ts (n .parent) ≡ true = rw (node-some ts i n e) at f in
-    rw (e, g) (or-true (eqb i 0))
-
-module _ (t : Octets) (i : ℕ) (u : isUsed (slotAt t i) ≡ true) where
-  pub level-below : (a : ℕ) → Level t (nodeAt (tableOf t) i .parent) a → (a ≡ 0 → ⊥) → a < 9 → Level t i (a + 1)
-  level-below a l z h n =
-      let x = used-some (slotAt t i) u in
-      let j : a + 1 - 1 ≡ suc (a - 1) = omega (arith, pos-of-ne-zero z) in
-      (omega arith, rw j (reaches-below (a - 1) (tableOf t) i (x .0) (x .1) (l z .1)))
-
-  pub level-chained : (a : ℕ) → Level t i a → (a ≡ 0 → ⊥) → chained t i ≡ true
+module _ (t : Octets) (i : ℕ) (into after : Octets) (way : Walk) (w : Walked 8 t i into after way) where
+  pub lost-chained : isUsed (slotAt t i) ≡ true → way ≡ Lost → chained t i ≡ false
   unfolding chained
-  level-chained a l z = rw u (reaches-more (a - 1) 8 (tableOf t) i (omega (arith, l z .0)) (l z .1))
+  lost-chained u e = rw u (lost-case (reachesRoot 8 (tableOf t) i) _ _ (w .found) e)
 
-  module _ (into after : Octets) (up : Walk) (w : Walked 8 t i into after up) where
-    pub lost-chained : up ≡ Lost → chained t i ≡ false
+  module _ (n at : ℕ) (e : way ≡ Root n at) where
+    pub root-chained : isUsed (slotAt t i) ≡ true → chained t i ≡ true
     unfolding chained
-    lost-chained e = rw u (lost-case (reachesRoot 8 (tableOf t) i) _ (w .found) e)
+    root-chained u = rw u (root-case (reachesRoot 8 (tableOf t) i) _ _ n at (w .found) e .0)
 
-    pub root-level : (n : ℕ) → up ≡ Root n → Level t i 9
-    root-level n e z = (omega arith, root-case (reachesRoot 8 (tableOf t) i) _ n (w .found) e .0)
+    pub root-level : Level t i (n + 1)
+    root-level z =
+        let x = root-case (reachesRoot 8 (tableOf t) i) _ _ n at (w .found) e in
+        (x .0, omega (arith, x .1))
+
+    pub root-count : n ≤ 8
+    root-count = omega (arith, root-case (reachesRoot 8 (tableOf t) i) _ _ n at (w .found) e .1, steps-bound 8 t i)
 
 pub unused-chained : (t : Octets) (i : ℕ) → isUsed (slotAt t i) ≡ false → chained t i ≡ true
 unfolding chained
@@ -189,19 +168,11 @@ levels-set t levels i a h l s = record { long = length-set levels i a ∙ s .lon
     by j (yes q) = rw (q, getD-set-same levels i a 0 (omega (arith, s .long))) l
     by j (no q) = rw (getD-set-other levels i j a 0 q) (s .each j)
 
-pub levels-at : (t : Octets) (levels : List ℕ) (p q : ℕ) → p ≡ q → Levels t levels → Level t q (getD levels p 0)
-levels-at t levels p q e s = subst (λ (x : ℕ). Level t x (getD levels p 0)) e (s .each p)
-
-pub root-levelled : (t : Octets) → Level t 0 1
-root-levelled t z = (omega arith, root-reached 0 (tableOf t))
-
 pub none-levelled : (t : Octets) → Levels t (replicate slots 0)
-none-levelled t = record { long = length-replicate {A = ℕ} slots 0; each = λ j z. absurd (z (zeros slots j)) }
-  where
-    zeros : (n j : ℕ) → getD {A = ℕ} (replicate n 0) j 0 ≡ 0
-    zeros zero j = refl
-    zeros (suc n) zero = refl
-    zeros (suc n) (suc j) = zeros n j
+none-levelled t = record { long = length-replicate {A = ℕ} slots 0; each = λ j z. absurd (z (none-known slots j)) }
+
+pub levels-lent : (t known into : Octets) → Short t → Levels t known → length into ≡ 0 → Lent t known into
+levels-lent t known into s l e = record { table = s; levels = l .each; room = λ n. absurd (n e); alone = λ n. absurd (n e) }
 
 -- ── the root ──
 

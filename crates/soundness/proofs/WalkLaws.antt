@@ -4,11 +4,12 @@ use mathlib.Core.Bool.{Bool, true, false, true≢false, cond}
 use mathlib.Core.List.{[], _∷_, _++_, append-nil, append-assoc}
 use mathlib.Core.Option.{Option, none, some}
 use Prim.Native.Nat.{ℕ, zero, suc, _+_, _*_, _-_, _≤_, _<_}
-use native.Mathlib.Nat.{pos-of-ne-zero}
 use native.Mathlib.Omega.{arith}
-use lib.ListN.{length, getD, set, length-append}
+use native.Mathlib.Decide.{ℕ-discrete}
+use lib.ListN.{length, getD, set, replicate, length-append}
 use lib.Dec.{eqb}
 use borrow.Author.Tests.{eq-eqb, ne-eqb}
+use Rattle.rules.specs.Size.{longestName, longestPath, deepest}
 use Rattle.rules.specs.Octets.{Octets, paste}
 use Rattle.rules.specs.Path.{Names, slashed}
 use Rattle.rules.specs.Node.{Node, Table, nodeAt, pathUp}
@@ -18,25 +19,13 @@ use Rattle.rules.proofs.Paste.{paste-nil}
 use Rattle.rules.proofs.Joined.{paste-behind, set-paste}
 use Rattle.rules.proofs.Fitting.{nodeAt-fits, decoded-fits}
 use Rattle.rules.proofs.RelativeLaws.{slashed-append}
+use Rattle.rules.proofs.RootWays.{root-reaches, reaches-node, reaches-zero}
 use Rattle.slots.proofs.Canonical.{used-some}
 use Rattle.slots.specs.Slot.{slotAt, isUsed}
 use Rattle.slots.proofs.Reading.{node-some}
 use Rattle.soundness.specs.declared.answer.Walk.{Walk}
 use Rattle.soundness.specs.declared.answer.Walk.the-variants.{Lost, Root}
-use Rattle.soundness.specs.Walks.{textTo, written, Named, Walked}
-
--- ── one name ──
-
-module _ {s name before : Octets} (at : ℕ) (e : s ≡ name) where
-  pub named-none : length before ≡ 0 → Named name at before before (at + 1 + length s)
-  named-none z = record { bytes = rw (eq-eqb (length before) 0 z) refl; behind = ap (λ (x : Octets). at + 1 + length x) e }
-
-  pub named-put : (length before ≡ 0 → ⊥) → at < length before → {after : Octets} → after ≡ paste (at + 1) s (set before at 47) → Named name at before after (at + 1 + length s)
-  named-put n h p =
-      record {
-        bytes = p ∙ rw (ne-eqb (length before) 0 n, set-paste before at 47 h, e) (paste-behind at (at + 1) (47 ∷ []) name before (omega arith) refl);
-        behind = ap (λ (x : Octets). at + 1 + length x) e;
-      }
+use Rattle.soundness.specs.Walks.{stepsTo, textTo, taken, Walked, Lent}
 
 pub name-short : (t : Octets) (i : ℕ) → length (nodeAt (tableOf t) i .name) ≤ 32
 name-short t i = nodeAt-fits (tableOf t) i (decoded-fits t .all) .name
@@ -83,17 +72,32 @@ text-bound (suc k) t (suc i) =
     ap length (text-step k t (suc i) (λ z. omega arith)) ∙ length-append (textTo k t (n .parent)) (47 ∷ n .name) in
     omega (arith, e, name-short t (suc i), text-bound k t (n .parent))
 
--- ── the walk ──
+-- ── the steps on the way ──
+
+steps-step : (k : ℕ) (t : Octets) (i : ℕ) → (i ≡ 0 → ⊥) → stepsTo (suc k) t i ≡ suc (stepsTo k t (nodeAt (tableOf t) i .parent))
+unfolding stepsTo pathUp
+steps-step k t i n =
+    let p = nodeAt (tableOf t) i .parent in
+    let ns = nodeAt (tableOf t) i .name ∷ [] in
+    rw (ne-eqb i 0 n) (ap length (up-append k (tableOf t) p ns) ∙ length-append (pathUp k (tableOf t) p []) ns ∙ omega arith)
+
+root-steps : (k : ℕ) (t : Octets) → stepsTo k t 0 ≡ 0
+unfolding stepsTo pathUp
+root-steps zero t = refl
+root-steps (suc k) t = refl
+
+pub steps-bound : (k : ℕ) (t : Octets) (i : ℕ) → stepsTo k t i ≤ k
+unfolding stepsTo pathUp
+steps-bound zero t i = omega arith
+steps-bound (suc k) t zero = omega arith
+steps-bound (suc k) t (suc i) = omega (arith, steps-step k t (suc i) (λ z. omega arith), steps-bound k t (nodeAt (tableOf t) (suc i) .parent))
+
+-- ── whether the root is reached ──
 
 -- a slot that is not the root reaches it by its parent
 reaches-up : (k : ℕ) (ts : Table) (i : ℕ) (n : Node) → (i ≡ 0 → ⊥) → getD ts i none ≡ some n → reachesRoot (suc k) ts i ≡ reachesRoot k ts (nodeAt ts i .parent)
 unfolding reachesRoot
 reaches-up k ts i n h e = rw (ne-eqb i 0 h, e, node-some ts i n e) refl
-
-pub root-reached : (k : ℕ) (ts : Table) → reachesRoot k ts 0 ≡ true
-unfolding reachesRoot
-root-reached zero ts = refl
-root-reached (suc k) ts = refl
 
 none-up : (k : ℕ) (ts : Table) (i : ℕ) → (i ≡ 0 → ⊥) → getD ts i none ≡ none → reachesRoot k ts i ≡ false
 unfolding reachesRoot
@@ -104,51 +108,83 @@ no-steps : (ts : Table) (i : ℕ) → (i ≡ 0 → ⊥) → reachesRoot 0 ts i �
 unfolding reachesRoot
 no-steps ts i n = ne-eqb i 0 n
 
-written-nil : (into : Octets) → into ≡ written [] into
-unfolding written
-written-nil into = by (eqb (length into) 0)
+-- the way of slot i that n steps find is found in m steps too, and takes as many
+abbrev Found : Octets → ℕ → ℕ → ℕ → Type 0
+Found t n m i = (reachesRoot m (tableOf t) i ≡ true) × (stepsTo m t i ≡ stepsTo n t i)
+
+root-found : (t : Octets) (n m : ℕ) → Found t n m 0
+root-found t n m = (root-reaches m (tableOf t) 0 refl, root-steps m t ∙ sym (root-steps n t))
+
+-- as many steps as a way takes are enough to find it
+steps-same : (n m : ℕ) (t : Octets) (i : ℕ) → reachesRoot n (tableOf t) i ≡ true → stepsTo n t i ≤ m → Found t n m i
+steps-same zero m t i r h = rw (reaches-zero (tableOf t) i r) (root-found t 0 m)
+steps-same (suc n) m t i r h = by m i r h (λ k p. steps-same n k t p)
   where
-    by : (b : Bool) → into ≡ cond b into (paste 0 [] into)
-    by true = refl
-    by false = sym (paste-nil 0 into)
+    by : (m i : ℕ) → reachesRoot (suc n) (tableOf t) i ≡ true → stepsTo (suc n) t i ≤ m
+        → ((k p : ℕ) → reachesRoot n (tableOf t) p ≡ true → stepsTo n t p ≤ k → Found t n k p) → Found t (suc n) m i
+    by m zero r h f = root-found t (suc n) m
+    by zero (suc i) r h f = absurd (omega (arith, steps-step n t (suc i) (λ z. omega arith)))
+    by (suc m) (suc i) r h f =
+        let q : suc i ≡ 0 → ⊥ = λ z. omega arith in
+        let p = nodeAt (tableOf t) (suc i) .parent in
+        let x = reaches-node n (tableOf t) (suc i) r q in
+        let a : (k : ℕ) → reachesRoot (suc k) (tableOf t) (suc i) ≡ reachesRoot k (tableOf t) p = λ k. reaches-up k (tableOf t) (suc i) (x .0) q (x .1) in
+        let w = f m p (sym (a n) ∙ r) (omega (arith, steps-step n t (suc i) q)) in
+        (a m ∙ w .0, steps-step m t (suc i) q ∙ ap suc (w .1) ∙ sym (steps-step n t (suc i) q))
 
--- what is written behind what was written
-written-behind : (x y into mid after : Octets) → mid ≡ written x into → length mid ≡ length into → after ≡ cond (eqb (length mid) 0) mid (paste (length x) y mid) → after ≡ written (x ++ y) into
-unfolding written
-written-behind x y into mid after e l f = by (eqb (length into) 0) refl
-  where
-    by : (b : Bool) → eqb (length into) 0 ≡ b → after ≡ cond (eqb (length into) 0) into (paste 0 (x ++ y) into)
-    by true z =
-        let m : mid ≡ into = e ∙ rw z refl in
-        let g : after ≡ mid = f ∙ rw (l, z) refl in
-        rw z (g ∙ m)
-    by false z =
-        let m : mid ≡ paste 0 x into = e ∙ rw z refl in
-        let g : after ≡ paste (length x) y mid = f ∙ rw (l, z) refl in
-        rw z (g ∙ ap (paste (length x) y) m ∙ paste-behind 0 (length x) x y into (omega arith) (omega arith))
+-- ── the walk ──
 
-pub lost-case : {up : Walk} (b : Bool) (x : ℕ) → up ≡ cond b (Root x) Lost → up ≡ Lost → b ≡ false
-lost-case true x p q = let z : _≡_ {A = ℕ} 0 1 = cc in absurd (omega arith)
-lost-case false x p q = refl
+pub lost-case : {up : Walk} (b : Bool) (x y : ℕ) → up ≡ cond b (Root x y) Lost → up ≡ Lost → b ≡ false
+lost-case true x y p q = let z : _≡_ {A = ℕ} 0 1 = cc in absurd (omega arith)
+lost-case false x y p q = refl
 
-pub root-case : {up : Walk} (b : Bool) (x at : ℕ) → up ≡ cond b (Root x) Lost → up ≡ Root at → (b ≡ true) × (at ≡ x)
-root-case true x at p q = (refl, cc)
-root-case false x at p q = let z : _≡_ {A = ℕ} 0 1 = cc in absurd (omega arith)
+pub root-case : {up : Walk} (b : Bool) (x y m at : ℕ) → up ≡ cond b (Root x y) Lost → up ≡ Root m at → (b ≡ true) × (m ≡ x) × (at ≡ y)
+root-case true x y m at p q = (refl, cc, cc)
+root-case false x y m at p q = let z : _≡_ {A = ℕ} 0 1 = cc in absurd (omega arith)
 
 unused-none : (x : Option Node) → isUsed x ≡ false → x ≡ none
 unused-none none e = refl
 unused-none (some n) e = absurd (true≢false e)
 
+none-taken : (ys into : Octets) → length into ≡ 0 → taken ys into ≡ []
+unfolding taken
+none-taken ys into e = rw (eq-eqb (length into) 0 e) refl
+
+pub all-taken : (ys into : Octets) → (length into ≡ 0 → ⊥) → taken ys into ≡ ys
+unfolding taken
+all-taken ys into n = rw (ne-eqb (length into) 0 n) refl
+
+nil-taken : (into : Octets) → taken [] into ≡ []
+unfolding taken
+nil-taken into = by (eqb (length into) 0)
+  where
+    by : (b : Bool) → _≡_ {A = Octets} (cond b [] []) []
+    by true = refl
+    by false = refl
+
+-- where every level is 0, nothing is known of any slot
+pub none-known : (n j : ℕ) → getD {A = ℕ} (replicate n 0) j 0 ≡ 0
+none-known zero j = refl
+none-known (suc n) zero = refl
+none-known (suc n) (suc j) = none-known n j
+
+-- slot i is used and not the root, k steps are left, and p is its parent
+pub record Step (t : Octets) (k i p : ℕ) : Type 0 where
+  pub below : 0 < i
+  pub left : 0 < k
+  pub used : isUsed (slotAt t i) ≡ true
+  pub parent : p ≡ nodeAt (tableOf t) i .parent
+
 module _ (t into : Octets) where
   not-reached : (k i : ℕ) → reachesRoot k (tableOf t) i ≡ false → Walked k t i into into Lost
   not-reached k i e = record { found = rw e refl; left = rw e refl }
 
-  pub walked-root : (k i : ℕ) → i ≡ 0 → Walked k t i into into (Root 0)
-  walked-root k i e =
-      record {
-        found = rw (e, root-reached k (tableOf t), root-text k t) refl;
-        left = rw (e, root-reached k (tableOf t), root-text k t) (written-nil into);
-      }
+  -- the root is reached, and nothing is put
+  bare : (k i m : ℕ) → reachesRoot k (tableOf t) i ≡ true → stepsTo k t i ≡ m → taken (textTo k t i) into ≡ [] → Walked k t i into into (Root m 0)
+  bare k i m r s e = record { found = rw (r, s, e) refl; left = rw (r, e) (sym (paste-nil 0 into)) }
+
+  pub walked-root : (k i : ℕ) → i ≡ 0 → Walked k t i into into (Root 0 0)
+  walked-root k i e = rw e (bare k 0 0 (root-reaches k (tableOf t) 0 refl) (root-steps k t) (rw (root-text k t) (nil-taken into)))
 
   pub walked-none : (k i : ℕ) → (i ≡ 0 → ⊥) → k ≡ 0 → Walked k t i into into Lost
   walked-none k i n e = not-reached k i (rw e (no-steps (tableOf t) i n))
@@ -156,37 +192,87 @@ module _ (t into : Octets) where
   pub walked-unused : (k i : ℕ) → (i ≡ 0 → ⊥) → isUsed (slotAt t i) ≡ false → Walked k t i into into Lost
   walked-unused k i n u = not-reached k i (none-up k (tableOf t) i n (unused-none (slotAt t i) u))
 
-  module _ (k i p : ℕ) (n : i ≡ 0 → ⊥) (s : k ≡ 0 → ⊥) (u : isUsed (slotAt t i) ≡ true) (e : p ≡ nodeAt (tableOf t) i .parent) (mid : Octets) (up : Walk)
-      (w : Walked (k - 1) t p into mid up) where
-    step : reachesRoot k (tableOf t) i ≡ reachesRoot (k - 1) (tableOf t) p
-    step =
-        let x = used-some (slotAt t i) u in
-        let j : k ≡ suc (k - 1) = omega (arith, pos-of-ne-zero s) in
-        ap (λ (m : ℕ). reachesRoot m (tableOf t) i) j ∙ reaches-up (k - 1) (tableOf t) i (x .0) n (x .1) ∙ ap (reachesRoot (k - 1) (tableOf t)) (sym e)
+  module _ (k i p : ℕ) (g : Step t k i p) where
+    not-root : i ≡ 0 → ⊥
+    not-root e = omega (arith, e, g .below)
+
+    one-more : k ≡ suc (k - 1)
+    one-more = omega (arith, g .left)
+
+    reaches : reachesRoot k (tableOf t) i ≡ reachesRoot (k - 1) (tableOf t) p
+    reaches =
+        let x = used-some (slotAt t i) (g .used) in
+        ap (λ (m : ℕ). reachesRoot m (tableOf t) i) one-more ∙ reaches-up (k - 1) (tableOf t) i (x .0) not-root (x .1) ∙ ap (reachesRoot (k - 1) (tableOf t)) (sym (g .parent))
+
+    steps : stepsTo k t i ≡ suc (stepsTo (k - 1) t p)
+    steps = ap (λ (m : ℕ). stepsTo m t i) one-more ∙ steps-step (k - 1) t i not-root ∙ ap (λ (q : ℕ). suc (stepsTo (k - 1) t q)) (sym (g .parent))
 
     text : textTo k t i ≡ textTo (k - 1) t p ++ (47 ∷ nodeAt (tableOf t) i .name)
-    text =
-        let j : k ≡ suc (k - 1) = omega (arith, pos-of-ne-zero s) in
-        ap (λ (m : ℕ). textTo m t i) j ∙ text-step (k - 1) t i n ∙ ap (λ (q : ℕ). textTo (k - 1) t q ++ (47 ∷ nodeAt (tableOf t) i .name)) (sym e)
+    text = ap (λ (m : ℕ). textTo m t i) one-more ∙ text-step (k - 1) t i not-root ∙ ap (λ (q : ℕ). textTo (k - 1) t q ++ (47 ∷ nodeAt (tableOf t) i .name)) (sym (g .parent))
 
-    pub walked-lost : up ≡ Lost → Walked k t i into mid Lost
-    walked-lost l =
-        let b = lost-case (reachesRoot (k - 1) (tableOf t) p) (length (textTo (k - 1) t p)) (w .found) l in
-        record { found = rw (step, b) refl; left = rw (step, b) (w .left ∙ rw b refl) }
+    -- the parent's way is known
+    module _ (b : k ≤ deepest) (known : Octets) (o : Lent t known into) (z : getD known p 0 ≡ 0 → ⊥) where
+      pub walked-far : k < getD known p 0 → Walked k t i into into Lost
+      walked-far h = not-reached k i (reaches ∙ by (reachesRoot (k - 1) (tableOf t) p) refl)
+        where
+          by : (r : Bool) → reachesRoot (k - 1) (tableOf t) p ≡ r → r ≡ false
+          by false q = refl
+          by true q = absurd (omega (arith, b, h, o .levels p z .1, steps-bound (k - 1) t p, steps-same (k - 1) 8 t p q (omega (arith, b, steps-bound (k - 1) t p)) .1))
 
-    pub walked-up : (at : ℕ) → up ≡ Root at → length mid ≡ length into → (after : Octets) (next : ℕ) → Named (nodeAt (tableOf t) i .name) at mid after next
-        → Walked k t i into after (Root next)
-    walked-up at l len after next m =
-        let name = nodeAt (tableOf t) i .name in
-        let b = root-case (reachesRoot (k - 1) (tableOf t) p) (length (textTo (k - 1) t p)) at (w .found) l in
-        let bytes : after ≡ cond (eqb (length mid) 0) mid (paste (length (textTo (k - 1) t p)) (47 ∷ name) mid) = rw (b .1) at (m .bytes) in
-        let here : mid ≡ written (textTo (k - 1) t p) into = w .left ∙ rw (b .0) refl in
-        let long : next ≡ length (textTo (k - 1) t p ++ (47 ∷ name)) = omega (arith, m .behind, b .1, length-append (textTo (k - 1) t p) (47 ∷ name)) in
-        record {
-          found = rw (step, b .0, text) (ap Root long);
-          left = rw (step, b .0, text) (written-behind (textTo (k - 1) t p) (47 ∷ name) into mid after here len bytes);
-        }
+      pub walked-near : getD known p 0 ≤ k → Walked k t i into into (Root (getD known p 0) 0)
+      walked-near h =
+          let l = o .levels p z in
+          let w = steps-same 8 (k - 1) t p (l .0) (omega (arith, h, l .1)) in
+          bare k i (getD known p 0) (reaches ∙ w .0) (steps ∙ omega (arith, l .1, w .1)) (none-taken (textTo k t i) into (by (ℕ-discrete (length into) 0)))
+        where
+          by : Dec (length into ≡ 0) → length into ≡ 0
+          by (yes e) = e
+          by (no n) = absurd (z (o .alone n p))
 
-    pub walked-place : (at : ℕ) → up ≡ Root at → at ≤ (k - 1) * 33
-    walked-place at l =
-        omega (arith, root-case (reachesRoot (k - 1) (tableOf t) p) (length (textTo (k - 1) t p)) at (w .found) l .1, text-bound (k - 1) t p)
+    -- the parent's way is walked
+    module _ (mid : Octets) (up : Walk) (w : Walked (k - 1) t p into mid up) where
+      pub walked-lost : up ≡ Lost → Walked k t i into mid Lost
+      walked-lost l =
+          let b = lost-case (reachesRoot (k - 1) (tableOf t) p) _ _ (w .found) l in
+          record { found = rw (reaches, b) refl; left = rw (reaches, b) (w .left ∙ rw b refl) }
+
+      module _ (m at : ℕ) (l : up ≡ Root m at) where
+        reached : (reachesRoot (k - 1) (tableOf t) p ≡ true) × (m ≡ stepsTo (k - 1) t p) × (at ≡ length (taken (textTo (k - 1) t p) into))
+        reached = root-case (reachesRoot (k - 1) (tableOf t) p) _ _ m at (w .found) l
+
+        here : mid ≡ paste 0 (taken (textTo (k - 1) t p) into) into
+        here = w .left ∙ rw (reached .0) refl
+
+        count : m + 1 ≡ stepsTo k t i
+        count = omega (arith, steps, reached .1)
+
+        pub walked-count : m < k
+        walked-count = omega (arith, count, steps-bound k t i)
+
+        pub walked-bare : length into ≡ 0 → Walked k t i into mid (Root (m + 1) 0)
+        walked-bare o =
+            let same : mid ≡ into = here ∙ rw (none-taken (textTo (k - 1) t p) into o) (paste-nil 0 into) in
+            rw same (bare k i (m + 1) (reaches ∙ reached .0) (sym count) (none-taken (textTo k t i) into o))
+
+        module _ (o : length into ≡ 0 → ⊥) where
+          place : at ≡ length (textTo (k - 1) t p)
+          place = reached .2 ∙ ap length (all-taken (textTo (k - 1) t p) into o)
+
+          -- a slash and the name have room behind the parent's text
+          pub walked-place : k ≤ deepest → at + 1 + longestName ≤ longestPath
+          walked-place b = omega (arith, b, g .left, place, text-bound (k - 1) t p)
+
+          pub walked-up : length mid ≡ length into → at < length into → (s : Octets) → s ≡ nodeAt (tableOf t) i .name → (after : Octets) → after ≡ paste (at + 1) s (set mid at 47)
+              → Walked k t i into after (Root (m + 1) (at + 1 + length s))
+          walked-up len h s f after q =
+              let name = nodeAt (tableOf t) i .name in
+              let before = textTo (k - 1) t p in
+              let long : at + 1 + length s ≡ length (before ++ (47 ∷ name)) = omega (arith, ap length f, place, length-append before (47 ∷ name)) in
+              let whole : taken (textTo k t i) into ≡ before ++ (47 ∷ name) = all-taken (textTo k t i) into o ∙ text in
+              let put : mid ≡ paste 0 before into = here ∙ rw (all-taken before into o) refl in
+              let named : after ≡ paste at (47 ∷ name) mid = q ∙ rw (set-paste mid at 47 (omega (arith, len)), f) (paste-behind at (at + 1) (47 ∷ []) name mid (omega (arith, len)) refl) in
+              let behind : after ≡ paste (length before) (47 ∷ name) (paste 0 before into) = named ∙ rw (place, put) refl in
+              record {
+                found = rw (reaches, reached .0, whole) (ap (λ (x : ℕ). Root x (at + 1 + length s)) count ∙ ap (Root (stepsTo k t i)) long);
+                left = rw (reaches, reached .0, whole) (behind ∙ paste-behind 0 (length before) before (47 ∷ name) into (omega arith) (omega arith));
+              }

@@ -1,9 +1,9 @@
 -- The walk to the root, and the path text that it leaves.
 use mathlib.Core.Bool.{Bool, true, cond}
-use mathlib.Core.List.{[], _∷_}
+use mathlib.Core.List.{[]}
 use mathlib.Core.Path.{_≡_}
-use Prim.Native.Nat.{ℕ, _+_, _-_, _≤_, _<_}
-use lib.ListN.{length}
+use Prim.Native.Nat.{ℕ, suc, _≤_, _<_}
+use lib.ListN.{length, getD}
 use lib.Dec.{eqb}
 use Rattle.rules.specs.Size.{slots, tableSize, longestName, longestPath, deepest}
 use Rattle.rules.specs.Octets.{Octets, paste}
@@ -24,28 +24,34 @@ pub record Short (t : Octets) : Type 0 where
 abbrev pub Room : Octets → Type 0
 Room into = (length into ≡ 0 → ⊥) → longestPath ≤ length into
 
+-- the steps from slot i to the root, of at most k
+unfoldable pub stepsTo : ℕ → Octets → ℕ → ℕ
+stepsTo k t i = length (pathUp k (tableOf t) i [])
+
 -- the names from the root to slot i, each behind a slash
 unfoldable pub textTo : ℕ → Octets → ℕ → Octets
 textTo k t i = slashed (pathUp k (tableOf t) i [])
 
--- ys at the front of a buffer that has room; an empty one stays
-unfoldable pub written : Octets → Octets → Octets
-written ys into = cond (eqb (length into) 0) into (paste 0 ys into)
-
--- a slash and a name at a place of such a buffer, and the place behind them
-pub record Named (name : Octets) (at : ℕ) (before after : Octets) (next : ℕ) : Type 0 where
-  pub bytes : after ≡ cond (eqb (length before) 0) before (paste at (47 ∷ name) before)
-  pub behind : next ≡ at + 1 + length name
+-- what a buffer takes of a text: all, or nothing where it is empty
+unfoldable pub taken : Octets → Octets → Octets
+taken ys into = cond (eqb (length into) 0) [] ys
 
 -- what a walk of at most k steps from slot i finds, and what it leaves in the buffer
 pub record Walked (k : ℕ) (t : Octets) (i : ℕ) (before after : Octets) (r : Walk) : Type 0 where
-  pub found : r ≡ cond (reachesRoot k (tableOf t) i) (Root (length (textTo k t i))) Lost
-  pub left : after ≡ cond (reachesRoot k (tableOf t) i) (written (textTo k t i) before) before
+  pub found : r ≡ cond (reachesRoot k (tableOf t) i) (Root (stepsTo k t i) (length (taken (textTo k t i) before))) Lost
+  pub left : after ≡ cond (reachesRoot k (tableOf t) i) (paste 0 (taken (textTo k t i) before) before) before
 
 -- a used slot's chain of parents reaches the root in time
 unfoldable pub chained : Octets → ℕ → Bool
 chained t i = cond (isUsed (slotAt t i)) (reachesRoot deepest (tableOf t) i) true
 
--- what is known of a slot's way to the root: nothing, or one more than a number of steps that is enough
+-- what is known of a slot's way to the root: nothing, or one more than the steps of a way that is short enough
 abbrev pub Level : Octets → ℕ → ℕ → Type 0
-Level t i r = (r ≡ 0 → ⊥) → (r ≤ 9) × (reachesRoot (r - 1) (tableOf t) i ≡ true)
+Level t i r = (r ≡ 0 → ⊥) → (reachesRoot deepest (tableOf t) i ≡ true) × (r ≡ suc (stepsTo deepest t i))
+
+-- what a walk is lent: a table, what is known of its slots, and a buffer; where a text is to be put, nothing is known
+pub record Lent (t known into : Octets) : Type 0 where
+  pub table : Short t
+  pub levels : (j : ℕ) → Level t j (getD known j 0)
+  pub room : Room into
+  pub alone : (length into ≡ 0 → ⊥) → (j : ℕ) → getD known j 0 ≡ 0

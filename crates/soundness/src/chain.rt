@@ -1,17 +1,17 @@
 // The chain of parents from a slot to the root, and the path text that it spells.
 ghost use mathlib.Core.Path.{_≡_};
-ghost use mathlib.Core.Bool.{true, false};
-ghost use Prim.Native.Nat.{_+_, _≤_, _<_};
+ghost use mathlib.Core.Bool.{true};
+ghost use Prim.Native.Nat.{_≤_, _<_};
 ghost use lib.ListN.{length};
-ghost use Rattle.rules.specs.Size.{slots, longestPath, longestName, deepest};
+ghost use Rattle.rules.specs.Size.{slots, longestPath, deepest};
 ghost use Rattle.rules.specs.Path.{pathText};
-ghost use Rattle.rules.specs.Node.{nodeAt, pathOf};
+ghost use Rattle.rules.specs.Node.{pathOf};
 ghost use Rattle.rules.specs.Layout.{tableOf};
 ghost use Rattle.rules.specs.Sound.{soundTable};
 ghost use Rattle.octets.specs.Numbers.{Put};
 ghost use Rattle.slots.specs.Slot.{slotAt, isUsed};
 ghost use Rattle.soundness.specs.Parts.{every};
-ghost use Rattle.soundness.specs.Walks.{Short, Room, Named, Walked, Level, chained};
+ghost use Rattle.soundness.specs.Walks.{Short, Lent, Walked, chained};
 use crate::answer::Walk;
 use octets::parts::copy;
 use slots::fields::SLOTS;
@@ -20,31 +20,15 @@ use slots::fields::parent;
 use slots::fields::used;
 
 // The most steps from a slot to the root.
-const DEEPEST: usize = 8;
+const DEEPEST: u8 = 8;
 
-// Puts a slash and a slot's name behind the first `at` bytes of a buffer that has room, and gives the place behind them.
-fn put_name(t: &[u8], i: usize, at: usize, into: &mut [u8]) -> usize
-    requires { ⌜ (i < slots) × (isUsed (slotAt (now t) i) ≡ true) × Short (now t) × (at + 1 + longestName ≤ longestPath) × Room (now into) ⌝ }
-    ensures { λ r. ⌜ Named (nodeAt (tableOf (now (t .entry))) i .name) at (now (into .entry)) (now (into .exit)) r ⌝ }
-{
-    let s = name(t, i);
-    let next = at + 1 + s.len();
-    if into.len() == 0 {
-        return next;
-    }
-    into[at] = b'/';
-    copy(into, at + 1, s);
-    next
-}
-
-// Walks from a slot to the root in at most `steps` steps by used slots. On the way back the names go into a buffer that has room,
-// each behind a slash; an empty buffer stays empty.
-pub fn walk(t: &[u8], i: usize, steps: usize, into: &mut [u8]) -> Walk
-    requires { ⌜ (i < slots) × (steps ≤ deepest) × Short (now t) × Room (now into) ⌝ }
+// Walks from a slot to the root in at most `steps` steps by used slots, and no further than to a slot whose parent's way is known.
+pub fn walk(t: &[u8], i: usize, steps: u8, known: &[u8; 128], into: &mut [u8]) -> Walk
+    requires { ⌜ (i < slots) × (steps ≤ deepest) × Lent (now t) (now known) (now into) ⌝ }
     ensures { λ r. ⌜ Walked steps (now (t .entry)) i (now (into .entry)) (now (into .exit)) r ⌝ }
 {
     if i == 0 {
-        return Walk::Root(0);
+        return Walk::Root(0, 0);
     }
     if steps == 0 {
         return Walk::Lost;
@@ -52,12 +36,33 @@ pub fn walk(t: &[u8], i: usize, steps: usize, into: &mut [u8]) -> Walk
     if !used(t, i) {
         return Walk::Lost;
     }
-    let p = parent(t, i);
-    let up = walk(t, p, steps - 1, into);
-    match up {
-        Walk::Lost => Walk::Lost,
-        Walk::Root(at) => Walk::Root(put_name(t, i, at, into)),
+    let above = known[parent(t, i)];
+    if above == 0 {
+        return walk_up(t, i, steps, known, into);
     }
+    if steps < above {
+        return Walk::Lost;
+    }
+    Walk::Root(above, 0)
+}
+
+// Walks on from the parent of a used slot that is not the root, and puts a slash and the slot's name behind what that leaves in
+// the buffer. An empty one stays empty.
+fn walk_up(t: &[u8], i: usize, steps: u8, known: &[u8; 128], into: &mut [u8]) -> Walk
+    requires { ⌜ (0 < i) × (i < slots) × (isUsed (slotAt (now t) i) ≡ true) × (0 < steps) × (steps ≤ deepest) × Lent (now t) (now known) (now into) ⌝ }
+    ensures { λ r. ⌜ Walked steps (now (t .entry)) i (now (into .entry)) (now (into .exit)) r ⌝ }
+{
+    let up = walk(t, parent(t, i), steps - 1, known, into);
+    let Walk::Root(n, at) = up else {
+        return Walk::Lost;
+    };
+    if into.len() == 0 {
+        return Walk::Root(n + 1, 0);
+    }
+    let s = name(t, i);
+    into[at] = b'/';
+    copy(into, at + 1, s);
+    Walk::Root(n + 1, at + 1 + s.len())
 }
 
 // Puts a used slot's path text at the front of a buffer that takes every path, and gives its length.
@@ -69,29 +74,11 @@ pub fn path_of(t: &[u8], i: usize, into: &mut [u8]) -> usize
         into[0] = b'/';
         return 1;
     }
-    let up = walk(t, i, DEEPEST, into);
-    match up {
+    let nothing = [0u8; 128];
+    let way = walk_up(t, i, DEEPEST, &nothing, into);
+    match way {
         Walk::Lost => 0,
-        Walk::Root(n) => n,
-    }
-}
-
-// One more than the most steps from a used slot to the root, given the same of its parent if that is known, or 0 where the
-// chain does not reach it in time. A chain is walked unless its parent's is known to be short enough.
-fn level_of(t: &[u8], i: usize, above: u8) -> u8
-    requires { ⌜ (i < slots) × (isUsed (slotAt (now t) i) ≡ true) × Short (now t) × Level (now t) (nodeAt (tableOf (now t)) i .parent) above ⌝ }
-    ensures { λ r. ⌜ Level (now (t .entry)) i r × (r ≡ 0 → chained (now (t .entry)) i ≡ false) ⌝ }
-{
-    if above != 0 {
-        if above < 9 {
-            return above + 1;
-        }
-    }
-    let mut nothing = [0u8; 1];
-    let up = walk(t, i, DEEPEST, &mut nothing[..0]);
-    match up {
-        Walk::Lost => 0,
-        Walk::Root(_) => 9,
+        Walk::Root(_, n) => n,
     }
 }
 
@@ -100,17 +87,16 @@ pub fn all_chained(t: &[u8]) -> bool
     requires { ⌜ Short (now t) ⌝ }
     ensures { λ r. ⌜ r ≡ every (chained (now (t .entry))) slots 0 ⌝ }
 {
-    let mut levels = [0u8; 128];
-    levels[0] = 1;
+    let mut known = [0u8; 128];
+    let mut no_text = [0u8; 1];
     let mut i = 0;
     while i < SLOTS {
         if used(t, i) {
-            let p = parent(t, i);
-            let level = level_of(t, i, levels[p]);
-            if level == 0 {
+            let way = walk(t, i, DEEPEST, &known, &mut no_text[..0]);
+            let Walk::Root(steps, _) = way else {
                 return false;
-            }
-            levels[i] = level;
+            };
+            known[i] = steps + 1;
         }
         i += 1;
     }

@@ -2,45 +2,55 @@ use mathlib.Core.Path.{_≡_, refl, sym, _∙_}
 use mathlib.Core.Logic.{⊎-elim}
 use Prim.Native.Nat.{_≤_, _-_}
 use native.Mathlib.Omega.{arith}
+use borrow.Author.Needs.{needs}
 use Rattle.soundness.specs.Parts.{every}
 use Rattle.soundness.specs.Walks.{chained}
-use Rattle.soundness.proofs.TableLaws.{every-further, every-stop, every-ended, level-chained, unused-chained, Levels, levels-set, levels-at, root-levelled, none-levelled}
+use Rattle.soundness.proofs.TableLaws.{every-further, every-stop, every-ended, lost-chained, root-chained, root-level, root-count, unused-chained, Levels, levels-set, levels-lent, none-levelled}
 use Rattle.soundness.proofs.chain.all_chained.Statement.{statement}
 use Rattle.soundness.proofs.chain.all_chained.Tie as tie
 
 abbrev Inv-loop : tie.InvT-loop
-Inv-loop t levels₀ i₀ levels i = (i ≤ 128) × (every (chained t) 128 0 ≡ every (chained t) (128 - i) i) × Levels t levels
+Inv-loop t known₀ no-text₀ i₀ known no-text i = (i ≤ 128) × (every (chained t) 128 0 ≡ every (chained t) (128 - i) i) × Levels t known
 
 abbrev μ-loop : tie.MeasureT-loop
-μ-loop t levels₀ i₀ levels i = 128 - i
-
-array-write-levels : tie.Need-array-write-levels Inv-loop μ-loop
-array-write-levels c = omega arith
+μ-loop t known₀ no-text₀ i₀ known no-text i = 128 - i
 
 loop-holds : tie.Need-loop-holds Inv-loop μ-loop
-loop-holds c = (omega arith, refl, levels-set _ _ 0 1 (omega arith) (root-levelled _) (none-levelled _))
+loop-holds c = (omega arith, refl, none-levelled _)
 
 used-requires : tie.Need-used-requires Inv-loop μ-loop
 used-requires c κs = (omega arith, c .before .before .before .pre .whole)
 
-parent-requires : tie.Need-parent-requires Inv-loop μ-loop
-parent-requires c κs = (omega arith, c .before .before .before .before .before .pre .whole, sym (c .before .used .ensures) ∙ c .if1 .taken)
+array-borrow-prefix-no-text : tie.Need-array-borrow-prefix-no-text Inv-loop μ-loop
+array-borrow-prefix-no-text c = search needs
 
-array-read-level-of : tie.Need-array-read-level-of Inv-loop μ-loop
-array-read-level-of c = c .parent .ensures .0
+slice-aggregate-walk : tie.Need-slice-aggregate-walk Inv-loop μ-loop
+slice-aggregate-walk c = search needs
 
-level-of-requires : tie.Need-level-of-requires Inv-loop μ-loop
-level-of-requires c κs =
-    let l = c .before .before .before .before in
-    (omega arith, sym (c .before .before .used .ensures) ∙ c .before .if1 .taken, c .before .before .before .before .before .before .pre, levels-at _ (l .loop .levels) (c .parent .result) _ (c .parent .ensures .1) (l .loop .inv .2))
+walk-requires : tie.Need-walk-requires Inv-loop μ-loop
+walk-requires c κs =
+    let l = c .before .before .before .before .before in
+    (omega arith, omega arith, levels-lent _ (l .loop .known) _ (l .before .before .pre) (l .loop .inv .2) refl)
+
+enum-known-way : tie.Need-enum-known-way Inv-loop μ-loop
+enum-known-way c = search needs
+
+enum-told : tie.Need-enum-told Inv-loop μ-loop
+enum-told c = search needs
 
 returns : tie.Need-returns Inv-loop μ-loop
 returns c =
-    let l = c .before .before .before .before .before .before in
-    every-stop (chained _) 128 (l .loop .i) (c .before .before .before .before .before .loop-test .taken) (c .before .level-of .ensures .1 (c .if2 .taken)) ∙ sym (l .loop .inv .1)
+    let l = c .before .before .before .before .before .before .before .before .before in
+    let u = c .before .before .before .before .before .before .before in
+    every-stop (chained _) 128 (l .loop .i) (u .before .loop-test .taken)
+    (lost-chained _ _ _ _ _ (c .before .before .before .walk .ensures) (sym (u .used .ensures) ∙ c .before .before .before .before .before .before .if1 .taken) (c .enum-told .given .1))
+    ∙ sym (l .loop .inv .1)
 
-array-write-levels-2 : tie.Need-array-write-levels-2 Inv-loop μ-loop
-array-write-levels-2 c = omega arith
+add-known : tie.Need-add-known Inv-loop μ-loop
+add-known c = record { fits = omega (arith, root-count _ _ _ _ _ (c .before .before .before .before .walk .ensures) _ _ (c .before .way .given .1)) }
+
+array-write-known : tie.Need-array-write-known Inv-loop μ-loop
+array-write-known c = omega arith
 
 add-i : tie.Need-add-i Inv-loop μ-loop
 add-i c = omega arith
@@ -57,10 +67,10 @@ loop-again c =
       omega arith,
       l .loop .inv .1
           ∙ every-further (chained t) 128 i h
-          (⊎-elim (λ w. level-chained t i (sym (c .before .used .ensures) ∙ w .0 .taken) _ (w .2 .ensures .0) (w .3 .left))
+          (⊎-elim (λ w. root-chained t i _ _ _ (w .3 .ensures) _ _ (w .6 .given .1) (sym (c .before .used .ensures) ∙ w .0 .taken))
           (λ w. unused-chained t i (sym (c .before .used .ensures) ∙ w .0 .left))
           (c .if1 .came)),
-      ⊎-elim (λ w. rw (w .4) (levels-set t (l .loop .levels) i _ h (w .2 .ensures .0) (l .loop .inv .2))) (λ w. rw (w .1) (l .loop .inv .2)) (c .if1 .came),
+      ⊎-elim (λ w. rw (w .8) (levels-set t (l .loop .known) i _ h (root-level t i _ _ _ (w .3 .ensures) _ _ (w .6 .given .1)) (l .loop .inv .2))) (λ w. rw (w .1) (l .loop .inv .2)) (c .if1 .came),
     )
 
 returns-2 : tie.Need-returns-2 Inv-loop μ-loop
@@ -72,14 +82,16 @@ all-chained-spec =
     (tie.spec
     Inv-loop
     μ-loop
-    array-write-levels
     loop-holds
     used-requires
-    parent-requires
-    array-read-level-of
-    level-of-requires
+    array-borrow-prefix-no-text
+    slice-aggregate-walk
+    walk-requires
+    enum-known-way
+    enum-told
     returns
-    array-write-levels-2
+    add-known
+    array-write-known
     add-i
     loop-less
     loop-again

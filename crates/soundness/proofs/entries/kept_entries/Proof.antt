@@ -63,7 +63,7 @@ returns-3 c =
 zero-past-requires : tie.Need-zero-past-requires
 zero-past-requires c κs =
     let s = sizes-of _ _ (c .before .before .before .before .before .before .before .before .pre .1) in
-    omega (arith, c .before .before .before .before .before .before .entry-count .ensures, s .some, s .few)
+    omega (arith, c .before .before .before .before .before .before .entry-count .ensures, s .least, s .few)
 
 returns-4 : tie.Need-returns-4
 returns-4 c =
