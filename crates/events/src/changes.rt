@@ -17,6 +17,7 @@ ghost use Rattle.events.specs.Stores.{Store, Stores, removalOf};
 use crate::masks::in_store;
 use crate::masks::of_change_since;
 use crate::records::keep;
+use octets::sizes::LONGEST_PATH;
 use soundness::chain::path_of;
 use tables::transactions::path;
 use tables::transactions::removed;
@@ -93,7 +94,7 @@ fn removal(
     requires { ⌜ Stores (now before) (now after) (now watches) × Asked (now before) slot × Room (now events) n 1 ⌝ }
     ensures { λ r. ⌜ Recorded n (heardChange (tableOf (now (before .entry))) (tableOf (now (after .entry))) (watchesOf (now (watches .entry))) (removalOf (tableOf (now (before .entry))) slot)) (now (events .entry)) (now (events .exit)) r ⌝ }
 {
-    let mut text = [0u8; 264];
+    let mut text = [0u8; LONGEST_PATH];
     let end = path_of(before, slot, &mut text);
     change(before, after, watches, &text[..end], true, n, events)
 }

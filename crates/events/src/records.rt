@@ -8,13 +8,9 @@ ghost use Rattle.rules.specs.Event.{kept};
 ghost use Rattle.events.specs.Records.{recordOf, Recorded, Room, Mask};
 use octets::parts::clear;
 use octets::parts::copy;
-
-const RECORD_SIZE: usize = 268;
-
-// Where a record's path begins.
-const PATH_AT: usize = 4;
-
-const LONGEST_PATH: usize = 264;
+use octets::sizes::LONGEST_PATH;
+use octets::sizes::RECORD_PATH_AT;
+use octets::sizes::RECORD_SIZE;
 
 // Puts a mask and a path as record n, and gives the place behind it.
 pub fn put(events: &mut [u8], n: usize, mask: u32, path: &[u8]) -> usize
@@ -23,8 +19,8 @@ pub fn put(events: &mut [u8], n: usize, mask: u32, path: &[u8]) -> usize
 {
     let at = n * RECORD_SIZE;
     let size = path.len();
-    clear(events, at + PATH_AT + size, LONGEST_PATH - size);
-    copy(events, at + PATH_AT, path);
+    clear(events, at + RECORD_PATH_AT + size, LONGEST_PATH - size);
+    copy(events, at + RECORD_PATH_AT, path);
     events[at] = (mask / 256 % 256) as u8;
     events[at + 1] = (mask % 256) as u8;
     events[at + 2] = (size / 2 % 256) as u8;

@@ -1,8 +1,8 @@
 // One message from one sender.
 ghost use Rattle.haabuvilk.specs.Lent.{lent, requested, RequestMeets};
 use crate::checks::verdict;
-use nodes::kinds::HEADER_SIZE;
 use octets::numbers::number32;
+use octets::sizes::HEADER_SIZE;
 use replies::frame::framed;
 use requests::handle::handle;
 

@@ -10,9 +10,9 @@ ghost use Rattle.rules.specs.Answer.{done};
 ghost use Rattle.rules.specs.Layout.{domainsOf};
 ghost use Rattle.rules.specs.World.{World, introducedText};
 ghost use Rattle.replies.specs.Framed.{Told};
-use nodes::kinds::HEADER_SIZE;
 use nodes::kinds::Reply;
 use octets::parts::copy;
+use octets::sizes::HEADER_SIZE;
 use octets::written::put_decimal;
 use tables::domains::known;
 

@@ -24,7 +24,6 @@ ghost use Rattle.replies.specs.Framed.{Told};
 ghost use Rattle.replies.specs.Handled.{Handled};
 ghost use Rattle.handlers.specs.Leaves.{tables, itsNodes, itsCopies, itsWatches, itsDomains};
 ghost use Rattle.handlers.specs.Asking.{GoodAsk, Asking, OnStore, Hearing, Changed, InCopy, Changing, ninthReply};
-use crate::transacting::TABLE_SIZE;
 use events::changes::change_since;
 use events::masks::in_store;
 use nodes::answers::answer;
@@ -33,13 +32,13 @@ use nodes::kinds::Effect;
 use nodes::kinds::Errno;
 use nodes::kinds::Reply;
 use octets::parts::copy;
+use octets::sizes::MOST_CHANGES;
+use octets::sizes::TABLE_SIZE;
 use replies::kinds::Outcome;
 use replies::kinds::with_events;
 use tables::transaction_changes::add_change;
 use tables::transaction_changes::stale_all;
 use tables::transactions::changes;
-
-const MOST_CHANGES: usize = 8;
 
 // The mask of those that hear, in the store as it stands, a change that a request would make; a request that only looks makes none.
 fn hearing(ask: Ask, nodes: &[u8], watches: &[u8], path: &[u8]) -> u32

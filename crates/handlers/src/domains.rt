@@ -15,6 +15,8 @@ use making::removing::remove_all;
 use nodes::kinds::Errno;
 use nodes::kinds::Reply;
 use octets::parts::copy;
+use octets::sizes::SLOTS;
+use octets::sizes::TABLE_SIZE;
 use replies::kinds::Outcome;
 use replies::kinds::okay;
 use replies::kinds::with_events;
@@ -91,9 +93,9 @@ fn clear_out(
     requires { ⌜ Releasable (now nodes) (now watches) (now transactions) (now domains) (now events) × (1 ≤ domain) × (domain ≤ lastDomain) ⌝ }
     ensures { λ r. ⌜ Released (now (nodes .entry)) (now (watches .entry)) (now (transactions .entry)) (now (domains .entry)) domain (now (events .entry)) (now (nodes .exit)) (now (watches .exit)) (now (transactions .exit)) (now (domains .exit)) (now (events .exit)) r ⌝ }
 {
-    let mut before = [0u8; 13824];
+    let mut before = [0u8; TABLE_SIZE];
     copy(&mut before, 0, nodes);
-    let mut list = [0u8; 128];
+    let mut list = [0u8; SLOTS];
     let n = owned(nodes, domain, &mut list);
     remove_all(nodes, &list, n);
     forget(watches, transactions, domains, domain, n != 0);

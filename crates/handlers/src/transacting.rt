@@ -17,9 +17,10 @@ ghost use Rattle.replies.specs.Handled.{Handled};
 ghost use Rattle.handlers.specs.Leaves.{tables, itsNodes, itsCopies, itsWatches, itsDomains};
 use events::changes::changes;
 use nodes::kinds::Errno;
-use nodes::kinds::HEADER_SIZE;
 use nodes::kinds::Reply;
 use octets::parts::copy;
+use octets::sizes::HEADER_SIZE;
+use octets::sizes::TABLE_SIZE;
 use octets::written::put_decimal;
 use replies::kinds::Outcome;
 use replies::kinds::okay;
@@ -31,9 +32,6 @@ use tables::transactions::TRANSACTIONS;
 use tables::transactions::held;
 use tables::transactions::lowest_free;
 use tables::transactions::stale;
-
-// A node table's size, and so that of a copy.
-pub const TABLE_SIZE: usize = 13824;
 
 // Starts a connection's transaction: the lowest id that is not open, on a copy of the nodes.
 pub fn start(

@@ -19,6 +19,7 @@ ghost use Rattle.handlers.specs.Leaves.{tables, itsNodes, itsCopies, its
 use events::others::first;
 use nodes::kinds::Errno;
 use nodes::kinds::Reply;
+use octets::sizes::LONGEST_TOKEN;
 use paths::names::fits;
 use replies::kinds::Outcome;
 use replies::kinds::okay;
@@ -31,8 +32,6 @@ use tables::watch_changes::remove_twin;
 use tables::watches::WATCHES;
 use tables::watches::lowest_free;
 use tables::watches::watched;
-
-const LONGEST_TOKEN: usize = 32;
 
 // Whether a watch of a path, or of an event's name, fits with its token.
 fn is_short(path: &[u8], special: bool, token: &[u8]) -> bool

@@ -8,6 +8,7 @@ use native.Mathlib.Omega.{arith}
 use lib.ListN.{length, getD, take, drop, set, length-append}
 use lib.Seq as Seq
 use lib.Dec.{lit≤}
+use Rattle.rules.specs.Size.{longestName, slots}
 use Rattle.rules.specs.Octets.{Octets, nul, paste, decimal, bitsAt}
 use Rattle.rules.specs.Node.{Entry, Node, Table, nodeAt}
 use Rattle.rules.specs.Answer.{nameList, accessText, entryText}
@@ -44,7 +45,7 @@ name-length t i a =
     let n = used-some (slotAt t i) (a .used) in
     name-length-is t (sound-canonical t (a .sound)) i (a .below) (n .0) (n .1) ∙ ap (λ (m : Node). length (m .name)) (sym (node-some (tableOf t) i (n .0) (n .1)))
 
-pub name-fits : (t : Octets) (i : ℕ) → length (nodeAt (tableOf t) i .name) ≤ 32
+pub name-fits : (t : Octets) (i : ℕ) → length (nodeAt (tableOf t) i .name) ≤ longestName
 name-fits t i = nodeAt-fits (tableOf t) i (decoded-fits t .all) .name
 
 -- how long the names are with one more

@@ -11,6 +11,7 @@ use lib.ListN.{length, getD, take, drop, drop-of-length-le, length-drop}
 use lib.Seq.{drop-cons, take-all}
 use lib.Dec.{eqb}
 use borrow.Author.Tests.{eq-eqb, ne-eqb}
+use Rattle.rules.specs.Size.{slots}
 use Rattle.rules.specs.Octets.{Octets, same}
 use Rattle.rules.specs.Path.{Name, Names, split, isName, allNames, isFull, namesIn}
 use Rattle.rules.specs.Node.{Node, Table, nodeAt, isChild, childFrom, child, Reached, reach, reachFrom}
@@ -134,7 +135,7 @@ module _ (t p : Octets) (i at : ℕ) (h : at < length p) (names : allNames (left
 
   -- the name is there: below it
   pub turned : (j : ℕ) → child (tableOf t) i (take (end - at) (drop at p)) ≡ some j →
-      (j < 128) × (isUsed (slotAt t j) ≡ true) × (allNames (leftAt p (end + 1)) ≡ true) × (reach (tableOf t) (namesIn p) ≡ reachFrom (leftAt p (end + 1)) (tableOf t) j)
+      (j < slots) × (isUsed (slotAt t j) ≡ true) × (allNames (leftAt p (end + 1)) ≡ true) × (reach (tableOf t) (namesIn p) ≡ reachFrom (leftAt p (end + 1)) (tableOf t) j)
   unfolding allNames
   turned j c =
       let u = found-used (tableOf t) i j (take (end - at) (drop at p)) c in (

@@ -13,7 +13,7 @@ ghost use Rattle.slots.specs.Slot.{slotAt};
 ghost use Rattle.lookup.specs.Rights.{Asked};
 ghost use Rattle.lookup.specs.Children.{AllAsked, Placed, Listed};
 use octets::compare::less;
-use slots::fields::SLOTS;
+use octets::sizes::SLOTS;
 use slots::fields::name;
 use slots::fields::parent;
 use slots::fields::used;

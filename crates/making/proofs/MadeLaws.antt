@@ -9,7 +9,7 @@ use lib.ListN.{length, getD, take, drop, set, length-drop}
 use lib.Seq.{getD-set-same, take-all}
 use lib.Dec.{leb}
 use borrow.Author.Tests.{le-leb, leb-true}
-use Rattle.rules.specs.Size.{slots, longestName}
+use Rattle.rules.specs.Size.{slots, longestName, longestValue}
 use Rattle.rules.specs.Octets.{Octets}
 use Rattle.rules.specs.Entries.{lowest, freeCount}
 use Rattle.rules.specs.Path.{Name, Names, split, shortNames}
@@ -69,7 +69,7 @@ unfolding lastValue
 last-later s v = rw (split-first s)
 
 -- a node in the lowest free slot
-one-fits : (ts : Table) (p d : ℕ) (n v : Octets) → Fitting ts → p < slots → length n ≤ longestName → length v ≤ 64 → d < 65536 → 1 ≤ freeCount ts →
+one-fits : (ts : Table) (p d : ℕ) (n v : Octets) → Fitting ts → p < slots → length n ≤ longestName → length v ≤ longestValue → d < 65536 → 1 ≤ freeCount ts →
     Fitting (set ts (lowest ts) (some (newNode d ts p n v)))
 unfolding made lastValue shortNames
 one-fits ts p d n v f hp hn hv hd hf = made-fits (n ∷ []) p d v ts hd hv hp (rw (le-leb (length n) longestName hn)) hf f

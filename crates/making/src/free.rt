@@ -4,7 +4,7 @@ ghost use lib.ListN.{length};
 ghost use Rattle.rules.specs.Size.{tableSize};
 ghost use Rattle.rules.specs.Entries.{lowest, freeCount};
 ghost use Rattle.rules.specs.Layout.{tableOf};
-use slots::fields::SLOTS;
+use octets::sizes::SLOTS;
 use slots::fields::used;
 
 // The lowest free slot, or the number of slots where none is free.

@@ -7,12 +7,11 @@ ghost use Rattle.rules.specs.Node.{nodeAt, within, removed, withoutAll};
 ghost use Rattle.rules.specs.Layout.{tableOf, tableBytes};
 ghost use Rattle.slots.specs.Slot.{Canonical};
 ghost use Rattle.making.specs.Marks.{Marked, swept};
-use slots::fields::SLOTS;
+use octets::sizes::DEEPEST;
+use octets::sizes::SLOTS;
 use slots::fields::parent;
 use slots::fields::used;
 use slots::writing::clear_slot;
-
-const DEEPEST: usize = 8;
 
 // The slot above; a free slot lies below the root.
 fn above(t: &[u8], i: usize) -> usize
@@ -46,11 +45,11 @@ pub fn is_within(t: &[u8], i: usize, j: usize) -> bool
 }
 
 // Marks slot i and all below it.
-fn marked(t: &[u8], i: usize) -> [bool; 128]
+fn marked(t: &[u8], i: usize) -> [bool; SLOTS]
     requires { ⌜ length (now t) ≡ tableSize ⌝ }
     ensures { λ r. ⌜ Marked r (tableOf (now (t .entry))) i ⌝ }
 {
-    let mut marks = [false; 128];
+    let mut marks = [false; SLOTS];
     let mut j = 0;
     while j < SLOTS {
         marks[j] = is_within(t, i, j);
@@ -60,7 +59,7 @@ fn marked(t: &[u8], i: usize) -> [bool; 128]
 }
 
 // Frees the marked slots.
-fn sweep(t: &mut [u8], marks: &[bool; 128])
+fn sweep(t: &mut [u8], marks: &[bool; SLOTS])
     requires { ⌜ Canonical (now t) × (length (now marks) ≡ slots) ⌝ }
     ensures { λ _. ⌜ now (t .exit) ≡ tableBytes (swept (now (marks .entry)) (tableOf (now (t .entry)))) ⌝ }
 {

@@ -3,14 +3,13 @@ ghost use mathlib.Core.Path.{_≡_};
 ghost use mathlib.Core.List.{_++_};
 ghost use Prim.Native.Nat.{_+_, _≤_, _<_};
 ghost use lib.ListN.{length};
-ghost use Rattle.rules.specs.Size.{mostRecords, mostWatches, longestPath, longestToken, eventsSize, messageSize};
+ghost use Rattle.rules.specs.Size.{mostRecords, mostWatches, longestPath, longestToken, eventsSize, messageSize, headerSize};
 ghost use Rattle.rules.specs.Octets.{nul, paste};
 ghost use Rattle.rules.specs.Layout.{watchesOf};
 ghost use Rattle.rules.specs.Message.{eventMessage, messageOf};
 ghost use Rattle.octets.specs.Numbers.{Put};
 ghost use Rattle.message.specs.Asked.{SoundWatches, header, due, sentAs, sentOver};
 use crate::Sent;
-use crate::record::RECORDS;
 use crate::record::heard;
 use crate::record::path;
 use crate::record::path_length;
@@ -18,22 +17,25 @@ use crate::report::concerns;
 use crate::report::reported;
 use octets::numbers::put_number32;
 use octets::parts::copy;
+use octets::sizes::HEADER_SIZE;
+use octets::sizes::LEN_AT;
+use octets::sizes::LONGEST_PATH;
+use octets::sizes::RECORDS;
+use octets::sizes::REQ_AT;
+use octets::sizes::TX_AT;
+use octets::sizes::WATCHES;
 use tables::watches::token;
 use tables::watches::used;
 
-const WATCHES: u32 = 16;
-
-const LONGEST_PATH: usize = 264;
-
 // Puts the header of an event message with n bytes of payload.
 fn put_header(into: &mut [u8], n: u32)
-    requires { ⌜ 16 ≤ length (now into) ⌝ }
+    requires { ⌜ headerSize ≤ length (now into) ⌝ }
     ensures { λ _. ⌜ now (into .exit) ≡ paste 0 (header n) (now (into .entry)) ⌝ }
 {
     put_number32(into, 0, 15);
-    put_number32(into, 4, 0);
-    put_number32(into, 8, 0);
-    put_number32(into, 12, n);
+    put_number32(into, REQ_AT, 0);
+    put_number32(into, TX_AT, 0);
+    put_number32(into, LEN_AT, n);
 }
 
 // Puts a text and a nul behind it, from `at` on, and returns the place behind both.
@@ -54,7 +56,7 @@ fn put_message(into: &mut [u8], path: &[u8], token: &[u8]) -> u32
 {
     let n = path.len() + token.len() + 2;
     put_header(into, n as u32);
-    let at = put_string(into, 16, path);
+    let at = put_string(into, HEADER_SIZE, path);
     let end = put_string(into, at, token);
     end as u32
 }
@@ -96,10 +98,10 @@ pub fn message<'a>(
     if count <= record {
         return Sent::Nothing;
     }
-    if RECORDS <= record {
+    if RECORDS as u32 <= record {
         return Sent::Nothing;
     }
-    if WATCHES <= watch {
+    if WATCHES as u32 <= watch {
         return Sent::Nothing;
     }
     let i = record as usize;

@@ -5,13 +5,9 @@ ghost use lib.ListN.{length};
 ghost use Rattle.rules.specs.Size.{mostRecords, mostWatches, eventsSize, longestPath};
 ghost use Rattle.rules.specs.Octets.{field};
 ghost use Rattle.rules.specs.Message.{recordAt, maskBit, pathLength, pathIn};
-
-pub const RECORDS: u32 = 128;
-
-const RECORD_SIZE: usize = 268;
-
-// Where a record's path begins.
-const PATH_AT: usize = 4;
+use octets::sizes::MASK_SIZE;
+use octets::sizes::RECORD_PATH_AT;
+use octets::sizes::RECORD_SIZE;
 
 // Two bytes as one number, most significant first.
 fn two(s: &[u8], at: usize) -> u32
@@ -37,7 +33,7 @@ pub fn path_length(events: &[u8], i: usize) -> usize
     requires { ⌜ (i < mostRecords) × (length (now events) ≡ eventsSize) ⌝ }
     ensures { λ r. ⌜ r ≡ pathLength (recordAt (now (events .entry)) i) ⌝ }
 {
-    (two(events, i * RECORD_SIZE + 2) / 128) as usize
+    (two(events, i * RECORD_SIZE + MASK_SIZE) / 128) as usize
 }
 
 // The path of record i, where its length is within the size.
@@ -46,6 +42,6 @@ pub fn path(events: &[u8], i: usize) -> &[u8]
     ensures { λ r. ⌜ now r ≡ pathIn (recordAt (now (events .entry)) i) ⌝ }
 {
     let n = path_length(events, i);
-    let from = i * RECORD_SIZE + PATH_AT;
+    let from = i * RECORD_SIZE + RECORD_PATH_AT;
     &events[from..from + n]
 }

@@ -8,6 +8,7 @@ use octets::Number;
 use octets::compare::begins;
 use octets::compare::same;
 use octets::decimals::number_in;
+use octets::sizes::LAST_DOMAIN;
 use octets::written::digits;
 use paths::relation::is_below;
 use tables::Depth;
@@ -15,8 +16,6 @@ use tables::watches::depth;
 use tables::watches::owner;
 use tables::watches::path;
 use tables::watches::relative;
-
-const LAST_DOMAIN: u64 = 32751;
 
 // Whether a text is a slash and a domain id.
 fn is_domain_path(p: &[u8]) -> bool
@@ -28,7 +27,7 @@ fn is_domain_path(p: &[u8]) -> bool
     if p[0] != b'/' {
         return false;
     }
-    match number_in(&p[1..], 0, LAST_DOMAIN) {
+    match number_in(&p[1..], 0, LAST_DOMAIN as u64) {
         Number::Is(_) => true,
         Number::Not => false,
     }

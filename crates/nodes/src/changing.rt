@@ -15,7 +15,6 @@ ghost use Rattle.nodes.specs.Answers.{okay, Standing, Ready, Answers, An
 use crate::kinds::Answer;
 use crate::kinds::Effect;
 use crate::kinds::Errno;
-use crate::kinds::HEADER_SIZE;
 use crate::kinds::Reply;
 use crate::looking::refusal;
 use lookup::reach::reach;
@@ -23,10 +22,10 @@ use lookup::rights::may_write;
 use making::free::free_count;
 use making::making::make;
 use octets::parts::copy;
+use octets::sizes::HEADER_SIZE;
+use octets::sizes::LONGEST_VALUE;
 use paths::names::fits;
 use slots::writing::put_value;
-
-const LONGEST_VALUE: usize = 64;
 
 // Success with nothing to tell: `OK` and a nul.
 pub fn success(reply: &mut [u8], effect: Effect) -> Answer

@@ -1,8 +1,5 @@
 // What a node request asks, and what it answers.
 
-// The payload of a reply stands behind its header.
-pub const HEADER_SIZE: usize = 16;
-
 // EINVAL, EACCES, EEXIST, ENOENT, ENOSPC, E2BIG, EAGAIN and ENOSYS.
 pub enum Errno {
     Invalid,

@@ -10,7 +10,6 @@ ghost use Rattle.nodes.specs.Sights.{Sees};
 use crate::kinds::Answer;
 use crate::kinds::Effect;
 use crate::kinds::Errno;
-use crate::kinds::HEADER_SIZE;
 use crate::kinds::Reply;
 use lookup::children::children;
 use lookup::listing::names_length;
@@ -19,9 +18,10 @@ use lookup::listing::put_names;
 use lookup::reach::reach;
 use lookup::rights::may_read;
 use octets::parts::copy;
+use octets::sizes::HEADER_SIZE;
+use octets::sizes::LONGEST_PAYLOAD;
+use octets::sizes::SLOTS;
 use slots::fields::value;
-
-const LONGEST_PAYLOAD: usize = 4096;
 
 // The slot that a reading request may read, or why it may not.
 enum Seen {
@@ -110,7 +110,7 @@ pub fn directory(t: &[u8], domain: u32, path: &[u8], reply: &mut [u8]) -> Answer
     match look(t, domain, path) {
         Seen::Not(e) => refusal(e),
         Seen::At(slot) => {
-            let mut list = [0; 128];
+            let mut list = [0; SLOTS];
             let n = children(t, slot, &mut list);
             let long = names_length(t, &list, n);
             if LONGEST_PAYLOAD < long {

@@ -14,10 +14,9 @@ use crate::looking::absent;
 use crate::looking::refusal;
 use lookup::reach::reach;
 use lookup::rights::may_own;
+use octets::sizes::MOST_ENTRIES;
 use slots::fields::entry_at;
 use slots::writing::put_entries;
-
-const MOST_ENTRIES: usize = 4;
 
 // Whether a domain may give slot i entries whose first names an owner.
 fn may_set(t: &[u8], i: usize, domain: u32, owner: u32) -> bool

@@ -7,10 +7,8 @@ ghost use Rattle.paths.specs.Form.{formOf, isEvent, verdictOf};
 use crate::answer::Form;
 use crate::classes::CLASSES;
 use octets::compare::same;
-
-const LONGEST_ABSOLUTE: usize = 3072;
-
-const LONGEST_RELATIVE: usize = 2048;
+use octets::sizes::LONGEST_ABSOLUTE;
+use octets::sizes::LONGEST_RELATIVE;
 
 // A row for each state, a column for each class: letter, digit, slash, `@`, other.
 const STEPS: [[u8; 5]; 8] = [

@@ -5,10 +5,8 @@ ghost use Prim.Native.Nat.{_≤_};
 ghost use lib.ListN.{length};
 ghost use Rattle.rules.specs.Path.{fits, isFull, namesIn, shortNames};
 ghost use Rattle.paths.specs.Names.{nameEnd};
-
-const LONGEST_NAME: usize = 32;
-
-const DEEPEST: usize = 8;
+use octets::sizes::DEEPEST;
+use octets::sizes::LONGEST_NAME;
 
 // The index of the first slash from an index on, or the length.
 pub fn name_end(s: &[u8], at: usize) -> usize

@@ -9,11 +9,13 @@ ghost use Rattle.rules.specs.Answer.{errnoText};
 ghost use Rattle.nodes.specs.Answers.{errnoMeant};
 ghost use Rattle.replies.specs.Framed.{Written, Held, header, Framed};
 use nodes::kinds::Errno;
-use nodes::kinds::HEADER_SIZE;
 use nodes::kinds::Reply;
 use octets::numbers::number32;
 use octets::numbers::put_number32;
 use octets::parts::copy;
+use octets::sizes::HEADER_SIZE;
+use octets::sizes::LEN_AT;
+use octets::sizes::REQ_AT;
 
 // The type of a reply that is an error.
 const ERROR: u32 = 16;
@@ -50,8 +52,8 @@ fn put_header(message: &[u8], kind: u32, n: usize, reply: &mut [u8]) -> u32
     ensures { λ r. ⌜ (r ≡ headerSize + n) × (now (reply .exit) ≡ paste 0 (header kind (now (message .entry)) n) (now (reply .entry))) ⌝ }
 {
     put_number32(reply, 0, kind);
-    copy(reply, 4, &message[4..12]);
-    put_number32(reply, 12, n as u32);
+    copy(reply, REQ_AT, &message[REQ_AT..LEN_AT]);
+    put_number32(reply, LEN_AT, n as u32);
     (HEADER_SIZE + n) as u32
 }
 

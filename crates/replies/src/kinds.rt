@@ -4,9 +4,9 @@ ghost use lib.ListN.{length};
 ghost use Rattle.rules.specs.Size.{replySize};
 ghost use Rattle.rules.specs.Answer.{OK};
 ghost use Rattle.replies.specs.Framed.{Told};
-use nodes::kinds::HEADER_SIZE;
 use nodes::kinds::Reply;
 use octets::parts::copy;
+use octets::sizes::HEADER_SIZE;
 
 // The reply, how many event records it made, and the page and the channel of an INTRODUCE that succeeded.
 pub struct Outcome {

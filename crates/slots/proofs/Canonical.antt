@@ -10,7 +10,7 @@ use lib.ListN.{length, getD, take, length-take}
 use lib.Seq.{getD-take}
 use lib.Dec.{eqb, lit<}
 use borrow.Author.Tests.{eqb-true}
-use Rattle.rules.specs.Size.{slots, slotSize, tableSize}
+use Rattle.rules.specs.Size.{slots, slotSize, tableSize, longestName, longestValue}
 use Rattle.rules.specs.Octets.{Octets, same, field, bitsAt, pack, packFrom}
 use Rattle.rules.specs.Node.{Entry, Node}
 use Rattle.rules.specs.Layout.{tableOf, tableBytes, slotBytes, nodeBits, nodeOf}
@@ -123,10 +123,10 @@ module _ (t : Octets) (s : soundTable t ≡ true) (i : ℕ) (h : i < slots) (u :
   node : (n : Node) × (slotAt t i ≡ some n)
   node = used-some (slotAt t i) u
 
-  pub name-short : nameLength t i ≤ 32
+  pub name-short : nameLength t i ≤ longestName
   name-short = rw (name-length-is t (sound-canonical t s) i h (node .0) (node .1)) (node-fits t (sound-canonical t s) i h (node .0) (node .1) .name)
 
-  pub value-short : valueLength t i ≤ 64
+  pub value-short : valueLength t i ≤ longestValue
   value-short = rw (value-length-is t (sound-canonical t s) i h (node .0) (node .1)) (node-fits t (sound-canonical t s) i h (node .0) (node .1) .value)
 
 -- what holds of a sound table, slot by slot

@@ -9,7 +9,7 @@ use native.Mathlib.Omega.{arith}
 use lib.ListN.{length, getD, take}
 use lib.Seq.{getD-take, length-take-le}
 use lib.Dec.{eqb}
-use Rattle.rules.specs.Size.{slots}
+use Rattle.rules.specs.Size.{slots, entriesSize}
 use Rattle.rules.specs.Octets.{Octets, paste, bigEndian, pack, packFrom, bitsAt}
 use Rattle.rules.specs.Path.{Domain}
 use Rattle.rules.specs.Node.{Entry, nodeAt, heir}
@@ -49,14 +49,14 @@ packed o (a ∷ b ∷ c ∷ d ∷ es) h = absurd (omega arith)
 
 entries-bytes : (o : Entry) (es : List Entry) → length es ≤ 3 → {a b c d : ℕ} →
     a ≡ entryNumber (o ∷ es) 0 → b ≡ entryNumber (o ∷ es) 1 → c ≡ entryNumber (o ∷ es) 2 → d ≡ entryNumber (o ∷ es) 3 →
-    bigEndian 9 (entriesOf a b c d) ≡ entriesBytes o es
+    bigEndian entriesSize (entriesOf a b c d) ≡ entriesBytes o es
 unfolding entriesBytes
-entries-bytes o es h ha hb hc hd = (λ j. bigEndian 9 (entriesOf (ha j) (hb j) (hc j) (hd j))) ∙ ap (bigEndian 9) (packed o es h)
+entries-bytes o es h ha hb hc hd = (λ j. bigEndian entriesSize (entriesOf (ha j) (hb j) (hc j) (hd j))) ∙ ap (bigEndian 9) (packed o es h)
 
 -- the same, put in place
 pub entries-at : (at : ℕ) (t : Octets) (o : Entry) (es : List Entry) → length es ≤ 3 → {a b c d : ℕ} {y : Octets} →
     a ≡ entryNumber (o ∷ es) 0 → b ≡ entryNumber (o ∷ es) 1 → c ≡ entryNumber (o ∷ es) 2 → d ≡ entryNumber (o ∷ es) 3 →
-    y ≡ paste at (bigEndian 9 (entriesOf a b c d)) t → y ≡ paste at (entriesBytes o es) t
+    y ≡ paste at (bigEndian entriesSize (entriesOf a b c d)) t → y ≡ paste at (entriesBytes o es) t
 entries-at at t o es h ha hb hc hd e = e ∙ ap (λ (s : Octets). paste at s t) (entries-bytes o es h ha hb hc hd)
 
 -- ── a slot's entries ──

@@ -8,7 +8,7 @@ use native.Mathlib.Nat.{mod-lt}
 use native.Mathlib.Omega.{arith}
 use lib.ListN.{length, take, drop, set, replicate, length-append}
 use lib.Seq.{drop-drop, take-at, drop-at}
-use Rattle.rules.specs.Size.{slots, slotSize}
+use Rattle.rules.specs.Size.{slots, slotSize, nameAt, valueAt, longestName, longestValue, fieldsSize, entriesSize}
 use Rattle.rules.specs.Octets.{Octets, padded, paste, bigEndian, pack, packFrom, bitsAt}
 use Rattle.rules.specs.Node.{Entry, Node, Table, nodeAt, heir, newNode, withValue, withEntries}
 use Rattle.rules.specs.Layout.{tableOf, tableBytes, slotBytes, nodeBits}
@@ -32,8 +32,8 @@ unfolding padded
 text-put at room s t h ht e f = f ∙ ap (paste at s) e ∙ sym (paste-append at s (replicate (room - length s) 0) t (omega arith))
 
 -- the bytes of the fields, as they are stored one after the other
-pub fields-put : (at p n v e : ℕ) (t : Octets) → at + 3 ≤ length t → p < 128 → n < 64 → v < 128 → e < 8 →
-    set (set (set t at (128 + p)) (at + 1) (n * 4 + v / 32)) (at + 2) (v % 32 * 8 + e) ≡ paste at (bigEndian 3 (fieldsOf p n v e)) t
+pub fields-put : (at p n v e : ℕ) (t : Octets) → at + fieldsSize ≤ length t → p < 128 → n < 64 → v < 128 → e < 8 →
+    set (set (set t at (128 + p)) (at + 1) (n * 4 + v / 32)) (at + 2) (v % 32 * 8 + e) ≡ paste at (bigEndian fieldsSize (fieldsOf p n v e)) t
 unfolding fieldsOf bigEndian
 fields-put at p n v e t h hp hn hv he =
     let s₁ : at + 1 ≡ suc at = omega arith in
@@ -60,7 +60,7 @@ unfolding entriesOf
 four-bytes a b c d ha hb hc hd = (omega arith, omega arith, omega arith, omega arith, omega arith, omega arith, omega arith, omega arith, omega arith)
 
 -- the bytes of four entries
-pub four-put : (at a b c d : ℕ) (t : Octets) → at + 9 ≤ length t → a < 262144 → b < 262144 → c < 262144 → d < 262144 →
+pub four-put : (at a b c d : ℕ) (t : Octets) → at + entriesSize ≤ length t → a < 262144 → b < 262144 → c < 262144 → d < 262144 →
     set
     (set
     (set (set (set (set (set (set (set t at (a / 1024)) (at + 1) (a / 4 % 256)) (at + 2) (a % 4 * 64 + b / 4096)) (at + 3) (b / 16 % 256)) (at + 4) (b % 16 * 16 + c / 16384)) (at + 5) (c / 64 % 256)) (at + 6) (c % 64 * 4 + d / 65536))
@@ -68,7 +68,7 @@ pub four-put : (at a b c d : ℕ) (t : Octets) → at + 9 ≤ length t → a < 2
     (d / 256 % 256))
     (at + 8)
     (d % 256)
-    ≡ paste at (bigEndian 9 (entriesOf a b c d)) t
+    ≡ paste at (bigEndian entriesSize (entriesOf a b c d)) t
 unfolding bigEndian
 four-put at a b c d t h ha hb hc hd =
     let s₁ : at + 1 ≡ suc at = omega arith in
@@ -89,7 +89,7 @@ four-put at a b c d t h ha hb hc hd =
     (q .7 j))
     (s₈ j)
     (q .8 j))
-    ∙ paste-sets at (bigEndian 9 m) t h
+    ∙ paste-sets at (bigEndian entriesSize m) t h
 
 fields-packed : (m : Node) → pack (nodeBits m) ≡ fieldsOf (m .parent) (length (m .name)) (length (m .value)) (suc (length (m .others)))
 unfolding pack packFrom nodeBits fieldsOf
@@ -132,38 +132,38 @@ module _ (t : Octets) (k : Canonical t) (i : ℕ) (h : i < slots) where
 
   -- the parts of a used slot: all behind the fields, then the fields
   rest-put : (m : Node) → NodeFits m → (f : ℕ) → f ≡ fieldsOf (m .parent) (length (m .name)) (length (m .value)) (suc (length (m .others))) →
-      paste (i * slotSize) (bigEndian 3 f) (paste (i * slotSize + 3) (entriesBytes (m .owner) (m .others) ++ (padded 32 (m .name) ++ padded 64 (m .value))) t)
+      paste (i * slotSize) (bigEndian fieldsSize f) (paste (i * slotSize + fieldsSize) (entriesBytes (m .owner) (m .others) ++ (padded longestName (m .name) ++ padded longestValue (m .value))) t)
       ≡ tableBytes (set (tableOf t) i (some m))
   unfolding slotBytes entriesBytes
   rest-put m g f e =
       let at = i * slotSize in
       let w = k .whole in
-      let rest = entriesBytes (m .owner) (m .others) ++ (padded 32 (m .name) ++ padded 64 (m .value)) in
-      ap (λ (j : ℕ). paste at (bigEndian 3 j) (paste (at + 3) rest t)) (e ∙ sym (fields-packed m))
-      ∙ sym (seam at 3 (at + 3) (bigEndian 3 (pack (nodeBits m))) rest t (length-big 3 _) refl (omega arith))
+      let rest = entriesBytes (m .owner) (m .others) ++ (padded longestName (m .name) ++ padded longestValue (m .value)) in
+      ap (λ (j : ℕ). paste at (bigEndian fieldsSize j) (paste (at + fieldsSize) rest t)) (e ∙ sym (fields-packed m))
+      ∙ sym (seam at 3 (at + 3) (bigEndian fieldsSize (pack (nodeBits m))) rest t (length-big 3 _) refl (omega arith))
       ∙ slot-put (some m) g
 
   -- the same, put in from the last on
   node-put : (m : Node) → NodeFits m → (f : ℕ) → f ≡ fieldsOf (m .parent) (length (m .name)) (length (m .value)) (suc (length (m .others))) →
       let at = i * slotSize in
-      paste at (bigEndian 3 f) (paste (at + 3) (entriesBytes (m .owner) (m .others)) (paste (at + 12) (padded 32 (m .name)) (paste (at + 44) (padded 64 (m .value)) t)))
+      paste at (bigEndian fieldsSize f) (paste (at + fieldsSize) (entriesBytes (m .owner) (m .others)) (paste (at + nameAt) (padded longestName (m .name)) (paste (at + valueAt) (padded longestValue (m .value)) t)))
       ≡ tableBytes (set (tableOf t) i (some m))
   node-put m g f e =
       let at = i * slotSize in
       let w = k .whole in
       let b = entriesBytes (m .owner) (m .others) in
-      let n = padded 32 (m .name) in
-      let v = padded 64 (m .value) in
-      ap (paste at (bigEndian 3 f))
+      let n = padded longestName (m .name) in
+      let v = padded longestValue (m .value) in
+      ap (paste at (bigEndian fieldsSize f))
       (sym
-      (seam (at + 3) 9 (at + 12) b (n ++ v) t (length-entries (m .owner) (m .others)) (omega arith) (omega arith)
-      ∙ ap (paste (at + 3) b) (seam (at + 12) 32 (at + 44) n v t (length-padded 32 (m .name) (g .name)) (omega arith) (omega arith))))
+      (seam (at + fieldsSize) entriesSize (at + nameAt) b (n ++ v) t (length-entries (m .owner) (m .others)) (omega arith) (omega arith)
+      ∙ ap (paste (at + fieldsSize) b) (seam (at + nameAt) longestName (at + valueAt) n v t (length-padded longestName (m .name) (g .name)) (omega arith) (omega arith))))
       ∙ rest-put m g f e
 
   -- a new node: its entries, its name, its value, its fields
-  pub new-put : (p : ℕ) (n v : Octets) (d e : ℕ) → p < slots → isUsed (slotAt t p) ≡ true → length n ≤ 32 → length v ≤ 64 → d < 65536 → e ≡ entryCount t p →
-      {x y z r : Octets} → x ≡ paste (i * slotSize + 3) (entriesBytes (heir d (nodeAt (tableOf t) p .owner)) (nodeAt (tableOf t) p .others)) t → y ≡ paste (i * slotSize + 12) (padded 32 n) x →
-      z ≡ paste (i * slotSize + 44) (padded 64 v) y → r ≡ paste (i * slotSize) (bigEndian 3 (fieldsOf p (length n) (length v) e)) z →
+  pub new-put : (p : ℕ) (n v : Octets) (d e : ℕ) → p < slots → isUsed (slotAt t p) ≡ true → length n ≤ longestName → length v ≤ longestValue → d < 65536 → e ≡ entryCount t p →
+      {x y z r : Octets} → x ≡ paste (i * slotSize + fieldsSize) (entriesBytes (heir d (nodeAt (tableOf t) p .owner)) (nodeAt (tableOf t) p .others)) t → y ≡ paste (i * slotSize + nameAt) (padded longestName n) x →
+      z ≡ paste (i * slotSize + valueAt) (padded longestValue v) y → r ≡ paste (i * slotSize) (bigEndian fieldsSize (fieldsOf p (length n) (length v) e)) z →
       r ≡ tableBytes (set (tableOf t) i (some (newNode d (tableOf t) p n v)))
   unfolding newNode
   new-put p n v d e hp u hn hv hd he q₁ q₂ q₃ q₄ =
@@ -176,13 +176,13 @@ module _ (t : Octets) (k : Canonical t) (i : ℕ) (h : i < slots) where
       let l = length-entries o (parent .others) in
       let m : Node = record { parent = p; name = n; value = v; owner = o; others = parent .others } in
       let g : NodeFits m = record { parent = hp; name = hn; value = hv; owner = heir-fits d (parent .owner) hd (f .owner); few = f .few; others = f .others } in
-      let ln : length (padded 32 n) ≡ 32 = length-padded 32 n hn in
+      let ln : length (padded longestName n) ≡ longestName = length-padded longestName n hn in
       q₄
-      ∙ ap (paste at (bigEndian 3 (fieldsOf p (length n) (length v) e)))
+      ∙ ap (paste at (bigEndian fieldsSize (fieldsOf p (length n) (length v) e)))
       (q₃
-      ∙ ap (paste (at + 44) (padded 64 v)) (q₂ ∙ ap (paste (at + 12) (padded 32 n)) q₁ ∙ paste-behind (at + 3) (at + 12) b (padded 32 n) t (omega arith) (omega arith))
-      ∙ paste-behind (at + 3) (at + 44) (b ++ padded 32 n) (padded 64 v) t (omega arith) (omega (arith, length-append b (padded 32 n)))
-      ∙ ap (λ (s : Octets). paste (at + 3) s t) (append-assoc b (padded 32 n) (padded 64 v)))
+      ∙ ap (paste (at + valueAt) (padded longestValue v)) (q₂ ∙ ap (paste (at + nameAt) (padded longestName n)) q₁ ∙ paste-behind (at + fieldsSize) (at + nameAt) b (padded longestName n) t (omega arith) (omega arith))
+      ∙ paste-behind (at + fieldsSize) (at + valueAt) (b ++ padded longestName n) (padded longestValue v) t (omega arith) (omega (arith, length-append b (padded longestName n)))
+      ∙ ap (λ (s : Octets). paste (at + fieldsSize) s t) (append-assoc b (padded longestName n) (padded longestValue v)))
       ∙ rest-put m g (fieldsOf p (length n) (length v) e) (ap (fieldsOf p (length n) (length v)) (he ∙ entry-count-is t k p hp parent (used-is t p hp u)))
 
   -- what stands in place already
@@ -209,37 +209,37 @@ module _ (t : Octets) (k : Canonical t) (i : ℕ) (h : i < slots) where
         ∙ take-at b c l hb
 
     first : Octets
-    first = bigEndian 3 (pack (nodeBits node))
+    first = bigEndian fieldsSize (pack (nodeBits node))
 
-    entries-part : take 9 (drop (i * slotSize + 3) t) ≡ entriesBytes (node .owner) (node .others)
+    entries-part : take 9 (drop (i * slotSize + fieldsSize) t) ≡ entriesBytes (node .owner) (node .others)
     unfolding slotBytes entriesBytes first
     entries-part = part 3 9 first _ _ refl (length-big 3 _) (length-big 9 _) (omega arith)
 
     front : Octets
     front = first ++ entriesBytes (node .owner) (node .others)
 
-    length-front : length front ≡ 12
+    length-front : length front ≡ nameAt
     unfolding front first entriesBytes
     length-front = simp (length-append, length-big)
 
-    name-part : take 32 (drop (i * slotSize + 12) t) ≡ padded 32 (node .name)
+    name-part : take longestName (drop (i * slotSize + nameAt) t) ≡ padded longestName (node .name)
     unfolding slotBytes entriesBytes first front
-    name-part = part 12 32 front (padded 32 (node .name)) (padded 64 (node .value)) (sym (append-assoc first _ _)) length-front (length-padded 32 (node .name) (fits .name)) (omega arith)
+    name-part = part nameAt longestName front (padded longestName (node .name)) (padded longestValue (node .value)) (sym (append-assoc first _ _)) length-front (length-padded longestName (node .name) (fits .name)) (omega arith)
 
-    value-part : take 64 (drop (i * slotSize + 44) t) ≡ padded 64 (node .value)
+    value-part : take longestValue (drop (i * slotSize + valueAt) t) ≡ padded longestValue (node .value)
     unfolding slotBytes entriesBytes first front
     value-part =
-        let n = padded 32 (node .name) in
-        let v = padded 64 (node .value) in
-        part 44 64 (front ++ n) v []
+        let n = padded longestName (node .name) in
+        let v = padded longestValue (node .value) in
+        part valueAt longestValue (front ++ n) v []
         (sym (append-assoc first _ (n ++ v)) ∙ sym (append-assoc front n (v ++ []) ∙ ap (λ (r : Octets). front ++ (n ++ r)) (append-nil v)))
-        (length-append front n ∙ rw (length-front, length-padded 32 (node .name) (fits .name)))
-        (length-padded 64 (node .value) (fits .value))
+        (length-append front n ∙ rw (length-front, length-padded longestName (node .name) (fits .name)))
+        (length-padded longestValue (node .value) (fits .value))
         (omega arith)
 
     pub entries-put : (o : Entry) (es : List Entry) → EntryFits o → Each EntryFits es → length es ≤ 3 → (p l v e : ℕ) →
         p ≡ nodeAt (tableOf t) i .parent → l ≡ nameLength t i → v ≡ valueLength t i → e ≡ suc (length es) →
-        {x y : Octets} → x ≡ paste (i * slotSize + 3) (entriesBytes o es) t → y ≡ paste (i * slotSize) (bigEndian 3 (fieldsOf p l v e)) x →
+        {x y : Octets} → x ≡ paste (i * slotSize + fieldsSize) (entriesBytes o es) t → y ≡ paste (i * slotSize) (bigEndian fieldsSize (fieldsOf p l v e)) x →
         y ≡ tableBytes (withEntries (tableOf t) i o es)
     unfolding withEntries node
     entries-put o es ho hes few p l v e hp hl hv he q r =
@@ -248,29 +248,29 @@ module _ (t : Octets) (k : Canonical t) (i : ℕ) (h : i < slots) where
         let m : Node = record { parent = node .parent; name = node .name; value = node .value; owner = o; others = es } in
         let g : NodeFits m = record { parent = fits .parent; name = fits .name; value = fits .value; owner = ho; few = few; others = hes } in
         let s = used-is t i h u in
-        let lvalue = stays 44 64 (padded 64 (node .value)) t refl value-part (omega arith) in
-        let lname = stays 12 32 (padded 32 (node .name)) t refl name-part (omega arith) in
+        let lvalue = stays valueAt longestValue (padded longestValue (node .value)) t refl value-part (omega arith) in
+        let lname = stays nameAt longestName (padded longestName (node .name)) t refl name-part (omega arith) in
         r
-        ∙ ap (paste at (bigEndian 3 (fieldsOf p l v e))) (q ∙ ap (paste (at + 3) b) (sym (ap (paste (at + 12) (padded 32 (node .name))) lvalue ∙ lname)))
+        ∙ ap (paste at (bigEndian fieldsSize (fieldsOf p l v e))) (q ∙ ap (paste (at + fieldsSize) b) (sym (ap (paste (at + nameAt) (padded longestName (node .name))) lvalue ∙ lname)))
         ∙ node-put m g (fieldsOf p l v e)
         (λ j. fieldsOf (hp j) ((hl ∙ name-length-is t k i h node s) j) ((hv ∙ value-length-is t k i h node s) j) (he j))
 
-    pub value-put : (v : Octets) → length v ≤ 64 → (p l e : ℕ) → p ≡ nodeAt (tableOf t) i .parent → l ≡ nameLength t i → e ≡ entryCount t i →
-        {x y : Octets} → x ≡ paste (i * slotSize + 44) (padded 64 v) t → y ≡ paste (i * slotSize) (bigEndian 3 (fieldsOf p l (length v) e)) x →
+    pub value-put : (v : Octets) → length v ≤ longestValue → (p l e : ℕ) → p ≡ nodeAt (tableOf t) i .parent → l ≡ nameLength t i → e ≡ entryCount t i →
+        {x y : Octets} → x ≡ paste (i * slotSize + valueAt) (padded longestValue v) t → y ≡ paste (i * slotSize) (bigEndian fieldsSize (fieldsOf p l (length v) e)) x →
         y ≡ tableBytes (withValue (tableOf t) i v)
     unfolding withValue node
     value-put v hv p l e hp hl he {x} q r =
         let w = k .whole in
         let at = i * slotSize in
-        let pasted = paste (at + 44) (padded 64 v) t in
-        let same = length-paste (at + 44) (padded 64 v) t (rw length-padded (omega arith)) in
+        let pasted = paste (at + valueAt) (padded longestValue v) t in
+        let same = length-paste (at + valueAt) (padded longestValue v) t (rw length-padded (omega arith)) in
         let m : Node = record { parent = node .parent; name = node .name; value = v; owner = node .owner; others = node .others } in
         let g : NodeFits m = record { parent = fits .parent; name = fits .name; value = hv; owner = fits .owner; few = fits .few; others = fits .others } in
-        let before : (j c : ℕ) → j + c ≤ 44 → take c (drop (at + j) pasted) ≡ take c (drop (at + j) t) = λ j c b. part-before (at + 44) (at + j) c (padded 64 v) t (omega arith) (omega arith) in
-        let lname = stays 12 32 (padded 32 (node .name)) pasted same (before 12 32 (omega arith) ∙ name-part) (omega arith) in
+        let before : (j c : ℕ) → j + c ≤ valueAt → take c (drop (at + j) pasted) ≡ take c (drop (at + j) t) = λ j c b. part-before (at + valueAt) (at + j) c (padded longestValue v) t (omega arith) (omega arith) in
+        let lname = stays nameAt longestName (padded longestName (node .name)) pasted same (before nameAt longestName (omega arith) ∙ name-part) (omega arith) in
         let lentries = stays 3 9 (entriesBytes (node .owner) (node .others)) pasted same (before 3 9 (omega arith) ∙ entries-part) (omega arith) in
         r
-        ∙ ap (paste at (bigEndian 3 (fieldsOf p l (length v) e))) (q ∙ sym (ap (paste (at + 3) (entriesBytes (node .owner) (node .others))) lname ∙ lentries))
+        ∙ ap (paste at (bigEndian fieldsSize (fieldsOf p l (length v) e))) (q ∙ sym (ap (paste (at + fieldsSize) (entriesBytes (node .owner) (node .others))) lname ∙ lentries))
         ∙ node-put m g (fieldsOf p l (length v) e)
         (λ s. fieldsOf (hp s) ((hl ∙ name-length-is t k i h node (used-is t i h u)) s) (length v) ((he ∙ entry-count-is t k i h node (used-is t i h u)) s))
 

@@ -11,7 +11,7 @@ use borrow.Author.Tests.{eq-eqb, ne-eqb, leb-true, leb-false}
 use lib.Seq.{drop-drop, take-take}
 use mir.Val.{Fits}
 use mir.Syntax.{w8}
-use Rattle.rules.specs.Size.{slots, slotSize, tableSize}
+use Rattle.rules.specs.Size.{slots, slotSize, tableSize, nameAt, valueAt, longestName, longestValue, fieldsSize, entriesSize}
 use Rattle.rules.specs.Octets.{Octets, field, bitsAt}
 use Rattle.rules.specs.Node.{Node, Table, root, nodeAt}
 use Rattle.rules.specs.Layout.{tableOf, slotOf, nodeOf, textAt, entryAt}
@@ -29,7 +29,7 @@ chunk t i = take slotSize (drop (i * slotSize) t)
 
 -- the node that slot i means where it is used
 abbrev pub meant : Octets → ℕ → Node
-meant t i = nodeOf (chunk t i) (head t i) (field t (i * slotSize + 3) 9)
+meant t i = nodeOf (chunk t i) (head t i) (field t (i * slotSize + fieldsSize) entriesSize)
 
 pub slot-is : (t : Octets) (i : ℕ) → i < slots → slotAt t i ≡ cond (eqb (bitsAt (head t i) 23 1) 1) (some (meant t i)) none
 unfolding slotOf head
@@ -68,15 +68,15 @@ module _ (t : Octets) (i : ℕ) (h : i < slots) where
       ap (take n) (sym (drop-drop j (i * slotSize) t))
       ∙ sym (take-take n k _ hn ∙ take-drop-take n j slotSize (drop (i * slotSize) t) (omega arith))
 
-  pub name-part : isUsed (slotAt t i) ≡ true → nameLength t i ≤ 32 →
-      take (i * slotSize + 12 + nameLength t i - (i * slotSize + 12)) (drop (i * slotSize + 12) t) ≡ nodeAt (tableOf t) i .name
+  pub name-part : isUsed (slotAt t i) ≡ true → nameLength t i ≤ longestName →
+      take (i * slotSize + nameAt + nameLength t i - (i * slotSize + nameAt)) (drop (i * slotSize + nameAt) t) ≡ nodeAt (tableOf t) i .name
   unfolding nodeOf nameLength
-  name-part u l = rw (used-node u, add-sub-cancel-left) (text-part 12 32 (nameLength t i) l (omega arith))
+  name-part u l = rw (used-node u, add-sub-cancel-left) (text-part nameAt longestName (nameLength t i) l (omega arith))
 
-  pub value-part : isUsed (slotAt t i) ≡ true → valueLength t i ≤ 64 →
-      take (i * slotSize + 44 + valueLength t i - (i * slotSize + 44)) (drop (i * slotSize + 44) t) ≡ nodeAt (tableOf t) i .value
+  pub value-part : isUsed (slotAt t i) ≡ true → valueLength t i ≤ longestValue →
+      take (i * slotSize + valueAt + valueLength t i - (i * slotSize + valueAt)) (drop (i * slotSize + valueAt) t) ≡ nodeAt (tableOf t) i .value
   unfolding nodeOf valueLength
-  value-part u l = rw (used-node u, add-sub-cancel-left) (text-part 44 64 (valueLength t i) l (omega arith))
+  value-part u l = rw (used-node u, add-sub-cancel-left) (text-part valueAt longestValue (valueLength t i) l (omega arith))
 
 module _ (t : Octets) (bytes : Bytes t) (whole : length t ≡ tableSize) (i : ℕ) (h : i < slots) where
   bound : head t i < 16777216
@@ -112,12 +112,12 @@ module _ (t : Octets) (bytes : Bytes t) (whole : length t ≡ tableSize) (i : �
 
   -- the entries' nine bytes with three of them apart, after the first a
   apart : (a b : ℕ) → a + (3 + b) ≡ 9 →
-      let at = i * slotSize + 3 in
+      let at = i * slotSize + fieldsSize in
       (field t at 9 ≡ field t at a * 256 ^ (3 + b) + (field t (at + a) 3 * 256 ^ b + field t (at + a + 3) b))
       × (field t (at + a) 3 < 256 ^ 3)
       × (field t (at + a + 3) b < 256 ^ b)
   apart a b e =
-      let at = i * slotSize + 3 in (
+      let at = i * slotSize + fieldsSize in (
         ap (field t at) (sym e) ∙ field-split t at a (3 + b) (omega arith) ∙ ap (λ (n : ℕ). field t at a * 256 ^ (3 + b) + n) (field-split t (at + a) 3 b (omega arith)),
         field-bound t bytes 3 (at + a) (omega arith),
         field-bound t bytes b (at + a + 3) (omega arith),
@@ -125,7 +125,7 @@ module _ (t : Octets) (bytes : Bytes t) (whole : length t ≡ tableSize) (i : �
 
   -- entry k by the three bytes that hold it
   pub entry-three : (k : ℕ) → k < 4 →
-      let bits = field t (i * slotSize + 3 + 2 * k) 3 in
+      let bits = field t (i * slotSize + fieldsSize + 2 * k) 3 in
       (bits / 4 ^ (3 - k) / 65536 % 4 ≡ entryOf t i k .access) × (bits / 4 ^ (3 - k) % 65536 ≡ entryOf t i k .domain)
   unfolding entryOf entryAt bitsAt
   entry-three zero h = omega (arith, apart 0 6 refl)
@@ -135,10 +135,10 @@ module _ (t : Octets) (bytes : Bytes t) (whole : length t ≡ tableSize) (i : �
   entry-three (suc (suc (suc (suc k)))) h = absurd (omega arith)
 
   -- the same, as the code has it where its k is n
-  pub entry-read : (k n : ℕ) → k ≡ n → n < 4 → (b a d : ℕ) → b ≡ field t (i * slotSize + 3 + 2 * k) 3 →
+  pub entry-read : (k n : ℕ) → k ≡ n → n < 4 → (b a d : ℕ) → b ≡ field t (i * slotSize + fieldsSize + 2 * k) 3 →
       a ≡ b / 4 ^ (3 - n) / 65536 % 4 → d ≡ b / 4 ^ (3 - n) % 65536 →
       (a ≡ entryOf t i k .access) × (d ≡ entryOf t i k .domain)
   entry-read k n e h b a d hb ha hd =
-      let hn : b ≡ field t (i * slotSize + 3 + 2 * n) 3 = rw e at hb in
+      let hn : b ≡ field t (i * slotSize + fieldsSize + 2 * n) 3 = rw e at hb in
       rw e
       (ha ∙ ap (λ (m : ℕ). m / 4 ^ (3 - n) / 65536 % 4) hn ∙ entry-three n h .0, hd ∙ ap (λ (m : ℕ). m / 4 ^ (3 - n) % 65536) hn ∙ entry-three n h .1)

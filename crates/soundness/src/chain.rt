@@ -14,7 +14,7 @@ ghost use Rattle.soundness.specs.Parts.{every};
 ghost use Rattle.soundness.specs.Walks.{Short, Lent, Walked, chained};
 use crate::answer::Walk;
 use octets::parts::copy;
-use slots::fields::SLOTS;
+use octets::sizes::SLOTS;
 use slots::fields::name;
 use slots::fields::parent;
 use slots::fields::used;

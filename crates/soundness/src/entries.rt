@@ -6,7 +6,7 @@ ghost use lib.Dec.{eqb};
 ghost use lib.ListN.{length, getD};
 ghost use Rattle.rules.specs.Octets.{field};
 ghost use Rattle.soundness.specs.Parts.{Used, sized, keptEntries, lowDomains};
-use slots::fields::SLOT_SIZE;
+use octets::sizes::SLOT_SIZE;
 use slots::fields::entry_count;
 
 const LAST_DOMAIN: u64 = 32751;

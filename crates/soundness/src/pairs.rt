@@ -12,7 +12,7 @@ ghost use Rattle.slots.specs.Slot.{slotAt, isUsed};
 ghost use Rattle.soundness.specs.Keys.{digestOf, hasKey, keyOf, mayClash, placeOf};
 ghost use Rattle.soundness.specs.Walks.{Short};
 use octets::compare::same;
-use slots::fields::SLOTS;
+use octets::sizes::SLOTS;
 use slots::fields::name;
 use slots::fields::parent;
 use slots::fields::used;

@@ -9,7 +9,7 @@ ghost use Rattle.soundness.specs.Parts.{Used, sized, zeroBehind, halfNam
 use crate::entries::kept_entries;
 use octets::compare::all_zero;
 use octets::compare::rest_zero;
-use slots::fields::SLOT_SIZE;
+use octets::sizes::SLOT_SIZE;
 use slots::fields::entry_count;
 use slots::fields::name_length;
 use slots::fields::used;

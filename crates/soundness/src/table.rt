@@ -10,7 +10,7 @@ ghost use Rattle.soundness.specs.Parts.{Used, goodSlot, every};
 use crate::chain::all_chained;
 use crate::pairs::all_distinct;
 use crate::slot::good_slot;
-use slots::fields::SLOTS;
+use octets::sizes::SLOTS;
 use slots::fields::entry_at;
 use slots::fields::parent;
 

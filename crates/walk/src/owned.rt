@@ -11,10 +11,12 @@ ghost use Rattle.lookup.specs.Rights.{Asked};
 ghost use Rattle.lookup.specs.Children.{AllAsked};
 ghost use Rattle.walk.specs.Walk.{ownedAmong, Entered, Owned};
 use lookup::children::children;
+use octets::sizes::DEEPEST;
+use octets::sizes::SLOTS;
 use slots::fields::entry_at;
 
 // The deepest level of a path, and the root's.
-const LEVELS: usize = 9;
+const LEVELS: usize = DEEPEST + 1;
 
 // Enters, from place n on, the topmost of slot i and the levels below it that a domain owns; answers the place behind them.
 fn visit(t: &[u8], domain: u32, i: usize, depth: usize, out: &mut [u8], n: usize) -> usize
@@ -28,7 +30,7 @@ fn visit(t: &[u8], domain: u32, i: usize, depth: usize, out: &mut [u8], n: usize
         out[n] = (i % 256) as u8;
         return n + 1;
     }
-    let mut list = [0u8; 128];
+    let mut list = [0u8; SLOTS];
     let count = children(t, i, &mut list);
     visit_list(t, domain, &list, count, 0, depth - 1, out, n)
 }

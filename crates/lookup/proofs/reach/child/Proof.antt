@@ -3,6 +3,7 @@ use Prim.Native.Nat.{_≤_, _-_}
 use native.Mathlib.Omega.{arith}
 use borrow.Author.Needs.{needs}
 use lib.ListN.{drop}
+use Rattle.rules.specs.Size.{slots}
 use Rattle.rules.specs.Node.{child, childFrom}
 use Rattle.rules.specs.Layout.{tableOf}
 use Rattle.rules.proofs.Slots.{length-tableOf}
@@ -11,10 +12,10 @@ use Rattle.lookup.proofs.reach.child.Statement.{statement}
 use Rattle.lookup.proofs.reach.child.Tie as tie
 
 abbrev Inv-loop : tie.InvT-loop
-Inv-loop t p n i₀ i = (i ≤ 128) × (child (tableOf t) p n ≡ childFrom p n i (drop i (tableOf t)))
+Inv-loop t p n i₀ i = (i ≤ slots) × (child (tableOf t) p n ≡ childFrom p n i (drop i (tableOf t)))
 
 abbrev μ-loop : tie.MeasureT-loop
-μ-loop t p n i₀ i = 128 - i
+μ-loop t p n i₀ i = slots - i
 
 loop-holds : tie.Need-loop-holds Inv-loop μ-loop
 unfolding child

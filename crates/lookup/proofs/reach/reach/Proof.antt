@@ -6,6 +6,7 @@ use borrow.Author.Needs.{needs}
 use mathlib.Core.Option.{some, none}
 use mathlib.Core.List.{[]}
 use lib.ListN.{length, take, drop}
+use Rattle.rules.specs.Size.{slots}
 use Rattle.rules.specs.Path.{Names, allNames, namesIn}
 use Rattle.rules.specs.Node.{child, Reached, reach, reachFrom}
 use Rattle.rules.specs.Layout.{tableOf}
@@ -23,7 +24,7 @@ use Rattle.lookup.proofs.reach.reach.Tie as tie
 
 abbrev Inv-loop : tie.InvT-loop
 Inv-loop t path slot₀ at₀ slot at =
-    (slot < 128) × (isUsed (slotAt t slot) ≡ true) × (allNames (leftAt path at) ≡ true) × (reach (tableOf t) (namesIn path) ≡ reachFrom (leftAt path at) (tableOf t) slot)
+    (slot < slots) × (isUsed (slotAt t slot) ≡ true) × (allNames (leftAt path at) ≡ true) × (reach (tableOf t) (namesIn path) ≡ reachFrom (leftAt path at) (tableOf t) slot)
 
 abbrev μ-loop : tie.MeasureT-loop
 μ-loop t path slot₀ at₀ slot at = length path - at

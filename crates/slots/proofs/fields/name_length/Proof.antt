@@ -1,4 +1,5 @@
 use Prim.Native.Nat.{_+_, _*_}
+use Rattle.rules.specs.Size.{slotSize}
 use Rattle.slots.proofs.Reading.{known, name-length-byte}
 use native.Mathlib.Omega.{arith}
 use borrow.Author.Needs.{needs}
@@ -15,7 +16,7 @@ shared-slice-read-result : tie.Need-shared-slice-read-result
 shared-slice-read-result c = search needs
 
 cast-result : tie.Need-cast-result
-cast-result c = omega (arith, c .shared-slice-known .given (c .before .args .i * 108 + 1))
+cast-result c = omega (arith, c .shared-slice-known .given (c .before .args .i * slotSize + 1))
 
 returns : tie.Need-returns
 returns c = name-length-byte (c .before .args .t .now) (known (c .before .args .t .now) (c .shared-slice-known .given)) (c .before .pre .1) _ (c .before .pre .0)

@@ -1,4 +1,5 @@
 use Prim.Native.Nat.{_+_, _*_}
+use Rattle.rules.specs.Size.{slotSize}
 use Rattle.slots.proofs.Reading.{known, value-length-bytes}
 use native.Mathlib.Omega.{arith}
 use borrow.Author.Needs.{needs}
@@ -27,13 +28,13 @@ shared-slice-read-low : tie.Need-shared-slice-read-low
 shared-slice-read-low c = search needs
 
 cast-low : tie.Need-cast-low
-cast-low c = omega (arith, c .shared-slice-known2 .given (c .before .before .args .i * 108 + 2))
+cast-low c = omega (arith, c .shared-slice-known2 .given (c .before .before .args .i * slotSize + 2))
 
 mul-result : tie.Need-mul-result
 mul-result c = search needs
 
 add-result : tie.Need-add-result
-add-result c = omega (arith, c .shared-slice-known2 .given (c .before .before .args .i * 108 + 2))
+add-result c = omega (arith, c .shared-slice-known2 .given (c .before .before .args .i * slotSize + 2))
 
 returns : tie.Need-returns
 returns c = value-length-bytes (c .before .before .args .t .now) (known (c .before .before .args .t .now) (c .shared-slice-known2 .given)) (c .before .before .pre .1) _ (c .before .before .pre .0)

@@ -1,5 +1,6 @@
 use Prim.Native.Nat.{_+_, _*_}
 use borrow.Author.Needs.{needs}
+use Rattle.rules.specs.Size.{slotSize, fieldsSize}
 use Rattle.rules.proofs.Fitting.{decoded-fits, nodeAt-fits}
 use Rattle.rules.specs.Layout.{tableOf}
 use Rattle.rules.specs.Node.{nodeAt, heir}
@@ -42,7 +43,7 @@ returns c =
     let d = b .args .domain in
     let n = nodeAt (tableOf (b .args .t .now)) (b .args .parent) in
     let f = nodeAt-fits (tableOf (b .args .t .now)) (b .args .parent) (decoded-fits (b .args .t .now) .all) in
-    entries-at (b .args .i * 108 + 3) (b .args .t .now) (heir d (n .owner)) (n .others) (f .few)
+    entries-at (b .args .i * slotSize + fieldsSize) (b .args .t .now) (heir d (n .owner)) (n .others) (f .few)
     (heir-number (n .owner) (n .others) d (f .owner .domain) (q .before .entry-number .ensures .0) (q .inherited .ensures .0))
     (heir-other (n .owner) (n .others) d 0 (p .before .before .before .before .entry-number2 .ensures .0))
     (heir-other (n .owner) (n .others) d 1 (p .before .before .entry-number3 .ensures .0))
