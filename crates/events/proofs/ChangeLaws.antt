@@ -7,7 +7,7 @@ use native.Mathlib.Numerals.{add-one}
 use native.Mathlib.Omega.{arith}
 use lib.ListN.{length, getD, take, length-append, length-map, List·getD-map}
 use lib.Seq.{take-suc, take-all, getD-take, length-take-le}
-use Rattle.rules.specs.Size.{eventsSize}
+use Rattle.rules.specs.Size.{eventsSize, longestPath}
 use Rattle.rules.specs.Octets.{Octets}
 use Rattle.rules.specs.Path.{isFull, namesIn, pathText}
 use Rattle.rules.specs.Node.{Table, pathOf}
@@ -87,7 +87,7 @@ pub has-change : {s : Octets} {k j count : ℕ} → OpenTransaction s k → coun
 has-change o e h = record { place = o; there = omega (arith, e) }
 
 module _ (s : Octets) (k j : ℕ) (h : HasChange s k j) (p : Octets) (e : p ≡ pathText (changeOf s k j .names)) where
-  pub change-short : length p ≤ 264
+  pub change-short : length p ≤ longestPath
   change-short = rw e (change-fits s k j h .short)
 
   long-enough : length (pathText (changeOf s k j .names)) ≤ 3072

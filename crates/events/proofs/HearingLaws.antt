@@ -8,7 +8,7 @@ use native.Mathlib.Omega.{arith}
 use lib.ListN.{length, getD}
 use lib.Dec.{leb}
 use borrow.Author.Tests.{not-false}
-use Rattle.rules.specs.Size.{mostWatches}
+use Rattle.rules.specs.Size.{mostWatches, longestPath}
 use Rattle.rules.specs.Octets.{Octets, same, text}
 use Rattle.rules.specs.Entries.{isEmpty}
 use Rattle.rules.specs.Path.{Domain, Names, isFull, namesIn, slashed, pathText, beyond, special, given, introduceName, releaseName}
@@ -154,7 +154,7 @@ module _ (s : Octets) (k : ℕ) (h : TakenWatch s k) (own : Octets) (o : own ≡
   place-fits : (w .place ≡ event [] → ⊥) → PlaceFits (w .place)
   place-fits = rw (is-read s k (h .below) (h .used)) (watch-decoded _ _ .place)
 
-  pub own-short : length own ≤ 264
+  pub own-short : length own ≤ longestPath
   own-short = rw (o, is-read s k (h .below) (h .used)) (read-narrow _ _ .path)
 
   -- the place of a watch whose text begins with a slash is a full path

@@ -6,6 +6,7 @@ use Prim.Native.Nat.{ℕ, _+_, _*_, _-_, _/_, _%_, _≤_}
 use native.Mathlib.Nat.{add-zero}
 use native.Mathlib.Omega.{arith}
 use lib.ListN.{length, set, replicate, length-append}
+use Rattle.rules.specs.Size.{longestPath, recordPathAt, recordSize}
 use Rattle.rules.specs.Octets.{Octets, _bits_, pack, packFrom, bigEndian, padded, paste}
 use Rattle.rules.specs.Event.{Record, kept}
 use Rattle.rules.specs.Layout.{maskBits, recordBytes}
@@ -24,7 +25,7 @@ use Rattle.events.proofs.MaskLaws.{pack-append, empty-mask, some-mask}
 abbrev pub fourOf : ℕ → ℕ → Octets
 fourOf mask size = (mask / 256 % 256) ∷ (mask % 256) ∷ (size / 2 % 256) ∷ (size % 2 * 128) ∷ []
 
-four : (mask size : ℕ) → size ≤ 264 → bigEndian 4 (packFrom mask (9 bits size ∷ 7 bits 0 ∷ [])) ≡ fourOf mask size
+four : (mask size : ℕ) → size ≤ longestPath → bigEndian recordPathAt (packFrom mask (9 bits size ∷ 7 bits 0 ∷ [])) ≡ fourOf mask size
 unfolding bigEndian packFrom
 four mask size h =
     let n = packFrom mask (9 bits size ∷ 7 bits 0 ∷ []) in
@@ -34,67 +35,67 @@ four mask size h =
     let d : n % 256 ≡ size % 2 * 128 = omega arith in
     λ i. a i ∷ b i ∷ c i ∷ d i ∷ []
 
-module _ (m : List Bool) (p : Octets) (short : length p ≤ 264) where
-  pub record-parts : (mask : ℕ) → Mask m mask → recordBytes (recordOf m p) ≡ fourOf mask (length p) ++ padded 264 p
+module _ (m : List Bool) (p : Octets) (short : length p ≤ longestPath) where
+  pub record-parts : (mask : ℕ) → Mask m mask → recordBytes (recordOf m p) ≡ fourOf mask (length p) ++ padded longestPath p
   unfolding recordBytes pack
   record-parts mask f =
-      ap (λ (n : ℕ). bigEndian 4 n ++ padded 264 p) (pack-append 0 (maskBits m) (9 bits length p ∷ 7 bits 0 ∷ []) ∙ ap (λ (n : ℕ). packFrom n (9 bits length p ∷ 7 bits 0 ∷ [])) (sym (f .value)))
-      ∙ ap (λ (l : Octets). l ++ padded 264 p) (four mask (length p) short)
+      ap (λ (n : ℕ). bigEndian recordPathAt n ++ padded longestPath p) (pack-append 0 (maskBits m) (9 bits length p ∷ 7 bits 0 ∷ []) ∙ ap (λ (n : ℕ). packFrom n (9 bits length p ∷ 7 bits 0 ∷ [])) (sym (f .value)))
+      ∙ ap (λ (l : Octets). l ++ padded longestPath p) (four mask (length p) short)
 
-  pub record-wide : (mask : ℕ) → Mask m mask → length (recordBytes (recordOf m p)) ≡ 268
-  record-wide mask f = ap length (record-parts mask f) ∙ length-append (fourOf mask (length p)) (padded 264 p) ∙ ap (λ (n : ℕ). 4 + n) (length-padded 264 p short)
+  pub record-wide : (mask : ℕ) → Mask m mask → length (recordBytes (recordOf m p)) ≡ recordSize
+  record-wide mask f = ap length (record-parts mask f) ∙ length-append (fourOf mask (length p)) (padded longestPath p) ∙ ap (λ (n : ℕ). recordPathAt + n) (length-padded longestPath p short)
 
 -- ── records behind others ──
 
 pub recorded-none : (n : ℕ) (l : Octets) → Recorded n [] l l n
 unfolding flatMap
-recorded-none n l = record { bytes = sym (paste-nil (n * 268) l); count = sym (add-zero n); wide = refl }
+recorded-none n l = record { bytes = sym (paste-nil (n * recordSize) l); count = sym (add-zero n); wide = refl }
 
-pub recorded-one : (n : ℕ) (x : Record) (before after : Octets) → length (recordBytes x) ≡ 268 → after ≡ paste (n * 268) (recordBytes x) before → Recorded n (x ∷ []) before after (n + 1)
+pub recorded-one : (n : ℕ) (x : Record) (before after : Octets) → length (recordBytes x) ≡ recordSize → after ≡ paste (n * recordSize) (recordBytes x) before → Recorded n (x ∷ []) before after (n + 1)
 unfolding flatMap
 recorded-one n x before after w e =
     record {
-      bytes = e ∙ ap (λ (b : Octets). paste (n * 268) b before) (sym (append-nil (recordBytes x)));
+      bytes = e ∙ ap (λ (b : Octets). paste (n * recordSize) b before) (sym (append-nil (recordBytes x)));
       count = refl;
       wide = ap length (append-nil (recordBytes x)) ∙ w;
     }
 
 -- some records, and then more
-pub recorded-more : (n : ℕ) (xs ys : List Record) (before middle after : Octets) (r q : ℕ) → n * 268 ≤ length before → Recorded n xs before middle r → Recorded r ys middle after q → Recorded n (xs ++ ys) before after q
+pub recorded-more : (n : ℕ) (xs ys : List Record) (before middle after : Octets) (r q : ℕ) → n * recordSize ≤ length before → Recorded n xs before middle r → Recorded r ys middle after q → Recorded n (xs ++ ys) before after q
 recorded-more n xs ys before middle after r q h f g =
     let a = flatMap recordBytes xs in
     let b = flatMap recordBytes ys in
-    let at : r * 268 ≡ n * 268 + length a = ap (λ (k : ℕ). k * 268) (f .count) ∙ (let e : (n + length xs) * 268 ≡ n * 268 + length xs * 268 = omega arith in e) ∙ ap (λ (k : ℕ). n * 268 + k) (sym (f .wide)) in
+    let at : r * recordSize ≡ n * recordSize + length a = ap (λ (k : ℕ). k * recordSize) (f .count) ∙ (let e : (n + length xs) * recordSize ≡ n * recordSize + length xs * recordSize = omega arith in e) ∙ ap (λ (k : ℕ). n * recordSize + k) (sym (f .wide)) in
     let joined : flatMap recordBytes (xs ++ ys) ≡ a ++ b = flat-append recordBytes xs ys in
     let long = length-append xs ys in
     record {
-      bytes = g .bytes ∙ ap (paste (r * 268) b) (f .bytes) ∙ paste-behind (n * 268) (r * 268) a b before h at ∙ ap (λ (l : Octets). paste (n * 268) l before) (sym joined);
+      bytes = g .bytes ∙ ap (paste (r * recordSize) b) (f .bytes) ∙ paste-behind (n * recordSize) (r * recordSize) a b before h at ∙ ap (λ (l : Octets). paste (n * recordSize) l before) (sym joined);
       count = omega (arith, f .count, g .count);
-      wide = ap length joined ∙ length-append a b ∙ ap₂ _+_ (f .wide) (g .wide) ∙ (let e : length xs * 268 + length ys * 268 ≡ length (xs ++ ys) * 268 = omega arith in e);
+      wide = ap length joined ∙ length-append a b ∙ ap₂ _+_ (f .wide) (g .wide) ∙ (let e : length xs * recordSize + length ys * recordSize ≡ length (xs ++ ys) * recordSize = omega arith in e);
     }
 
 -- the buffer keeps its length
-pub recorded-length : (n : ℕ) (xs : List Record) (before after : Octets) (r : ℕ) → (n + length xs) * 268 ≤ length before → Recorded n xs before after r → length after ≡ length before
-recorded-length n xs before after r h f = ap length (f .bytes) ∙ length-paste (n * 268) (flatMap recordBytes xs) before (omega (arith, f .wide))
+pub recorded-length : (n : ℕ) (xs : List Record) (before after : Octets) (r : ℕ) → (n + length xs) * recordSize ≤ length before → Recorded n xs before after r → length after ≡ length before
+recorded-length n xs before after r h f = ap length (f .bytes) ∙ length-paste (n * recordSize) (flatMap recordBytes xs) before (omega (arith, f .wide))
 
 -- ── what the code puts ──
 
-module _ (events p : Octets) (n mask : ℕ) (room : Room events n 1) (short : length p ≤ 264) (m : List Bool) (f : Mask m mask) where
+module _ (events p : Octets) (n mask : ℕ) (room : Room events n 1) (short : length p ≤ longestPath) (m : List Bool) (f : Mask m mask) where
   -- four stores, after the path and the zeros behind it
-  pub put-record : (l : Octets) → l ≡ paste (n * 268 + 4) p (paste (n * 268 + 4 + length p) (replicate (264 - length p) 0) events) →
-      Recorded n (recordOf m p ∷ []) events (set (set (set (set l (n * 268) (mask / 256 % 256)) (n * 268 + 1) (mask % 256)) (n * 268 + 2) (length p / 2 % 256)) (n * 268 + 3) (length p % 2 * 128)) (n + 1)
+  pub put-record : (l : Octets) → l ≡ paste (n * recordSize + recordPathAt) p (paste (n * recordSize + recordPathAt + length p) (replicate (longestPath - length p) 0) events) →
+      Recorded n (recordOf m p ∷ []) events (set (set (set (set l (n * recordSize) (mask / 256 % 256)) (n * recordSize + 1) (mask % 256)) (n * recordSize + 2) (length p / 2 % 256)) (n * recordSize + 3) (length p % 2 * 128)) (n + 1)
   unfolding padded
   put-record l e =
-      let at = n * 268 in
+      let at = n * recordSize in
       let w = room .whole in
       let k = room .few in
-      let pad : l ≡ paste (at + 4) (padded 264 p) events = e ∙ sym (paste-append (at + 4) p (replicate (264 - length p) 0) events (omega arith)) in
-      let wide = length-padded 264 p short in
-      let long : length l ≡ length events = ap length pad ∙ length-paste (at + 4) (padded 264 p) events (rw wide (omega arith)) in
+      let pad : l ≡ paste (at + recordPathAt) (padded longestPath p) events = e ∙ sym (paste-append (at + recordPathAt) p (replicate (longestPath - length p) 0) events (omega arith)) in
+      let wide = length-padded longestPath p short in
+      let long : length l ≡ length events = ap length pad ∙ length-paste (at + recordPathAt) (padded longestPath p) events (rw wide (omega arith)) in
       recorded-one n (recordOf m p) events _ (record-wide m p short mask f)
       (paste-four at _ _ _ _ l (omega arith)
       ∙ ap (paste at (fourOf mask (length p))) pad
-      ∙ sym (paste-append at (fourOf mask (length p)) (padded 264 p) events (omega arith))
+      ∙ sym (paste-append at (fourOf mask (length p)) (padded longestPath p) events (omega arith))
       ∙ ap (λ (b : Octets). paste at b events) (sym (record-parts m p short mask f)))
 
 module _ (n : ℕ) (p before : Octets) (m : List Bool) (mask : ℕ) (f : Mask m mask) where

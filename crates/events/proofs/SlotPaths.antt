@@ -8,6 +8,7 @@ use native.Mathlib.Omega.{arith}
 use lib.Dec.{eqb}
 use lib.ListN.{length, getD}
 use borrow.Author.Tests.{eqb-false}
+use Rattle.rules.specs.Size.{longestPath}
 use Rattle.rules.specs.Octets.{Octets}
 use Rattle.rules.specs.Path.{Names, isName, allNames, isFull, namesIn, pathText}
 use Rattle.rules.specs.Node.{Node, Table, nodeAt, pathUp, pathOf}
@@ -51,16 +52,16 @@ module _ (t : Octets) (i : ℕ) (a : Asked t i) where
   unfolding pathOf allNames
   slot-names = up-names (tableOf t) (good-table t (a .sound)) 8 i [] (used-reaches t (a .sound) i (a .used)) refl
 
-  slot-short : length (pathText (pathOf (tableOf t) i)) ≤ 264
+  slot-short : length (pathText (pathOf (tableOf t) i)) ≤ longestPath
   unfolding pathOf pathUp pathText
   slot-short = go i refl
     where
-      go : (j : ℕ) → i ≡ j → length (pathText (pathOf (tableOf t) i)) ≤ 264
+      go : (j : ℕ) → i ≡ j → length (pathText (pathOf (tableOf t) i)) ≤ longestPath
       go zero e = rw e (omega arith)
       go (suc j) e = rw (path-text t i (λ z. omega (arith, z))) (text-bound 8 t i)
 
   -- put at the front of a buffer
-  pub slot-within : 0 + length (pathText (pathOf (tableOf t) i)) ≤ 264
+  pub slot-within : 0 + length (pathText (pathOf (tableOf t) i)) ≤ longestPath
   slot-within = omega (arith, slot-short)
 
   pub slot-full : isFull (pathText (pathOf (tableOf t) i)) ≡ true

@@ -37,8 +37,8 @@ unfolding soundCopy
 copy-open x copy t = rw (taken-some (opened 0) x t)
 
 -- copy k, as the code takes it
-pub copy-part : (copies : Octets) (k : ℕ) → soundTable (take (k * 13824 + 13824 - k * 13824) (drop (k * 13824) copies)) ≡ soundTable (take tableSize (drop (k * tableSize) copies))
-copy-part copies k = ap (λ (n : ℕ). soundTable (take n (drop (k * 13824) copies))) (add-sub-cancel-left (k * 13824) 13824)
+pub copy-part : (copies : Octets) (k : ℕ) → soundTable (take (k * tableSize + tableSize - k * tableSize) (drop (k * tableSize) copies)) ≡ soundTable (take tableSize (drop (k * tableSize) copies))
+copy-part copies k = ap (λ (n : ℕ). soundTable (take n (drop (k * tableSize) copies))) (add-sub-cancel-left (k * tableSize) tableSize)
 
 copies-cons : (x : Option Transaction) (copy : Octets) (xs : Transactions) (copies : List Octets) → soundCopies (x ∷ xs) (copy ∷ copies) ≡ (soundCopy x copy && soundCopies xs copies)
 unfolding soundCopies soundCopy

@@ -8,7 +8,7 @@ use native.Mathlib.Nat.{zero-mul, suc-mul, add-comm}
 use lib.ListN.{length, set, replicate, length-replicate, replicate-append-replicate}
 use lib.Dec.{eqb}
 use borrow.Author.Tests.{eqb-true}
-use Rattle.rules.specs.Size.{tableSize, copiesSize, watchesSize, transactionsSize, domainsSize, watchSize, transactionSize, domainSize}
+use Rattle.rules.specs.Size.{tableSize, copiesSize, watchesSize, transactionsSize, domainsSize, watchSize, transactionSize, domainSize, slots, slotSize}
 use Rattle.rules.specs.Octets.{Octets, paste, padded, bigEndian, packFrom, pack}
 use Rattle.rules.specs.Node.{root, freshTable}
 use Rattle.rules.specs.Layout.{entryBits, nodeBits, slotBytes, tableBytes, domainBytes, domainsBytes, watchBytes, watchesBytes, transactionBytes, transactionsBytes}
@@ -37,12 +37,12 @@ root-bytes : slotBytes (some root) ≡ 128 ∷ 0 ∷ 1 ∷ replicate 105 0
 unfolding slotBytes root nodeBits entryBits pack packFrom bigEndian padded
 root-bytes = refl
 
-fresh-bytes : tableBytes freshTable ≡ 128 ∷ 0 ∷ 1 ∷ replicate (105 + 127 * 108) 0
+fresh-bytes : tableBytes freshTable ≡ 128 ∷ 0 ∷ 1 ∷ replicate (slotSize - 3 + (slots - 1) * slotSize) 0
 unfolding flatMap tableBytes freshTable slotBytes
 fresh-bytes =
-    ap (λ (l : Octets). slotBytes (some root) ++ l) (zeros slotBytes none 108 refl 127)
-    ∙ ap (λ (l : Octets). l ++ replicate (127 * 108) 0) root-bytes
-    ∙ ap (λ (l : Octets). 128 ∷ 0 ∷ 1 ∷ l) (replicate-append-replicate 105 (127 * 108) 0)
+    ap (λ (l : Octets). slotBytes (some root) ++ l) (zeros slotBytes none slotSize refl (slots - 1))
+    ∙ ap (λ (l : Octets). l ++ replicate ((slots - 1) * slotSize) 0) root-bytes
+    ∙ ap (λ (l : Octets). 128 ∷ 0 ∷ 1 ∷ l) (replicate-append-replicate (slotSize - 3) ((slots - 1) * slotSize) 0)
 
 marked : (m : ℕ) (l : Octets) → l ≡ replicate (suc (suc (suc m))) 0 → set (set l 0 128) 2 1 ≡ 128 ∷ 0 ∷ 1 ∷ replicate m 0
 marked m l e = rw e refl

@@ -11,12 +11,14 @@ ghost use Rattle.rules.specs.Call.{callNumber, sizedTables, sound, frameVerdict
 ghost use Rattle.tables.specs.Entries.{soundCopies};
 ghost use Rattle.haabuvilk.specs.Lent.{lent};
 ghost use Rattle.haabuvilk.specs.Checks.{soundCopy};
-use crate::sizes::EVENTS_SIZE;
-use crate::sizes::NODES_SIZE;
-use crate::sizes::REPLY_SIZE;
 use crate::sizes::sized_tables;
 use octets::numbers::number32;
+use octets::sizes::EVENTS_SIZE;
 use octets::sizes::HEADER_SIZE;
+use octets::sizes::LEN_AT;
+use octets::sizes::LONGEST_PAYLOAD;
+use octets::sizes::REPLY_SIZE;
+use octets::sizes::TABLE_SIZE;
 use soundness::table::sound;
 use tables::domains::known;
 use tables::domains::sound_domains;
@@ -24,8 +26,6 @@ use tables::transaction_soundness::sound_entries;
 use tables::transactions::TRANSACTIONS;
 use tables::transactions::is_open;
 use tables::watch_soundness::sound_watches;
-
-const LONGEST_PAYLOAD: u32 = 4096;
 
 // Whether transaction k is closed or its copy a sound node table.
 fn sound_copy(copies: &[u8], transactions: &[u8], k: usize) -> bool
@@ -36,8 +36,8 @@ fn sound_copy(copies: &[u8], transactions: &[u8], k: usize) -> bool
     if !is_open(transactions, k) {
         return true;
     }
-    let at = k * NODES_SIZE;
-    sound(&copies[at..at + NODES_SIZE])
+    let at = k * TABLE_SIZE;
+    sound(&copies[at..at + TABLE_SIZE])
 }
 
 // Whether the copy of each open transaction is a sound node table.
@@ -90,8 +90,8 @@ fn frame(message: &[u8]) -> u32
     if n < HEADER_SIZE {
         return 4;
     }
-    let len = number32(message, 12);
-    if LONGEST_PAYLOAD < len {
+    let len = number32(message, LEN_AT);
+    if (LONGEST_PAYLOAD as u32) < len {
         return 5;
     }
     if n == HEADER_SIZE + len as usize {

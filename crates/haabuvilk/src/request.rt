@@ -3,6 +3,7 @@ ghost use Rattle.haabuvilk.specs.Lent.{lent, requested, RequestMeets};
 use crate::checks::verdict;
 use octets::numbers::number32;
 use octets::sizes::HEADER_SIZE;
+use octets::sizes::TX_AT;
 use replies::frame::framed;
 use requests::handle::handle;
 
@@ -49,7 +50,7 @@ pub extern "C" fn haabuvilk_request(
         return v;
     }
     let kind = number32(message, 0);
-    let tx = number32(message, 8);
+    let tx = number32(message, TX_AT);
     let o = handle(
         nodes,
         copies,

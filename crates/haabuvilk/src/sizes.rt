@@ -3,22 +3,13 @@ ghost use mathlib.Core.Path.{_≡_};
 ghost use Rattle.rules.specs.Call.{sizedTables};
 ghost use Rattle.rules.specs.Message.{sizedMessage};
 ghost use Rattle.haabuvilk.specs.Lent.{lent};
-
-pub const NODES_SIZE: usize = 13824;
-
-const COPIES_SIZE: usize = 41472;
-
-const WATCHES_SIZE: usize = 4832;
-
-const TRANSACTIONS_SIZE: usize = 6393;
-
-const DOMAINS_SIZE: usize = 24;
-
-pub const REPLY_SIZE: usize = 4112;
-
-pub const EVENTS_SIZE: usize = 34304;
-
-const MESSAGE_SIZE: usize = 314;
+use octets::sizes::COPIES_SIZE;
+use octets::sizes::DOMAINS_SIZE;
+use octets::sizes::EVENTS_SIZE;
+use octets::sizes::MESSAGE_SIZE;
+use octets::sizes::TABLE_SIZE;
+use octets::sizes::TRANSACTIONS_SIZE;
+use octets::sizes::WATCHES_SIZE;
 
 // Whether each of the five tables has its size.
 pub fn sized_tables(
@@ -31,7 +22,7 @@ pub fn sized_tables(
     ensures { λ r. ⌜ r ≡ sizedTables
         (lent (now (nodes .entry)) (now (copies .entry)) (now (watches .entry)) (now (transactions .entry)) (now (domains .entry))) ⌝ }
 {
-    if nodes.len() != NODES_SIZE {
+    if nodes.len() != TABLE_SIZE {
         return false;
     }
     if copies.len() != COPIES_SIZE {

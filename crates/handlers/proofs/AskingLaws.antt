@@ -10,7 +10,7 @@ use lib.ListN.{length, take, drop, set, getD}
 use lib.Seq.{length-take-le, take-at, drop-at, drop-drop}
 use borrow.Author.Tests.{lt-ltb, le-ltb}
 use borrow.Rule.Slice.PartMut.{putMid, post-is}
-use Rattle.rules.specs.Size.{replySize, tableSize, mostTransactions, mostChanges}
+use Rattle.rules.specs.Size.{replySize, tableSize, mostTransactions, mostChanges, headerSize}
 use Rattle.rules.specs.Octets.{Octets, text, nul, chunks, paste}
 use Rattle.rules.specs.Domain.{Domain}
 use Rattle.rules.specs.Path.{namesIn}
@@ -63,17 +63,17 @@ paste-over i x y l h k =
     rw (take-at p (x ++ q) i n, d) refl
 
 -- copy k, as a part of the copies
-pub copy-part : (cs : Octets) (k : ℕ) → take (k * 13824 + 13824 - k * 13824) (drop (k * 13824) cs) ≡ copyIn cs k
-copy-part cs k = ap (λ (n : ℕ). take n (drop (k * 13824) cs)) (add-sub-cancel-left (k * 13824) 13824)
+pub copy-part : (cs : Octets) (k : ℕ) → take (k * tableSize + tableSize - k * tableSize) (drop (k * tableSize) cs) ≡ copyIn cs k
+copy-part cs k = ap (λ (n : ℕ). take n (drop (k * tableSize) cs)) (add-sub-cancel-left (k * tableSize) tableSize)
 
 -- the copies, with another table in its place
-part-put : (cs t : Octets) (k : ℕ) → length t ≡ tableSize → putMid (k * 13824) (k * 13824 + 13824 - k * 13824) cs t ≡ paste (k * 13824) t cs
+part-put : (cs t : Octets) (k : ℕ) → length t ≡ tableSize → putMid (k * tableSize) (k * tableSize + tableSize - k * tableSize) cs t ≡ paste (k * tableSize) t cs
 unfolding paste
 part-put cs t k l =
-    ap (λ (x : Octets). take (k * 13824) cs ++ (t ++ x)) (post-is (k * 13824) (k * 13824 + 13824) cs (omega arith) ∙ ap (λ (n : ℕ). drop (k * 13824 + n) cs) (sym l))
+    ap (λ (x : Octets). take (k * tableSize) cs ++ (t ++ x)) (post-is (k * tableSize) (k * tableSize + tableSize) cs (omega arith) ∙ ap (λ (n : ℕ). drop (k * tableSize + n) cs) (sym l))
 
 -- as the rule book has it
-pub copy-of : (w : World) (cs : Octets) (k : ℕ) → w .copies ≡ chunks mostTransactions tableSize cs → k < 3 → copyOf w k ≡ tableOf (copyIn cs k)
+pub copy-of : (w : World) (cs : Octets) (k : ℕ) → w .copies ≡ chunks mostTransactions tableSize cs → k < mostTransactions → copyOf w k ≡ tableOf (copyIn cs k)
 unfolding copyOf
 copy-of w cs k e h = ap (λ (x : List Octets). tableOf (getD x k [])) e ∙ ap tableOf (sym (ap (λ (x : List Octets). getD x k []) (map-whole (chunks mostTransactions tableSize cs))) ∙ decoded-at whole mostTransactions tableSize k cs [] h)
 
@@ -81,12 +81,12 @@ copy-of w cs k e h = ap (λ (x : List Octets). tableOf (getD x k [])) e ∙ ap t
 
 pub replied : (a : A.Reply) (r : Reply) (before after : Octets) → Replies a r before after → Told a r before after
 replied (done s) r before after h = h
-replied (refused e) r before after h = (h .0, ap (paste 16 (errnoText e ++ nul)) (h .1))
+replied (refused e) r before after h = (h .0, ap (paste headerSize (errnoText e ++ nul)) (h .1))
 
 -- a reply that said `OK`, and is refused for want of space
 over-told : (r : Reply) (before after : Octets) → length before ≡ replySize → Replies OK r before after → Told (refused ENOSPC) (Refused NoSpace) before after
 unfolding OK text errnoText
-over-told r before after l h = (refl, ap (paste 16 (errnoText ENOSPC ++ nul)) (h .1) ∙ paste-over 16 _ _ before (omega arith) (rw l (omega arith)))
+over-told r before after l h = (refl, ap (paste headerSize (errnoText ENOSPC ++ nul)) (h .1) ∙ paste-over 16 _ _ before (omega arith) (rw l (omega arith)))
 
 -- ── a ninth change ──
 
@@ -169,7 +169,7 @@ module _ (cs xs : Octets) (k : ℕ) (reply : Octets) (s : InCopy cs xs k reply) 
 
   -- it has eight changes
   pub full-handled : (a : N.Table → A.Answer) → mostChanges ≤ length (transactionOf xs k .changes) → (events reply′ : Octets) (o : Outcome)
-      → Told (ninthReply (a (tableOf (take (k * 13824 + 13824 - k * 13824) (drop (k * 13824) cs))))) (o .reply) reply reply′ →
+      → Told (ninthReply (a (tableOf (take (k * tableSize + tableSize - k * tableSize) (drop (k * tableSize) cs))))) (o .reply) reply reply′ →
       o ≡ outcomeOf (o .reply) 0 → Handled (W.inside w k (transactionOf xs k) (a (copyOf w k))) (tables (itsNodes w) cs (itsWatches w) xs (itsDomains w)) reply reply′ events events o
   full-handled a many events reply′ o t p =
       done-so w _ reply o events (ninthReply (a (copyOf w k))) w reply′ (o .reply) _ (inside-full w k (transactionOf xs k) (a (copyOf w k)) many) p
@@ -187,7 +187,7 @@ module _ {d : Domain} {ask : Ask} {path v : Octets} {n : ℕ} {access domains : 
     module _ (w : World) (cw : w .copies ≡ chunks mostTransactions tableSize cs) (xw : w .transactions ≡ transactionsOf xs) (a : P.Ask) (is : Asks ask v n access domains a) (events : Octets)
         (o : Outcome) where
       abbrev cs′ : Octets
-      cs′ = putMid (k * 13824) (k * 13824 + 13824 - k * 13824) cs t′
+      cs′ = putMid (k * tableSize) (k * tableSize + tableSize - k * tableSize) cs t′
 
       long : length t′ ≡ tableSize
       long = left-sound q t (rw here (s .sound)) t′ (told (q .request) (q .asks) .table) .1
@@ -208,7 +208,7 @@ module _ {d : Domain} {ask : Ask} {path v : Octets} {n : ℕ} {access domains : 
           answered .table ∙ ap tableBytes (table-still d (namesIn path) (copyOf w k) a f ∙ copy-of w cs k cw (s .place .below)) ∙ sound-canonical (copyIn cs k) (s .sound) .kept in
           done-so w _ reply o events (z .reply) w reply′ (r .reply) _ (inside-still w k _ z f) p (replied (z .reply) (r .reply) reply reply′ (answered .reply))
           (same-tables refl
-          (part-put cs t′ k long ∙ ap (λ (y : Octets). paste (k * 13824) y cs) u ∙ paste-own (k * 13824) 13824 cs (omega (arith, s .whole, s .place .below)) ∙ copies-back cs xs k reply s w cw xw) refl
+          (part-put cs t′ k long ∙ ap (λ (y : Octets). paste (k * tableSize) y cs) u ∙ paste-own (k * tableSize) tableSize cs (omega (arith, s .whole, s .place .below)) ∙ copies-back cs xs k reply s w cw xw) refl
           (transactions-back cs xs k reply s w cw xw) refl)
 
       pub change-handled : (removed : Bool) → r .effect ≡ madeBy removed → length (transactionOf xs k .changes) < mostChanges → (xs′ : Octets) →

@@ -63,7 +63,7 @@ past-held s c zero h w e = absurd (omega arith)
 past-held s c (suc k) h w e =
     held-at w c k none (ap (λ (xs : Transactions). getD xs k none) e ∙ List·getD-eq-default (transactionsOf s) none (rw (three-transactions s) (omega arith)))
 
-module _ (s : Octets) (c : Connection) (k : ℕ) (kept : KeptTransactions s) (below : k < 3) where
+module _ (s : Octets) (c : Connection) (k : ℕ) (kept : KeptTransactions s) (below : k < mostTransactions) where
   pub place-held : (b : Bool) (m : Option Transaction) → getD (transactionsOf s) k none ≡ m → b ≡ passes (heldBy c) m → HeldOr s c (suc k) b
   unfolding passes heldBy heldOf entryOr taken
   place-held true none q e = absurd (false≢true (sym e))
@@ -157,7 +157,7 @@ module _ (w : World) (k : ℕ) (x : Transaction) where
 -- the node table takes the copy's bytes
 module _ (nodes cs ws xs reply events : Octets) (s : Committable nodes cs ws xs reply events) (k : ℕ) (o : OpenTransaction xs k) where
   abbrev t : Octets
-  t = take (k * 13824 + 13824 - k * 13824) (drop (k * 13824) cs)
+  t = take (k * tableSize + tableSize - k * tableSize) (drop (k * tableSize) cs)
 
   here : t ≡ copyIn cs k
   here = copy-part cs k

@@ -7,7 +7,7 @@ use native.Mathlib.Omega.{arith}
 use lib.Dec.{eqb, eqb·suc-zero}
 use lib.ListN.{length, take, length-map, length-take}
 use lib.Seq.{length-take-le}
-use Rattle.rules.specs.Size.{slots, mostRecords, eventsSize}
+use Rattle.rules.specs.Size.{slots, mostRecords, eventsSize, recordSize}
 use Rattle.rules.specs.Octets.{Octets}
 use Rattle.rules.specs.Entries.{isEmpty, without}
 use Rattle.rules.specs.Domain.{Domain}
@@ -115,7 +115,7 @@ module _ (nodes ws xs ds events : Octets) (s : Releasable nodes ws xs ds events)
             let l : length (map (removalOf (tableOf before)) (take n list)) ≤ n = simp (length-map, length-take) (omega arith) in
             omega (arith, r .count, h, l)
 
-        many : (0 + length (heard (tableOf before) (tableOf nodes′) (watchesOf ws′) (map (removalOf (tableOf before)) (take n list)))) * 268 ≤ length events
+        many : (0 + length (heard (tableOf before) (tableOf nodes′) (watchesOf ws′) (map (removalOf (tableOf before)) (take n list)))) * recordSize ≤ length events
         many = rw (s .room) (omega (arith, few, r .count, o .few))
 
         -- what the record of the domain's event wants

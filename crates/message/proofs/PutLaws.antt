@@ -4,6 +4,7 @@ use mathlib.Core.List.{_++_, append-assoc}
 use Prim.Native.Nat.{ℕ, _+_, _≤_, _<_}
 use native.Mathlib.Omega.{arith}
 use lib.ListN.{length, set, length-append}
+use Rattle.rules.specs.Size.{headerSize}
 use Rattle.rules.specs.Octets.{Octets, nul, paste, fourBytes}
 use Rattle.rules.specs.Message.{eventMessage}
 use Rattle.rules.proofs.Joined as Joined
@@ -36,7 +37,7 @@ parts : (p t : Octets) (n : ℕ) → n ≡ length (p ++ (nul ++ (t ++ nul))) →
 unfolding header eventMessage fourBytes
 parts p t n e = rw (append-assoc p nul (t ++ nul), e) refl
 
-module _ (p t l l₁ l₂ l₃ : Octets) (at end : ℕ) (h : l₁ ≡ paste 0 (header (length p + length t + 2)) l) (q : Put 16 (p ++ nul) l₁ l₂ at) where
+module _ (p t l l₁ l₂ l₃ : Octets) (at end : ℕ) (h : l₁ ≡ paste 0 (header (length p + length t + 2)) l) (q : Put headerSize (p ++ nul) l₁ l₂ at) where
   pub string-behind : at ≡ 17 + length p
   string-behind = omega (arith, q .behind, length-append p nul)
 

@@ -6,7 +6,7 @@ use Prim.Native.Nat.{ℕ, _+_, _≤_}
 use native.Mathlib.Omega.{arith}
 use lib.ListN.{length, take, drop, length-append, length-drop}
 use lib.Seq.{length-take-le}
-use Rattle.rules.specs.Size.{replySize}
+use Rattle.rules.specs.Size.{replySize, headerSize}
 use Rattle.rules.specs.Octets.{Octets, nul, paste, fourBytes}
 use Rattle.rules.specs.Answer as A
 use Rattle.rules.specs.Answer.{done, refused, errnoText}
@@ -44,7 +44,7 @@ reply-parts m a =
 
 -- a header put before a payload that stands in its place
 pub reply-put : (m : Octets) (a : A.Reply) (before after : Octets) (l : ℕ) → 16 ≤ length m → 16 ≤ length before →
-    after ≡ paste 0 (header (replyType (typeOf m) a) m (length (replyPayload a))) (paste 16 (replyPayload a) before) → l ≡ 16 + length (replyPayload a) →
+    after ≡ paste 0 (header (replyType (typeOf m) a) m (length (replyPayload a))) (paste headerSize (replyPayload a) before) → l ≡ 16 + length (replyPayload a) →
     (after ≡ paste 0 (replyTo m a) before) × (l ≡ length (replyTo m a))
 reply-put m a before after l h b e q =
     let w = header-length (replyType (typeOf m) a) m (length (replyPayload a)) h in (
@@ -72,7 +72,7 @@ pub done-framed : (m : Octets) (r : Reply) (n : ℕ) (told after : Octets) (l : 
 unfolding replyType replyPayload
 done-framed m r n told after l h q e k (done s) before b t =
     let i : n ≡ length s = cc in
-    reply-put m (done s) before after l h (rw b (omega arith)) (e ∙ (ap (paste 0 (header (typeOf m) m n)) (t .1) ∙ ap (λ (j : ℕ). paste 0 (header (typeOf m) m j) (paste 16 s before)) i))
+    reply-put m (done s) before after l h (rw b (omega arith)) (e ∙ (ap (paste 0 (header (typeOf m) m n)) (t .1) ∙ ap (λ (j : ℕ). paste 0 (header (typeOf m) m j) (paste headerSize s before)) i))
     (k ∙ ap (λ (j : ℕ). 16 + j) i)
 done-framed m r n told after l h q e k (refused x) before b t = absurd (Option·none-ne-some x (sym (ap refusalMeant q) ∙ t .0))
 
@@ -82,7 +82,7 @@ unfolding replyType replyPayload
 error-framed m r x n told put after l h q w e k (done s) before b t = let z : _≡_ {A = ℕ} 0 1 = cc in absurd (omega arith)
 error-framed m r x n told put after l h q w e k (refused y) before b t =
     let i : errnoMeant x ≡ y = Option·some-injective (errnoMeant x) y (sym (ap refusalMeant q) ∙ t .0) in
-    let p : put ≡ paste 16 (errnoText y ++ nul) before = w .bytes ∙ (ap (λ (z : A.Errno). paste 16 (errnoText z ++ nul) told) i ∙ t .1) in
+    let p : put ≡ paste headerSize (errnoText y ++ nul) before = w .bytes ∙ (ap (λ (z : A.Errno). paste headerSize (errnoText z ++ nul) told) i ∙ t .1) in
     let j : n ≡ length (errnoText y ++ nul) = w .long ∙ ap (λ (z : A.Errno). length (errnoText z ++ nul)) i in
-    reply-put m (refused y) before after l h (rw b (omega arith)) (e ∙ (ap (paste 0 (header 16 m n)) p ∙ ap (λ (o : ℕ). paste 0 (header 16 m o) (paste 16 (errnoText y ++ nul) before)) j))
+    reply-put m (refused y) before after l h (rw b (omega arith)) (e ∙ (ap (paste 0 (header 16 m n)) p ∙ ap (λ (o : ℕ). paste 0 (header 16 m o) (paste headerSize (errnoText y ++ nul) before)) j))
     (k ∙ ap (λ (o : ℕ). 16 + o) j)

@@ -51,7 +51,7 @@ use Rattle.requests.specs.Served.{Served}
 -- ── the tables ──
 
 -- the copy of an open transaction
-copy-at : (cs : Octets) (k : ℕ) → k < 3 → getD (chunks mostTransactions tableSize cs) k [] ≡ copyIn cs k
+copy-at : (cs : Octets) (k : ℕ) → k < mostTransactions → getD (chunks mostTransactions tableSize cs) k [] ≡ copyIn cs k
 copy-at cs k h = sym (ap (λ (x : List Octets). getD x k []) (map-id (chunks mostTransactions tableSize cs))) ∙ decoded-at whole mostTransactions tableSize k cs [] h
 
 module _ (t : Tables) (c : Connection) (reply events s : Octets) (v : Served t c reply events s) where

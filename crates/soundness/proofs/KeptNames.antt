@@ -10,7 +10,7 @@ use lib.ListN.{length, getD, take, drop, replicate, length-replicate, length-dro
 use lib.Seq.{drop-cons, drop-at, take-take, length-take-le}
 use lib.Dec.{eqb, leb}
 use borrow.Author.Tests.{eq-eqb, ne-eqb, leb-true}
-use Rattle.rules.specs.Size.{slots, tableSize}
+use Rattle.rules.specs.Size.{slots, tableSize, slotSize, nameAt, longestName}
 use Rattle.rules.specs.Octets.{Octets, allZero}
 use Rattle.rules.specs.Path.{allBytes, isName}
 use Rattle.rules.specs.Node.{nodeAt}
@@ -19,7 +19,7 @@ use Rattle.rules.specs.Sound.{goodName}
 use Rattle.rules.proofs.Compare.{both-true}
 use Rattle.slots.specs.Slot.{slotAt, isUsed, nameLength}
 use Rattle.slots.proofs.Reading.{name-part}
-use Rattle.soundness.specs.Parts.{keptName, nameKept, smallLetters}
+use Rattle.soundness.specs.Parts.{halfName, keptName, nameKept, smallLetters}
 use Rattle.soundness.proofs.Tests.{stop, pass, both}
 use Rattle.soundness.proofs.NameLaws.{byte-small, name-parts, other-name, root-good}
 use Rattle.octets.proofs.Padding.{late-fault, no-fault, first-decides, behind, piece}
@@ -62,13 +62,13 @@ letters (suc n) (c ∷ cs) zs h e =
 abbrev pub lasts : Octets
 lasts = replicate 16 122 ++ replicate 16 0
 
-lasts-from : (n : ℕ) → n ≤ 16 → drop (16 - n) lasts ≡ replicate n 122 ++ replicate 16 0
+lasts-from : (n : ℕ) → n ≤ 16 → drop (halfName - n) lasts ≡ replicate n 122 ++ replicate 16 0
 lasts-from n h =
     let e : 16 - n + n ≡ 16 = omega arith in
-    let front : _≡_ {A = Octets} (replicate 16 122) (replicate (16 - n) 122 ++ replicate n 122) = sym (replicate-append-replicate (16 - n) n 122 ∙ rw e refl) in
-    ap (λ (l : Octets). drop (16 - n) (l ++ replicate 16 0)) front
-    ∙ ap (drop (16 - n)) (append-assoc (replicate (16 - n) 122) (replicate n 122) (replicate 16 0))
-    ∙ drop-at (replicate (16 - n) 122) (replicate n 122 ++ replicate 16 0) (16 - n) (length-replicate (16 - n) 122)
+    let front : _≡_ {A = Octets} (replicate 16 122) (replicate (halfName - n) 122 ++ replicate n 122) = sym (replicate-append-replicate (halfName - n) n 122 ∙ rw e refl) in
+    ap (λ (l : Octets). drop (halfName - n) (l ++ replicate 16 0)) front
+    ∙ ap (drop (halfName - n)) (append-assoc (replicate (halfName - n) 122) (replicate n 122) (replicate 16 0))
+    ∙ drop-at (replicate (halfName - n) 122) (replicate n 122 ++ replicate 16 0) (halfName - n) (length-replicate (halfName - n) 122)
 
 -- ── a name in its field, as the code tests it ──
 
@@ -78,37 +78,37 @@ front t at k = rw add-sub-cancel-left refl
 module _ (t : Octets) (at n : ℕ) where
   -- the second half of the field, and half a field from the name's end on
   abbrev second : Octets
-  second = take (at + 32 - (at + 16)) (drop (at + 16) t)
+  second = take (at + longestName - (at + halfName)) (drop (at + halfName) t)
 
   abbrev first : Octets
   first = take (at + n + 16 - (at + n)) (drop (at + n) t)
 
   abbrev behind-name : Octets
-  behind-name = take (at + 32 - (at + n)) (drop (at + n) t)
+  behind-name = take (at + longestName - (at + n)) (drop (at + n) t)
 
-  second-is : second ≡ drop 16 (take 32 (drop at t))
-  second-is = behind t at 32 16 (omega arith)
+  second-is : second ≡ drop 16 (take longestName (drop at t))
+  second-is = behind t at longestName halfName (omega arith)
 
   pub no-name : n ≡ 0 → false ≡ keptName t at n
   unfolding keptName isName
-  no-name e = sym (rw e (and-false (allZero (drop 0 (take 32 (drop at t))))))
+  no-name e = sym (rw e (and-false (allZero (drop 0 (take longestName (drop at t))))))
 
-  pub long-fault : n ≤ 32 → allZero behind-name ≡ false → false ≡ keptName t at n
+  pub long-fault : n ≤ longestName → allZero behind-name ≡ false → false ≡ keptName t at n
   unfolding keptName
-  long-fault h e = stop _ (ap allZero (sym (behind t at 32 n h)) ∙ e)
+  long-fault h e = stop _ (ap allZero (sym (behind t at longestName n h)) ∙ e)
 
-  pub long-name : {r : Bool} → n ≤ 32 → allZero behind-name ≡ true → r ≡ isName (take (at + n - at) (drop at t)) → r ≡ keptName t at n
+  pub long-name : {r : Bool} → n ≤ longestName → allZero behind-name ≡ true → r ≡ isName (take (at + n - at) (drop at t)) → r ≡ keptName t at n
   unfolding keptName
-  long-name h e f = pass (ap allZero (sym (behind t at 32 n h)) ∙ e) (f ∙ ap isName (front t at n))
+  long-name h e f = pass (ap allZero (sym (behind t at longestName n h)) ∙ e) (f ∙ ap isName (front t at n))
 
   module _ (h : n ≤ 16) where
     pub second-fault : allZero second ≡ false → false ≡ keptName t at n
     unfolding keptName
-    second-fault e = stop _ (late-fault (drop at t) n 16 32 h (omega arith) (ap allZero (sym second-is) ∙ e))
+    second-fault e = stop _ (late-fault (drop at t) n halfName longestName h (omega arith) (ap allZero (sym second-is) ∙ e))
 
     module _ (z : allZero second ≡ true) where
-      first-is : allZero first ≡ allZero (drop n (take 32 (drop at t)))
-      first-is = ap allZero (piece t at n 16) ∙ first-decides (drop at t) n 16 32 h (omega arith) (ap allZero (sym second-is) ∙ z)
+      first-is : allZero first ≡ allZero (drop n (take longestName (drop at t)))
+      first-is = ap allZero (piece t at n halfName) ∙ first-decides (drop at t) n halfName longestName h (omega arith) (ap allZero (sym second-is) ∙ z)
 
       pub first-fault : allZero first ≡ false → false ≡ keptName t at n
       unfolding keptName
@@ -118,7 +118,7 @@ module _ (t : Octets) (at n : ℕ) where
       unfolding keptName
       short-name e f = pass (sym first-is ∙ e) (f ∙ ap isName (front t at n))
 
-      pub small-name : (n ≡ 0 → ⊥) → at + 32 ≤ length t → smallLetters (take (at + 16 - at) (drop at t)) (drop (16 - n) lasts) ≡ true → true ≡ keptName t at n
+      pub small-name : (n ≡ 0 → ⊥) → at + longestName ≤ length t → smallLetters (take (at + halfName - at) (drop at t)) (drop (halfName - n) lasts) ≡ true → true ≡ keptName t at n
       unfolding keptName
       small-name some whole e =
           let y = drop at t in
@@ -128,27 +128,27 @@ module _ (t : Octets) (at n : ℕ) where
           let past : allZero (drop n (take 16 y)) ≡ true = zeros 16 (drop n (take 16 y)) (rw (length-drop n (take 16 y)) (omega arith)) (p .1) in
           let bytes : allBytes (take n y) ≡ true = ap allBytes (sym (take-take n 16 y h)) ∙ p .0 in
           let many : length (take n y) ≡ n = length-take-le n y (omega arith) in
-          pass (no-fault y n 16 32 h (omega arith) past (ap allZero (sym second-is) ∙ z)) (sym (name-parts (take n y) ∙ rw (bytes, many, ne-eqb n 0 some) refl))
+          pass (no-fault y n halfName longestName h (omega arith) past (ap allZero (sym second-is) ∙ z)) (sym (name-parts (take n y) ∙ rw (bytes, many, ne-eqb n 0 some) refl))
 
 -- ── the name of a slot ──
 
-module _ (t : Octets) (i : ℕ) (h : i < slots) (u : isUsed (slotAt t i) ≡ true) (l : nameLength t i ≤ 32) {n : ℕ} (e : n ≡ nameLength t i) where
-  text : take n (drop (i * 108 + 12) t) ≡ nodeAt (tableOf t) i .name
-  text = rw e (sym (front t (i * 108 + 12) (nameLength t i)) ∙ name-part t i h u l)
+module _ (t : Octets) (i : ℕ) (h : i < slots) (u : isUsed (slotAt t i) ≡ true) (l : nameLength t i ≤ longestName) {n : ℕ} (e : n ≡ nameLength t i) where
+  text : take n (drop (i * slotSize + nameAt) t) ≡ nodeAt (tableOf t) i .name
+  text = rw e (sym (front t (i * slotSize + nameAt) (nameLength t i)) ∙ name-part t i h u l)
 
-  pub other-kept : {r : Bool} → (i ≡ 0 → ⊥) → r ≡ keptName t (i * 108 + 12) n → r ≡ nameKept t i
+  pub other-kept : {r : Bool} → (i ≡ 0 → ⊥) → r ≡ keptName t (i * slotSize + nameAt) n → r ≡ nameKept t i
   unfolding keptName nameKept
-  other-kept z f = f ∙ ap (λ (b : Bool). allZero (drop n (take 32 (drop (i * 108 + 12) t))) && b) (ap isName text ∙ other-name i _ z) ∙ rw e refl
+  other-kept z f = f ∙ ap (λ (b : Bool). allZero (drop n (take longestName (drop (i * slotSize + nameAt) t))) && b) (ap isName text ∙ other-name i _ z) ∙ rw e refl
 
   pub root-named : i ≡ 0 → (n ≡ 0 → ⊥) → length t ≡ tableSize → false ≡ nameKept t i
   unfolding nameKept
   root-named z some whole =
-      let many : length (take n (drop (i * 108 + 12) t)) ≡ n = length-take-le n _ (rw (length-drop (i * 108 + 12) t) (omega arith)) in
+      let many : length (take n (drop (i * slotSize + nameAt) t)) ≡ n = length-take-le n _ (rw (length-drop (i * slotSize + nameAt) t) (omega arith)) in
       let bad : goodName i (nodeAt (tableOf t) i .name) ≡ false = sym (root-good z text) ∙ rw many (ne-eqb n 0 some) in
-      sym (rw bad (and-false (allZero (drop (nameLength t i) (take 32 (drop (i * 108 + 12) t))))))
+      sym (rw bad (and-false (allZero (drop (nameLength t i) (take longestName (drop (i * slotSize + nameAt) t))))))
 
-  pub root-kept : {r : Bool} → i ≡ 0 → n ≡ 0 → r ≡ allZero (take (i * 108 + 12 + 32 - (i * 108 + 12)) (drop (i * 108 + 12) t)) → r ≡ nameKept t i
+  pub root-kept : {r : Bool} → i ≡ 0 → n ≡ 0 → r ≡ allZero (take (i * slotSize + nameAt + longestName - (i * slotSize + nameAt)) (drop (i * slotSize + nameAt) t)) → r ≡ nameKept t i
   unfolding nameKept
   root-kept z none f =
       let good : goodName i (nodeAt (tableOf t) i .name) ≡ true = sym (root-good z text) ∙ rw none refl in
-      f ∙ ap allZero (front t (i * 108 + 12) 32) ∙ sym (rw (← e, none, good) (and-true (allZero (take 32 (drop (i * 108 + 12) t)))))
+      f ∙ ap allZero (front t (i * slotSize + nameAt) longestName) ∙ sym (rw (← e, none, good) (and-true (allZero (take longestName (drop (i * slotSize + nameAt) t)))))

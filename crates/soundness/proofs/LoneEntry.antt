@@ -7,13 +7,14 @@ use native.Mathlib.Decide.{ℕ-discrete}
 use lib.ListN.{length, getD}
 use lib.Dec.{eqb}
 use borrow.Author.Tests.{eq-eqb, ne-eqb, lt-leb, le-leb}
+use Rattle.rules.specs.Size.{entriesSize}
 use Rattle.rules.specs.Octets.{Octets, field}
 use Rattle.rules.proofs.Fields.{field-split, field-two, field-bound}
 use Rattle.soundness.specs.Parts.{lowDomains}
 use Rattle.soundness.proofs.Tests.{stop, both}
 
 -- the eight bytes behind the first: two, four and two
-pub behind-first : (s : Octets) (at : ℕ) → at + 9 ≤ length s
+pub behind-first : (s : Octets) (at : ℕ) → at + entriesSize ≤ length s
     → field s (at + 1) 8 ≡ (getD s (at + 1) 0 * 256 + getD s (at + 2) 0) * 281474976710656 + (field s (at + 3) 4 * 65536 + (getD s (at + 7) 0 * 256 + getD s (at + 8) 0))
 behind-first s at h =
     let e2 : at + 1 + 1 ≡ at + 2 = omega arith in
@@ -70,7 +71,7 @@ module _ (first a b m l rest : ℕ) (hb : b < 256) (hm : m < 4294967296) (hl : l
       by (no p) c = rw (ne-eqb m 0 p) (sym (some-bits (λ x. p (omega arith))))
       by (yes p) (no q) = ap (λ (c : Bool). eqb m 0 && c) (ne-eqb l 0 q) ∙ and-false (eqb m 0) ∙ sym (some-bits (λ x. q (omega arith)))
 
-module _ (s : Octets) (bytes : (j : ℕ) → getD s j 0 < 256) (at : ℕ) (h : at + 9 ≤ length s) where
+module _ (s : Octets) (bytes : (j : ℕ) → getD s j 0 < 256) (at : ℕ) (h : at + entriesSize ≤ length s) where
   -- the last two bytes
   abbrev low : ℕ
   low = getD s (at + 7) 0 * 256 + getD s (at + 8) 0

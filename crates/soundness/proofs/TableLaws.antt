@@ -12,7 +12,7 @@ use lib.ListN.{length, getD, take, drop, set, replicate, length-set, length-repl
 use lib.Seq.{getD-set-same, getD-set-other}
 use lib.Dec.{eqb}
 use borrow.Author.Tests.{eq-eqb, ne-eqb}
-use Rattle.rules.specs.Size.{slots, slotSize, tableSize, deepest}
+use Rattle.rules.specs.Size.{slots, slotSize, tableSize, deepest, longestName}
 use Rattle.rules.specs.Octets.{Octets, same}
 use Rattle.rules.specs.Node.{Entry, Node, Table, nodeAt}
 use Rattle.rules.specs.Layout.{slotBytes, tableBytes, tableOf}
@@ -66,7 +66,7 @@ unfolding every
 at-every p zero i f = refl
 at-every p (suc k) i f = both (f i (omega arith) (omega arith)) (at-every p k (suc i) (λ j h l. f j (omega arith) (omega arith)))
 
--- the same of the 128 slots
+-- the same of all slots
 pub all-slots : (p : ℕ → Bool) → every p slots 0 ≡ true → (i : ℕ) → i < slots → p i ≡ true
 all-slots p e i h = every-at p slots 0 i e (omega arith) (omega arith)
 
@@ -116,7 +116,7 @@ module _ (t : Octets) (w : length t ≡ tableSize) where
     pub good-short : Short t
     good-short = record { whole = w; short = λ j h u. by j h u (sized t j) refl }
       where
-        by : (j : ℕ) → j < slots → isUsed (slotAt t j) ≡ true → (b : Bool) → sized t j ≡ b → nameLength t j ≤ 32
+        by : (j : ℕ) → j < slots → isUsed (slotAt t j) ≡ true → (b : Bool) → sized t j ≡ b → nameLength t j ≤ longestName
         by j h u true s = sizes-of t j s .name
         by j h u false s = absurd (false≢true (unsized t bytes w j h u s ∙ all-slots (goodSlot t) e j h))
 

@@ -8,6 +8,7 @@ use native.Mathlib.Decide.{ℕ-discrete}
 use lib.ListN.{length, getD}
 use lib.Dec.{eqb, leb}
 use borrow.Author.Tests.{eq-eqb, ne-eqb, lt-leb, le-leb}
+use Rattle.rules.specs.Size.{entriesSize}
 use Rattle.rules.specs.Octets.{Octets, field}
 use Rattle.rules.proofs.Fields.{field-bound}
 use Rattle.soundness.specs.Parts.{lowDomains}
@@ -15,7 +16,7 @@ use Rattle.soundness.proofs.Tests.{stop, both}
 use Rattle.soundness.proofs.EntryLaws.{field-four, field-eight}
 
 -- the eight bytes behind the first: four single ones, and four
-behind-first : (s : Octets) (at : ℕ) → at + 9 ≤ length s
+behind-first : (s : Octets) (at : ℕ) → at + entriesSize ≤ length s
     → field s (at + 1) 8 ≡ (getD s (at + 1) 0 * 16777216 + getD s (at + 2) 0 * 65536 + getD s (at + 3) 0 * 256 + getD s (at + 4) 0) * 4294967296 + field s (at + 5) 4
 behind-first s at h =
     let e2 : at + 1 + 1 ≡ at + 2 = omega arith in
@@ -83,7 +84,7 @@ module _ (first a b c d m rest : ℕ) (hb : b < 256) (hc : c < 256) (hd : d < 25
           eq-eqb m 0 p ∙ sym (both (low-two x h k) (eq-eqb (rest % 68719476736) 0 x))
       by (no p) = ne-eqb m 0 p ∙ sym (some-past (λ q. p (omega arith)))
 
-module _ (s : Octets) (bytes : (j : ℕ) → getD s j 0 < 256) (at : ℕ) (h : at + 9 ≤ length s) where
+module _ (s : Octets) (bytes : (j : ℕ) → getD s j 0 < 256) (at : ℕ) (h : at + entriesSize ≤ length s) where
   -- the domains in the first 36 bits
   abbrev one : ℕ
   one = (getD s at 0 * 1024 + getD s (at + 1) 0 * 4 + getD s (at + 2) 0 / 64) % 65536

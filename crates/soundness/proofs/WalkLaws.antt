@@ -27,7 +27,7 @@ use Rattle.soundness.specs.declared.answer.Walk.{Walk}
 use Rattle.soundness.specs.declared.answer.Walk.the-variants.{Lost, Root}
 use Rattle.soundness.specs.Walks.{stepsTo, textTo, taken, Walked, Lent}
 
-pub name-short : (t : Octets) (i : ℕ) → length (nodeAt (tableOf t) i .name) ≤ 32
+pub name-short : (t : Octets) (i : ℕ) → length (nodeAt (tableOf t) i .name) ≤ longestName
 name-short t i = nodeAt-fits (tableOf t) i (decoded-fits t .all) .name
 
 -- ── the names on the way ──

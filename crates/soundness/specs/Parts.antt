@@ -6,7 +6,7 @@ use mathlib.Core.Path.{_≡_}
 use Prim.Native.Nat.{ℕ, zero, suc, _+_, _*_, _/_, _%_, _^_, _<_}
 use lib.ListN.{length, take, drop}
 use lib.Dec.{eqb, leb}
-use Rattle.rules.specs.Size.{slots, slotSize, tableSize, fieldsSize, entriesSize, longestName, longestValue, mostEntries, lastDomain}
+use Rattle.rules.specs.Size.{slots, slotSize, tableSize, fieldsSize, entriesSize, longestName, longestValue, mostEntries, lastDomain, nameAt, valueAt}
 use Rattle.rules.specs.Octets.{Octets, same, allZero, field, pack}
 use Rattle.rules.specs.Path.{isName}
 use Rattle.rules.specs.Node.{Node, nodeAt}
@@ -52,11 +52,11 @@ lowDomains first rest =
 
 -- what stands behind the value is zero
 unfoldable pub zeroBehind : Octets → ℕ → Bool
-zeroBehind t i = allZero (drop (valueLength t i) (take longestValue (drop (i * slotSize + 44) t)))
+zeroBehind t i = allZero (drop (valueLength t i) (take longestValue (drop (i * slotSize + valueAt) t)))
 
 -- half of a name's field
 abbrev pub halfName : ℕ
-halfName = 16
+halfName = longestName / 2
 
 -- each byte is a small letter, or 0 where its last is 0; a byte's last is the greatest that may stand in its place
 unfoldable pub smallLetters : Octets → Octets → Bool
@@ -70,4 +70,4 @@ keptName t at n = allZero (drop n (take longestName (drop at t))) && isName (tak
 
 -- the name of slot i is good, with zeros behind it
 unfoldable pub nameKept : Octets → ℕ → Bool
-nameKept t i = allZero (drop (nameLength t i) (take longestName (drop (i * slotSize + 12) t))) && goodName i (nodeAt (tableOf t) i .name)
+nameKept t i = allZero (drop (nameLength t i) (take longestName (drop (i * slotSize + nameAt) t))) && goodName i (nodeAt (tableOf t) i .name)

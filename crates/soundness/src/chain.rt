@@ -14,16 +14,17 @@ ghost use Rattle.soundness.specs.Parts.{every};
 ghost use Rattle.soundness.specs.Walks.{Short, Lent, Walked, chained};
 use crate::answer::Walk;
 use octets::parts::copy;
+use octets::sizes::DEEPEST;
 use octets::sizes::SLOTS;
 use slots::fields::name;
 use slots::fields::parent;
 use slots::fields::used;
 
 // The most steps from a slot to the root.
-const DEEPEST: u8 = 8;
+const MOST_STEPS: u8 = DEEPEST as u8;
 
 // Walks from a slot to the root in at most `steps` steps by used slots, and no further than to a slot whose parent's way is known.
-pub fn walk(t: &[u8], i: usize, steps: u8, known: &[u8; 128], into: &mut [u8]) -> Walk
+pub fn walk(t: &[u8], i: usize, steps: u8, known: &[u8; SLOTS], into: &mut [u8]) -> Walk
     requires { ⌜ (i < slots) × (steps ≤ deepest) × Lent (now t) (now known) (now into) ⌝ }
     ensures { λ r. ⌜ Walked steps (now (t .entry)) i (now (into .entry)) (now (into .exit)) r ⌝ }
 {
@@ -48,7 +49,7 @@ pub fn walk(t: &[u8], i: usize, steps: u8, known: &[u8; 128], into: &mut [u8]) -
 
 // Walks on from the parent of a used slot that is not the root, and puts a slash and the slot's name behind what that leaves in
 // the buffer. An empty one stays empty.
-fn walk_up(t: &[u8], i: usize, steps: u8, known: &[u8; 128], into: &mut [u8]) -> Walk
+fn walk_up(t: &[u8], i: usize, steps: u8, known: &[u8; SLOTS], into: &mut [u8]) -> Walk
     requires { ⌜ (0 < i) × (i < slots) × (isUsed (slotAt (now t) i) ≡ true) × (0 < steps) × (steps ≤ deepest) × Lent (now t) (now known) (now into) ⌝ }
     ensures { λ r. ⌜ Walked steps (now (t .entry)) i (now (into .entry)) (now (into .exit)) r ⌝ }
 {
@@ -74,8 +75,8 @@ pub fn path_of(t: &[u8], i: usize, into: &mut [u8]) -> usize
         into[0] = b'/';
         return 1;
     }
-    let nothing = [0u8; 128];
-    let way = walk_up(t, i, DEEPEST, &nothing, into);
+    let nothing = [0u8; SLOTS];
+    let way = walk_up(t, i, MOST_STEPS, &nothing, into);
     match way {
         Walk::Lost => 0,
         Walk::Root(_, n) => n,
@@ -87,12 +88,12 @@ pub fn all_chained(t: &[u8]) -> bool
     requires { ⌜ Short (now t) ⌝ }
     ensures { λ r. ⌜ r ≡ every (chained (now (t .entry))) slots 0 ⌝ }
 {
-    let mut known = [0u8; 128];
+    let mut known = [0u8; SLOTS];
     let mut no_text = [0u8; 1];
     let mut i = 0;
     while i < SLOTS {
         if used(t, i) {
-            let way = walk(t, i, DEEPEST, &known, &mut no_text[..0]);
+            let way = walk(t, i, MOST_STEPS, &known, &mut no_text[..0]);
             let Walk::Root(steps, _) = way else {
                 return false;
             };

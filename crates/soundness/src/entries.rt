@@ -6,10 +6,12 @@ ghost use lib.Dec.{eqb};
 ghost use lib.ListN.{length, getD};
 ghost use Rattle.rules.specs.Octets.{field};
 ghost use Rattle.soundness.specs.Parts.{Used, sized, keptEntries, lowDomains};
+ghost use Rattle.rules.specs.Size.{entriesSize};
+use octets::sizes::FIELDS_SIZE;
 use octets::sizes::SLOT_SIZE;
 use slots::fields::entry_count;
 
-const LAST_DOMAIN: u64 = 32751;
+const LAST_DOMAIN: u64 = octets::sizes::LAST_DOMAIN as u64;
 
 // Four bytes as one number, most significant first.
 fn four(t: &[u8], at: usize) -> u64
@@ -63,7 +65,7 @@ fn zero_past(rest: u64, count: usize) -> bool
 
 // Whether the only entry's domain is not above the last, and the entries past it are zero; the entries start at `at`.
 fn lone_entry(t: &[u8], at: usize) -> bool
-    requires { ⌜ at + 9 ≤ length (now t) ⌝ }
+    requires { ⌜ at + entriesSize ≤ length (now t) ⌝ }
     ensures { λ r. ⌜ r ≡ lowDomains (getD (now (t .entry)) at 0) (field (now (t .entry)) (at + 1) 8) && eqb (field (now (t .entry)) (at + 1) 8 % 2 ^ 54) 0 ⌝ }
 {
     let first = t[at] as u64;
@@ -83,7 +85,7 @@ fn lone_entry(t: &[u8], at: usize) -> bool
 
 // The same of two entries, by their bytes.
 fn two_entries(t: &[u8], at: usize) -> bool
-    requires { ⌜ at + 9 ≤ length (now t) ⌝ }
+    requires { ⌜ at + entriesSize ≤ length (now t) ⌝ }
     ensures { λ r. ⌜ r ≡ lowDomains (getD (now (t .entry)) at 0) (field (now (t .entry)) (at + 1) 8) && eqb (field (now (t .entry)) (at + 1) 8 % 2 ^ 36) 0 ⌝ }
 {
     let first = t[at] as u64;
@@ -108,7 +110,7 @@ pub fn kept_entries(t: &[u8], i: usize) -> bool
     requires { ⌜ Used (now t) i × (sized (now t) i ≡ true) ⌝ }
     ensures { λ r. ⌜ r ≡ keptEntries (now (t .entry)) i ⌝ }
 {
-    let at = i * SLOT_SIZE + 3;
+    let at = i * SLOT_SIZE + FIELDS_SIZE;
     let count = entry_count(t, i);
     if count == 1 {
         return lone_entry(t, at);

@@ -3,7 +3,7 @@ ghost use mathlib.Core.Path.{_≡_};
 ghost use mathlib.Core.Bool.{true};
 ghost use Prim.Native.Nat.{_+_, _≤_, _<_};
 ghost use lib.ListN.{length};
-ghost use Rattle.rules.specs.Size.{slots};
+ghost use Rattle.rules.specs.Size.{slots, longestName};
 ghost use Rattle.rules.specs.Octets.{same};
 ghost use Rattle.rules.specs.Node.{nodeAt};
 ghost use Rattle.rules.specs.Layout.{tableOf};
@@ -19,7 +19,7 @@ use slots::fields::used;
 
 // A number below 256 from a name's first byte, its last two and its length.
 fn digest(s: &[u8]) -> usize
-    requires { ⌜ length (now s) ≤ 32 ⌝ }
+    requires { ⌜ length (now s) ≤ longestName ⌝ }
     ensures { λ r. ⌜ (r ≡ digestOf (now (s .entry))) × (r < 256) ⌝ }
 {
     let n = s.len();
@@ -55,7 +55,7 @@ fn place_of(key: u16) -> usize
 }
 
 // Whether a key is among some. Every one is looked at, with one test at the end.
-fn has_key(keys: &[u16; 128], key: u16) -> bool
+fn has_key(keys: &[u16; SLOTS], key: u16) -> bool
     requires { ⌜ length (now keys) ≡ slots ⌝ }
     ensures { λ r. ⌜ r ≡ hasKey key (now (keys .entry)) ⌝ }
 {
@@ -69,7 +69,7 @@ fn has_key(keys: &[u16; 128], key: u16) -> bool
 }
 
 // Whether a slot's key may be that of a slot before it, by their places first and then by their keys.
-fn may_clash(taken: &[u8; 1024], keys: &[u16; 128], place: usize, key: u16) -> bool
+fn may_clash(taken: &[u8; 1024], keys: &[u16; SLOTS], place: usize, key: u16) -> bool
     requires { ⌜ (place < 1024) × (length (now keys) ≡ slots) ⌝ }
     ensures { λ r. ⌜ r ≡ mayClash (now (taken .entry)) (now (keys .entry)) place key ⌝ }
 {
@@ -97,7 +97,7 @@ pub fn all_distinct(t: &[u8]) -> bool
     requires { ⌜ Short (now t) ⌝ }
     ensures { λ r. ⌜ r ≡ distinct (tableOf (now (t .entry))) ⌝ }
 {
-    let mut keys = [0u16; 128];
+    let mut keys = [0u16; SLOTS];
     let mut taken = [0u8; 1024];
     let mut apart = true;
     let mut i = 0;

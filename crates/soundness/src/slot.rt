@@ -9,19 +9,18 @@ ghost use Rattle.soundness.specs.Parts.{Used, sized, zeroBehind, halfNam
 use crate::entries::kept_entries;
 use octets::compare::all_zero;
 use octets::compare::rest_zero;
+use octets::sizes::LONGEST_NAME;
+use octets::sizes::LONGEST_VALUE;
+use octets::sizes::MOST_ENTRIES;
+use octets::sizes::NAME_AT;
 use octets::sizes::SLOT_SIZE;
+use octets::sizes::VALUE_AT;
 use slots::fields::entry_count;
 use slots::fields::name_length;
 use slots::fields::used;
 use slots::fields::value_length;
 
-const LONGEST_NAME: usize = 32;
-
-const HALF_NAME: usize = 16;
-
-const LONGEST_VALUE: usize = 64;
-
-const MOST_ENTRIES: usize = 4;
+const HALF_NAME: usize = LONGEST_NAME / 2;
 
 // Whether the lengths and the count are within the sizes.
 fn within(t: &[u8], i: usize) -> bool
@@ -46,7 +45,12 @@ fn zero_behind(t: &[u8], i: usize) -> bool
     requires { ⌜ (i < slots) × (length (now t) ≡ tableSize) × (sized (now t) i ≡ true) ⌝ }
     ensures { λ r. ⌜ r ≡ zeroBehind (now (t .entry)) i ⌝ }
 {
-    rest_zero(t, i * SLOT_SIZE + 44, value_length(t, i), LONGEST_VALUE)
+    rest_zero(
+        t,
+        i * SLOT_SIZE + VALUE_AT,
+        value_length(t, i),
+        LONGEST_VALUE,
+    )
 }
 
 // Whether a byte may stand in a name, by its value: most are small letters.
@@ -139,7 +143,7 @@ fn good_name(t: &[u8], i: usize) -> bool
     requires { ⌜ Used (now t) i × (sized (now t) i ≡ true) ⌝ }
     ensures { λ r. ⌜ r ≡ nameKept (now (t .entry)) i ⌝ }
 {
-    let at = i * SLOT_SIZE + 12;
+    let at = i * SLOT_SIZE + NAME_AT;
     let n = name_length(t, i);
     if i != 0 {
         return kept_name(t, at, n);

@@ -11,10 +11,9 @@ use crate::chain::all_chained;
 use crate::pairs::all_distinct;
 use crate::slot::good_slot;
 use octets::sizes::SLOTS;
+use octets::sizes::TABLE_SIZE;
 use slots::fields::entry_at;
 use slots::fields::parent;
-
-const TABLE_SIZE: usize = 13824;
 
 // Whether every slot is good by itself.
 fn all_good(t: &[u8]) -> bool

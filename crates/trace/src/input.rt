@@ -4,11 +4,18 @@ ghost use Prim.Native.Nat.{_+_, _≤_};
 ghost use lib.ListN.{length};
 use libc::STDIN_FILENO;
 use octets::numbers::number32;
+use octets::sizes::HEADER_SIZE;
+use octets::sizes::LEN_AT;
+use octets::sizes::LONGEST_PAYLOAD;
 
-// The sender and the header of its message.
-const HEAD_SIZE: usize = 18;
+// A sender's two bytes stand before its message.
+const MESSAGE_AT: usize = 2;
 
-const MOST_PAYLOAD: u32 = 4096;
+pub const HEAD_SIZE: usize = MESSAGE_AT + HEADER_SIZE;
+
+pub const INPUT_SIZE: usize = HEAD_SIZE + LONGEST_PAYLOAD;
+
+const MOST_PAYLOAD: u32 = LONGEST_PAYLOAD as u32;
 
 // One read into buf from `at` on: how many bytes came. 0 at the end of the input, and where the read fails, which standard
 // error is told.
@@ -37,8 +44,8 @@ fn fill(buf: &mut [u8]) -> bool {
 }
 
 // Whether the message's len is above 4,096.
-pub fn is_oversize(input: &[u8; 4114]) -> bool {
-    MOST_PAYLOAD < number32(input, 14)
+pub fn is_oversize(input: &[u8; INPUT_SIZE]) -> bool {
+    MOST_PAYLOAD < number32(input, MESSAGE_AT + LEN_AT)
 }
 
 pub fn sender(high: u8, low: u8) -> u32 {
@@ -54,7 +61,7 @@ pub fn read_message(input: &mut [u8]) -> usize
     if !fill(&mut input[..HEAD_SIZE]) {
         return 0;
     }
-    let len = number32(input, 14);
+    let len = number32(input, MESSAGE_AT + LEN_AT);
     if MOST_PAYLOAD < len {
         return HEAD_SIZE;
     }

@@ -3,6 +3,8 @@ ghost use Prim.Native.Nat.{_+_, _≤_};
 ghost use lib.ListN.{length};
 use libc::STDOUT_FILENO;
 use octets::numbers::number32;
+use octets::sizes::LEN_AT;
+use octets::sizes::REPLY_SIZE;
 use octets::written::put_decimal;
 
 // Puts n and the byte behind it into the line, and returns the place behind both.
@@ -31,9 +33,15 @@ fn print(number: u64, call: u32, kind: u32, length: u32, events: u32) -> bool {
 }
 
 // Prints the line of a call. The last three numbers are 0 where the call number isn't.
-pub fn print_call(number: u64, call: u32, reply: &[u8; 4112], events: u32) -> bool {
+pub fn print_call(number: u64, call: u32, reply: &[u8; REPLY_SIZE], events: u32) -> bool {
     if call != 0 {
         return print(number, call, 0, 0, 0);
     }
-    print(number, 0, number32(reply, 0), number32(reply, 12), events)
+    print(
+        number,
+        0,
+        number32(reply, 0),
+        number32(reply, LEN_AT),
+        events,
+    )
 }

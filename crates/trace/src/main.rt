@@ -4,10 +4,19 @@ mod line;
 
 use haabuvilk::fresh::haabuvilk_fresh;
 use haabuvilk::request::haabuvilk_request;
+use input::HEAD_SIZE;
+use input::INPUT_SIZE;
 use input::is_oversize;
 use input::read_message;
 use input::sender;
 use line::print_call;
+use octets::sizes::COPIES_SIZE;
+use octets::sizes::DOMAINS_SIZE;
+use octets::sizes::EVENTS_SIZE;
+use octets::sizes::REPLY_SIZE;
+use octets::sizes::TABLE_SIZE;
+use octets::sizes::TRANSACTIONS_SIZE;
+use octets::sizes::WATCHES_SIZE;
 
 // Reads a message, makes the call and prints its line. False where nothing more is to be read.
 fn serve(
@@ -19,13 +28,13 @@ fn serve(
     domains: &mut [u8],
     events: &mut [u8],
 ) -> bool {
-    let mut input = [0u8; 4114];
+    let mut input = [0u8; INPUT_SIZE];
     let end = read_message(&mut input);
-    if end < 18 {
+    if end < HEAD_SIZE {
         return false;
     }
     let from = sender(input[0], input[1]);
-    let mut reply = [0u8; 4112];
+    let mut reply = [0u8; REPLY_SIZE];
     let mut reply_length: u32 = 0;
     let mut event_count: u32 = 0;
     let mut page: u64 = 0;
@@ -75,12 +84,12 @@ fn serve_all(
 }
 
 fn main() {
-    let mut nodes = [0u8; 13824];
-    let mut copies = [0u8; 41472];
-    let mut watches = [0u8; 4832];
-    let mut transactions = [0u8; 6393];
-    let mut domains = [0u8; 24];
-    let mut events = [0u8; 34304];
+    let mut nodes = [0u8; TABLE_SIZE];
+    let mut copies = [0u8; COPIES_SIZE];
+    let mut watches = [0u8; WATCHES_SIZE];
+    let mut transactions = [0u8; TRANSACTIONS_SIZE];
+    let mut domains = [0u8; DOMAINS_SIZE];
+    let mut events = [0u8; EVENTS_SIZE];
     haabuvilk_fresh(
         &mut nodes,
         &mut copies,

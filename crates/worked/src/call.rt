@@ -2,10 +2,18 @@
 ghost use mathlib.Core.Path.{_≡_};
 ghost use lib.ListN.{length};
 ghost use Rattle.io.specs.Counts.{Counts};
+ghost use Rattle.rules.specs.Size.{replySize};
 use crate::events::print_events;
 use crate::print::print_reply;
 use haabuvilk::request::haabuvilk_request;
 use octets::numbers::put_number32;
+use octets::sizes::EVENTS_SIZE;
+use octets::sizes::HEADER_SIZE;
+use octets::sizes::LEN_AT;
+use octets::sizes::LONGEST_PAYLOAD;
+use octets::sizes::REPLY_SIZE;
+use octets::sizes::REQ_AT;
+use octets::sizes::TX_AT;
 
 // A byte of a payload as it is written down: `|` means a nul.
 fn meant(b: u8) -> u8 {
@@ -18,22 +26,22 @@ fn meant(b: u8) -> u8 {
 // Makes the message of a type, a tx_id and a payload as written down, and answers how many bytes it has. Its
 // req_id is 9. A payload of more than 4,096 bytes is left out.
 pub fn frame(message: &mut [u8], kind: u32, tx: u32, payload: &[u8]) -> usize
-    requires { ⌜ length (now message) ≡ 4112 ⌝ }
+    requires { ⌜ length (now message) ≡ replySize ⌝ }
     ensures { λ r. ⌜ Counts r (now (message .exit)) ⌝ }
 {
     put_number32(message, 0, kind);
-    put_number32(message, 4, 9);
-    put_number32(message, 8, tx);
-    if 4096 < payload.len() {
-        return 16;
+    put_number32(message, REQ_AT, 9);
+    put_number32(message, TX_AT, tx);
+    if LONGEST_PAYLOAD < payload.len() {
+        return HEADER_SIZE;
     }
-    put_number32(message, 12, payload.len() as u32);
+    put_number32(message, LEN_AT, payload.len() as u32);
     let mut i = 0;
     while i < payload.len() {
-        message[16 + i] = meant(payload[i]);
+        message[HEADER_SIZE + i] = meant(payload[i]);
         i += 1;
     }
-    16 + i
+    HEADER_SIZE + i
 }
 
 // Makes the call, and answers its number.
@@ -79,8 +87,8 @@ pub fn ask(
     sender: u32,
     message: &[u8],
 ) {
-    let mut reply = [0u8; 4112];
-    let mut events = [0u8; 34304];
+    let mut reply = [0u8; REPLY_SIZE];
+    let mut events = [0u8; EVENTS_SIZE];
     let mut event_count: u32 = 0;
     let call = request(
         nodes,

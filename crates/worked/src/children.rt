@@ -4,6 +4,8 @@ use crate::call::frame;
 use crate::call::request;
 use octets::numbers::number32;
 use octets::parts::copy;
+use octets::sizes::EVENTS_SIZE;
+use octets::sizes::REPLY_SIZE;
 
 const MKDIR: u32 = 12;
 
@@ -27,10 +29,10 @@ fn make_child(
     path[30] = digit(n / 100);
     path[31] = digit(n / 10);
     path[32] = digit(n);
-    let mut message = [0u8; 4112];
+    let mut message = [0u8; REPLY_SIZE];
     let end = frame(&mut message, MKDIR, 0, &path);
-    let mut reply = [0u8; 4112];
-    let mut events = [0u8; 34304];
+    let mut reply = [0u8; REPLY_SIZE];
+    let mut events = [0u8; EVENTS_SIZE];
     let mut event_count: u32 = 0;
     request(
         nodes,

@@ -4,6 +4,8 @@ use crate::print::print_number;
 use crate::print::print_octets;
 use crate::words::part;
 use haabuvilk::event_message::haabuvilk_event_message;
+use octets::sizes::HEADER_SIZE;
+use octets::sizes::MESSAGE_SIZE;
 
 // Prints the payload of the event message of a record for a watch, if there is one.
 fn print_event<'a>(
@@ -14,7 +16,7 @@ fn print_event<'a>(
     record: u32,
     watch: u32,
 ) {
-    let mut message = [0u8; 314];
+    let mut message = [0u8; MESSAGE_SIZE];
     let mut length: u32 = 0;
     let call = haabuvilk_event_message(
         watches,
@@ -31,7 +33,7 @@ fn print_event<'a>(
     }
     print_number(b"    watch ", watch);
     print(b" hears ");
-    print_octets(part(&message, 16, length as usize));
+    print_octets(part(&message, HEADER_SIZE, length as usize));
     print(b"\n");
 }
 

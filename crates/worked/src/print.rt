@@ -1,9 +1,13 @@
 // What is printed of bytes and numbers.
 ghost use mathlib.Core.Path.{_≡_};
 ghost use lib.ListN.{length};
+ghost use Rattle.rules.specs.Size.{replySize};
 use crate::words::part;
 use libc::STDOUT_FILENO;
 use octets::numbers::number32;
+use octets::sizes::HEADER_SIZE;
+use octets::sizes::LEN_AT;
+use octets::sizes::SLOT_SIZE;
 
 pub fn print(text: &[u8]) {
     io::write_all(STDOUT_FILENO, text);
@@ -38,16 +42,16 @@ pub fn print_octets(s: &[u8]) {
 
 // Prints the call number, and the reply's type, payload length, event count and payload.
 pub fn print_reply(call: u32, reply: &[u8], event_count: u32)
-    requires { ⌜ length (now reply) ≡ 4112 ⌝ }
+    requires { ⌜ length (now reply) ≡ replySize ⌝ }
 {
-    let payload = number32(reply, 12);
+    let payload = number32(reply, LEN_AT);
     print_number(b" -> ", call);
     print_number(b" ", number32(reply, 0));
     print_number(b" ", payload);
     print_number(b" ", event_count);
     if payload != 0 {
         print(b" ");
-        print_octets(part(reply, 16, 16 + payload as usize));
+        print_octets(part(reply, HEADER_SIZE, HEADER_SIZE + payload as usize));
     }
     print(b"\n");
 }
@@ -59,7 +63,7 @@ fn print_hex(b: u8) {
 
 // Prints the three bytes that a slot begins with.
 pub fn print_slot(nodes: &[u8], slot: u32) {
-    let start = slot as usize * 108;
+    let start = slot as usize * SLOT_SIZE;
     let three = part(nodes, start, start + 3);
     print(b" begins");
     let mut i = 0;

@@ -11,6 +11,12 @@ use crate::words::part;
 use crate::words::type_of;
 use haabuvilk::fresh::haabuvilk_fresh;
 use octets::compare::begins;
+use octets::sizes::COPIES_SIZE;
+use octets::sizes::DOMAINS_SIZE;
+use octets::sizes::REPLY_SIZE;
+use octets::sizes::TABLE_SIZE;
+use octets::sizes::TRANSACTIONS_SIZE;
+use octets::sizes::WATCHES_SIZE;
 
 // Makes the children from the first number to before the second, and prints how many were made.
 fn children_step(
@@ -45,7 +51,7 @@ fn request_step(
     let kind = type_of(part(words, a + 1, b));
     let tx = number(part(words, b + 1, c));
     let payload = part(words, c + 1, words.len());
-    let mut message = [0u8; 4112];
+    let mut message = [0u8; REPLY_SIZE];
     let end = frame(&mut message, kind, tx, payload);
     ask(
         nodes,
@@ -106,11 +112,11 @@ fn all_steps(
 
 // Prints a worked line, and each of its steps with what came.
 pub fn worked(says: &[u8], steps: &[u8]) {
-    let mut nodes = [0u8; 13824];
-    let mut copies = [0u8; 41472];
-    let mut watches = [0u8; 4832];
-    let mut transactions = [0u8; 6393];
-    let mut domains = [0u8; 24];
+    let mut nodes = [0u8; TABLE_SIZE];
+    let mut copies = [0u8; COPIES_SIZE];
+    let mut watches = [0u8; WATCHES_SIZE];
+    let mut transactions = [0u8; TRANSACTIONS_SIZE];
+    let mut domains = [0u8; DOMAINS_SIZE];
     haabuvilk_fresh(
         &mut nodes,
         &mut copies,

@@ -1,5 +1,6 @@
 use mathlib.Core.Path.{sym, ap, _∙_}
 use borrow.Author.Needs.{needs}
+use Rattle.rules.specs.Size.{longestPath}
 use Rattle.rules.specs.Path.{isFull}
 use Rattle.events.proofs.ChangeLaws.{removal-given}
 use Rattle.events.proofs.SlotPaths.{slot-within, slot-full}
@@ -23,7 +24,7 @@ change-requires : tie.Need-change-requires
 change-requires c κs =
     let b = c .before .before .before .before .before .before .before .before .before in
     let w = slot-within _ _ (b .pre .1) in
-    (b .pre .0, ap isFull (front-is 0 _ _ _ _ (c .before .before .before .path-of .ensures) w) ∙ slot-full _ _ (b .pre .1), front-short 0 _ _ _ _ (c .before .before .before .path-of .ensures) w 264 w, b .pre .2)
+    (b .pre .0, ap isFull (front-is 0 _ _ _ _ (c .before .before .before .path-of .ensures) w) ∙ slot-full _ _ (b .pre .1), front-short 0 _ _ _ _ (c .before .before .before .path-of .ensures) w longestPath w, b .pre .2)
 
 same-length : tie.Need-same-length
 same-length c = search needs

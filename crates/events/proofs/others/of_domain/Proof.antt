@@ -1,6 +1,7 @@
 use mathlib.Core.Path.{sym}
 use native.Mathlib.Omega.{arith}
 use borrow.Author.Needs.{needs}
+use Rattle.rules.specs.Size.{longestPath}
 use Rattle.rules.specs.Event.{heardOf}
 use Rattle.rules.proofs.Decimals.{length-decimal-le}
 use Rattle.events.proofs.Fronts.{front-is, front-within, front-long, front-short}
@@ -26,7 +27,7 @@ keep-requires : tie.Need-keep-requires
 keep-requires c κs =
     let b = c .before .before .before .before .before .before .before .before in
     let l = length-decimal-le (b .args .d) in
-    (b .pre .2, front-short 1 _ _ _ _ (c .before .before .before .before .put-decimal .ensures) (omega arith) 264 (omega arith))
+    (b .pre .2, front-short 1 _ _ _ _ (c .before .before .before .before .put-decimal .ensures) (omega arith) longestPath (omega arith))
 
 same-length : tie.Need-same-length
 same-length c = search needs

@@ -3,6 +3,7 @@ use mathlib.Core.Logic.{⊎-elim}
 use Prim.Native.Nat.{_≤_, _-_}
 use native.Mathlib.Omega.{arith}
 use borrow.Author.Needs.{needs}
+use Rattle.rules.specs.Size.{slots}
 use Rattle.soundness.specs.Parts.{every}
 use Rattle.soundness.specs.Walks.{chained}
 use Rattle.soundness.proofs.TableLaws.{every-further, every-stop, every-ended, lost-chained, root-chained, root-level, root-count, unused-chained, Levels, levels-set, levels-lent, none-levelled}
@@ -10,10 +11,10 @@ use Rattle.soundness.proofs.chain.all_chained.Statement.{statement}
 use Rattle.soundness.proofs.chain.all_chained.Tie as tie
 
 abbrev Inv-loop : tie.InvT-loop
-Inv-loop t known₀ no-text₀ i₀ known no-text i = (i ≤ 128) × (every (chained t) 128 0 ≡ every (chained t) (128 - i) i) × Levels t known
+Inv-loop t known₀ no-text₀ i₀ known no-text i = (i ≤ slots) × (every (chained t) slots 0 ≡ every (chained t) (slots - i) i) × Levels t known
 
 abbrev μ-loop : tie.MeasureT-loop
-μ-loop t known₀ no-text₀ i₀ known no-text i = 128 - i
+μ-loop t known₀ no-text₀ i₀ known no-text i = slots - i
 
 loop-holds : tie.Need-loop-holds Inv-loop μ-loop
 loop-holds c = (omega arith, refl, none-levelled _)
@@ -42,7 +43,7 @@ returns : tie.Need-returns Inv-loop μ-loop
 returns c =
     let l = c .before .before .before .before .before .before .before .before .before in
     let u = c .before .before .before .before .before .before .before in
-    every-stop (chained _) 128 (l .loop .i) (u .before .loop-test .taken)
+    every-stop (chained _) slots (l .loop .i) (u .before .loop-test .taken)
     (lost-chained _ _ _ _ _ (c .before .before .before .walk .ensures) (sym (u .used .ensures) ∙ c .before .before .before .before .before .before .if1 .taken) (c .enum-told .given .1))
     ∙ sym (l .loop .inv .1)
 
@@ -66,7 +67,7 @@ loop-again c =
     let h = c .before .before .loop-test .taken in (
       omega arith,
       l .loop .inv .1
-          ∙ every-further (chained t) 128 i h
+          ∙ every-further (chained t) slots i h
           (⊎-elim (λ w. root-chained t i _ _ _ (w .3 .ensures) _ _ (w .6 .given .1) (sym (c .before .used .ensures) ∙ w .0 .taken))
           (λ w. unused-chained t i (sym (c .before .used .ensures) ∙ w .0 .left))
           (c .if1 .came)),
@@ -74,7 +75,7 @@ loop-again c =
     )
 
 returns-2 : tie.Need-returns-2 Inv-loop μ-loop
-returns-2 c = every-ended (chained _) 128 (c .before .loop .i) (c .loop-test .left) ∙ sym (c .before .loop .inv .1)
+returns-2 c = every-ended (chained _) slots (c .before .loop .i) (c .loop-test .left) ∙ sym (c .before .loop .inv .1)
 
 pub all-chained-spec : {M : Type 1} → statement M
 all-chained-spec =

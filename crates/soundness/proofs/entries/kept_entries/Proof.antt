@@ -2,6 +2,7 @@ use mathlib.Core.Path.{refl, sym, _∙_}
 use Prim.Native.Nat.{_+_, _*_}
 use native.Mathlib.Omega.{arith}
 use borrow.Author.Tests.{not-true, not-false}
+use Rattle.rules.specs.Size.{slotSize, fieldsSize}
 use Rattle.slots.proofs.Reading.{known}
 use Rattle.soundness.proofs.Tests.{stop, pass}
 use Rattle.soundness.proofs.SlotLaws.{sizes-of, entries-by}
@@ -42,7 +43,7 @@ shared-slice-read-first : tie.Need-shared-slice-read-first
 shared-slice-read-first c = search needs
 
 cast-first : tie.Need-cast-first
-cast-first c = omega (arith, c .shared-slice-known2 .given (c .before .before .before .before .before .args .i * 108 + 3))
+cast-first c = omega (arith, c .shared-slice-known2 .given (c .before .before .before .before .before .args .i * slotSize + fieldsSize))
 
 add-eight : tie.Need-add-eight
 add-eight c = search needs
@@ -51,7 +52,7 @@ eight-requires : tie.Need-eight-requires
 eight-requires c κs = search needs
 
 low-domains-requires : tie.Need-low-domains-requires
-low-domains-requires c κs = omega (arith, c .before .shared-slice-known2 .given (c .before .before .before .before .before .before .args .i * 108 + 3))
+low-domains-requires c κs = omega (arith, c .before .shared-slice-known2 .given (c .before .before .before .before .before .before .args .i * slotSize + fieldsSize))
 
 returns-3 : tie.Need-returns-3
 returns-3 c =

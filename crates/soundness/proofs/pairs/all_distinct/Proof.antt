@@ -1,3 +1,4 @@
+use Rattle.rules.specs.Size.{slots}
 use Rattle.slots.specs.Slot.{slotAt}
 use Rattle.soundness.proofs.KeyLaws.{key-used}
 use mathlib.Core.Path.{_≡_, refl, sym, _∙_}
@@ -16,10 +17,10 @@ abbrev μ-loop : tie.MeasureT-loop
 μ-loop t keys taken apart₀ i key place j₀ apart j = i - j
 
 abbrev Inv-pairs : tie.InvT-pairs
-Inv-pairs t keys₀ taken₀ apart₀ i₀ keys taken apart i = (i ≤ 128) × (apart ≡ true) × Keyed t keys i × Apart t i × Taken t taken i
+Inv-pairs t keys₀ taken₀ apart₀ i₀ keys taken apart i = (i ≤ slots) × (apart ≡ true) × Keyed t keys i × Apart t i × Taken t taken i
 
 abbrev μ-pairs : tie.MeasureT-pairs
-μ-pairs t keys₀ taken₀ apart₀ i₀ keys taken apart i = 128 - i
+μ-pairs t keys₀ taken₀ apart₀ i₀ keys taken apart i = slots - i
 
 pairs-holds : tie.Need-pairs-holds Inv-loop μ-loop Inv-pairs μ-pairs
 pairs-holds c = (omega arith, refl, record { long = refl; each = λ j l. absurd (omega arith) }, λ a b n m l h p q. absurd (omega arith), record { long = refl; each = λ j l. absurd (omega arith) })

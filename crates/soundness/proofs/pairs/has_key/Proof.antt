@@ -4,16 +4,17 @@ use mathlib.Core.Bool.{_||_}
 use Prim.Native.Nat.{_≤_, _-_}
 use native.Mathlib.Omega.{arith}
 use lib.ListN.{drop}
+use Rattle.rules.specs.Size.{slots}
 use Rattle.soundness.specs.Keys.{hasKey}
 use Rattle.soundness.proofs.KeyLaws.{has-key-turn, has-key-end}
 use Rattle.soundness.proofs.pairs.has_key.Statement.{statement}
 use Rattle.soundness.proofs.pairs.has_key.Tie as tie
 
 abbrev Inv-loop : tie.InvT-loop
-Inv-loop keys key found₀ j₀ found j = (j ≤ 128) × (hasKey key keys ≡ found || hasKey key (drop j keys))
+Inv-loop keys key found₀ j₀ found j = (j ≤ slots) × (hasKey key keys ≡ found || hasKey key (drop j keys))
 
 abbrev μ-loop : tie.MeasureT-loop
-μ-loop keys key found₀ j₀ found j = 128 - j
+μ-loop keys key found₀ j₀ found j = slots - j
 
 loop-holds : tie.Need-loop-holds Inv-loop μ-loop
 loop-holds c = (omega arith, refl)

@@ -1,5 +1,6 @@
 use Prim.Native.Nat.{ℕ}
 use lib.Dec.{leb}
+use Rattle.rules.specs.Size.{longestName, longestValue}
 use Rattle.soundness.proofs.Tests.{stop, pass, over, under}
 use Rattle.soundness.specs.Parts.{sized}
 use borrow.Author.Tests.{le-leb}
@@ -14,14 +15,14 @@ name-length-requires c κs = search needs
 
 returns : tie.Need-returns
 unfolding sized
-returns c = stop _ (over 32 (c .before .name-length .ensures) (c .if1 .taken))
+returns c = stop _ (over longestName (c .before .name-length .ensures) (c .if1 .taken))
 
 value-length-requires : tie.Need-value-length-requires
 value-length-requires c κs = search needs
 
 returns-2 : tie.Need-returns-2
 unfolding sized
-returns-2 c = pass (under 32 (c .before .before .before .name-length .ensures) (c .before .before .if1 .left)) (stop _ (over 64 (c .before .value-length .ensures) (c .if2 .taken)))
+returns-2 c = pass (under longestName (c .before .before .before .name-length .ensures) (c .before .before .if1 .left)) (stop _ (over longestValue (c .before .value-length .ensures) (c .if2 .taken)))
 
 entry-count-requires : tie.Need-entry-count-requires
 entry-count-requires c κs = search needs
@@ -30,15 +31,15 @@ returns-3 : tie.Need-returns-3
 unfolding sized
 returns-3 c =
     let b = c .before .before in
-    pass (under 32 (b .before .before .before .name-length .ensures) (b .before .before .if1 .left))
-    (pass (under 64 (b .before .value-length .ensures) (b .if2 .left)) (stop _ (ap (leb 1) (sym (c .before .entry-count .ensures) ∙ c .if3 .taken))))
+    pass (under longestName (b .before .before .before .name-length .ensures) (b .before .before .if1 .left))
+    (pass (under longestValue (b .before .value-length .ensures) (b .if2 .left)) (stop _ (ap (leb 1) (sym (c .before .entry-count .ensures) ∙ c .if3 .taken))))
 
 returns-4 : tie.Need-returns-4
 unfolding sized
 returns-4 c =
     let b = c .before .before in
-    pass (under 32 (b .before .before .before .name-length .ensures) (b .before .before .if1 .left))
-    (pass (under 64 (b .before .value-length .ensures) (b .if2 .left))
+    pass (under longestName (b .before .before .before .name-length .ensures) (b .before .before .if1 .left))
+    (pass (under longestValue (b .before .value-length .ensures) (b .if2 .left))
     (pass (ap (leb 1) (sym (c .before .entry-count .ensures)) ∙ le-leb 1 (c .before .entry-count .result) (omega arith)) (ap (λ (n : ℕ). leb n 4) (c .before .entry-count .ensures))))
 
 pub within-spec : {M : Type 1} → statement M

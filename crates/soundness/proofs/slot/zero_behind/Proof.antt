@@ -2,6 +2,7 @@ use mathlib.Core.Path.{ap, _∙_}
 use Prim.Native.Nat.{ℕ, _+_, _*_}
 use native.Mathlib.Omega.{arith}
 use lib.ListN.{take, drop}
+use Rattle.rules.specs.Size.{slotSize, valueAt, longestValue}
 use Rattle.rules.specs.Octets.{allZero}
 use Rattle.soundness.specs.Parts.{zeroBehind}
 use Rattle.soundness.proofs.SlotLaws.{sizes-of}
@@ -27,7 +28,7 @@ returns : tie.Need-returns
 unfolding zeroBehind
 returns c =
     let b = c .before .before .before in
-    c .rest-zero .ensures ∙ ap (λ (n : ℕ). allZero (drop n (take 64 (drop (b .args .i * 108 + 44) (b .args .t .now))))) (c .before .value-length .ensures)
+    c .rest-zero .ensures ∙ ap (λ (n : ℕ). allZero (drop n (take longestValue (drop (b .args .i * slotSize + valueAt) (b .args .t .now))))) (c .before .value-length .ensures)
 
 pub zero-behind-spec : {M : Type 1} → statement M
 zero-behind-spec =

@@ -13,7 +13,7 @@ counted : (n : ℕ) (s : Octets) → n ≤ length s → Counts n s
 counted n s h = (h, sym (length-take-le n s h))
 
 abbrev Inv-loop : tie.InvT-loop
-Inv-loop message₀ kind tx payload i₀ message i = (i ≤ length payload) × (length message ≡ 4112)
+Inv-loop message₀ kind tx payload i₀ message i = (i ≤ length payload) × (length message ≡ replySize)
 
 abbrev μ-loop : tie.MeasureT-loop
 μ-loop message₀ kind tx payload i₀ message i = length payload - i
