@@ -9,7 +9,7 @@ use native.Mathlib.Omega.{arith}
 use lib.ListN.{length, getD, take, drop, set, replicate, length-replicate, drop-of-length-le}
 use lib.Dec.{eqb, leb}
 use borrow.Author.Tests.{le-leb, lt-leb, eq-eqb, ne-eqb, leb-true, leb-false, eqb-true}
-use Rattle.rules.specs.Size.{mostDomains, domainSize, domainsSize}
+use Rattle.rules.specs.Size.{mostDomains, domainSize, domainsSize, lastDomain}
 use Rattle.rules.specs.Octets.{Octets, same, allZero, paste, field, bitsAt, bigEndian, pack, packFrom, _bits_}
 use Rattle.rules.specs.Path.{Domain}
 use Rattle.rules.specs.Layout.{Domains, domainIn, domainBytes, domainsBytes, domainsOf}
@@ -156,13 +156,13 @@ module _ (x : Option Domain) (ds : Domains) where
     unfolding goodDomain
     good-zero h = good-is ∙ rw (lt-leb 1 (entryOr 0 x) h)
 
-    pub good-large : 1 ≤ entryOr 0 x → 32751 < entryOr 0 x → goodDomain x ds ≡ false
+    pub good-large : 1 ≤ entryOr 0 x → lastDomain < entryOr 0 x → goodDomain x ds ≡ false
     unfolding goodDomain
-    good-large l h = good-is ∙ rw (le-leb 1 (entryOr 0 x) l, lt-leb (entryOr 0 x) 32751 h)
+    good-large l h = good-is ∙ rw (le-leb 1 (entryOr 0 x) l, lt-leb (entryOr 0 x) lastDomain h)
 
-    pub good-ranged : 1 ≤ entryOr 0 x → entryOr 0 x ≤ 32751 → goodDomain x ds ≡ not (introduced (entryOr 0 x) ds)
+    pub good-ranged : 1 ≤ entryOr 0 x → entryOr 0 x ≤ lastDomain → goodDomain x ds ≡ not (introduced (entryOr 0 x) ds)
     unfolding goodDomain
-    good-ranged l h = good-is ∙ rw (le-leb 1 (entryOr 0 x) l, le-leb (entryOr 0 x) 32751 h)
+    good-ranged l h = good-is ∙ rw (le-leb 1 (entryOr 0 x) l, le-leb (entryOr 0 x) lastDomain h)
 
 -- ── what a written place leaves ──
 

@@ -10,7 +10,7 @@ use lib.ListN.{length, getD, take, drop}
 use lib.Seq.{take-at, take-take}
 use lib.Dec.{eqb, leb, lit<, lit≤}
 use borrow.Author.Tests.{eq-eqb, ne-eqb, leb-true, leb-false}
-use Rattle.rules.specs.Size.{mostTransactions, transactionSize, transactionsSize}
+use Rattle.rules.specs.Size.{mostTransactions, transactionSize, transactionsSize, changesSize}
 use Rattle.rules.specs.Octets.{Octets, field, bitsAt, bigEndian, bit, padded, pack, packFrom, _bits_}
 use Rattle.rules.specs.Layout.{Transaction, changeBytes, transactionBytes, transactionIn, transactionAt, transactionsOf}
 use Rattle.rules.proofs.Fields.{field-part, field-three, bit-small, bit-back}
@@ -43,10 +43,10 @@ three m n o hm hn ho =
 abbrev pub threeOf : Transaction → Octets
 threeOf x = threeBytes (bit (x .stale)) (length (x .changes)) (x .holder)
 
-pub transaction-parts : (x : Transaction) → x .holder < 65536 → length (x .changes) ≤ 8 → transactionBytes (some x) ≡ threeOf x ++ padded 2128 (flatMap changeBytes (x .changes))
+pub transaction-parts : (x : Transaction) → x .holder < 65536 → length (x .changes) ≤ 8 → transactionBytes (some x) ≡ threeOf x ++ padded changesSize (flatMap changeBytes (x .changes))
 unfolding transactionBytes
 transaction-parts x ho hn =
-    ap (λ (a : Octets). a ++ padded 2128 (flatMap changeBytes (x .changes))) (three (bit (x .stale)) (length (x .changes)) (x .holder) (bit-small (x .stale)) (omega arith) ho)
+    ap (λ (a : Octets). a ++ padded changesSize (flatMap changeBytes (x .changes))) (three (bit (x .stale)) (length (x .changes)) (x .holder) (bit-small (x .stale)) (omega arith) ho)
 
 pub read-fits : (r : Octets) (head : ℕ) → TransactionFits (transactionAt r head)
 unfolding transactionAt bitsAt
@@ -91,26 +91,26 @@ module _ (s : Octets) (k : ℕ) (h : k < mostTransactions) where
   open-fits u = rw (is-read u) (read-fits row head)
 
   module _ (bytes : Bytes s) (whole : length s ≡ transactionsSize) where
-    head-bytes : head ≡ (getD s (k * 2131) 0 * 256 + getD s (k * 2131 + 1) 0) * 256 + getD s (k * 2131 + 2) 0
-    head-bytes = field-three s (k * 2131) (omega arith)
+    head-bytes : head ≡ (getD s (k * transactionSize) 0 * 256 + getD s (k * transactionSize + 1) 0) * 256 + getD s (k * transactionSize + 2) 0
+    head-bytes = field-three s (k * transactionSize) (omega arith)
 
-    pub used-byte : leb 128 (getD s (k * 2131) 0) ≡ taken (getD (transactionsOf s) k none)
+    pub used-byte : leb 128 (getD s (k * transactionSize) 0) ≡ taken (getD (transactionsOf s) k none)
     unfolding bitsAt
     used-byte =
-        let b = getD s (k * 2131) 0 in
-        let x = bytes (k * 2131) in
-        let y = bytes (k * 2131 + 1) in
-        let z = bytes (k * 2131 + 2) in
+        let b = getD s (k * transactionSize) 0 in
+        let x = bytes (k * transactionSize) in
+        let y = bytes (k * transactionSize + 1) in
+        let z = bytes (k * transactionSize + 2) in
         rw (place-is, taken-cond)
         (agree (λ p. eq-eqb (bitsAt head 23 1) 1 (omega (arith, leb-true 128 b p, head-bytes))) (λ p. ne-eqb (bitsAt head 23 1) 1 (λ q. omega (arith, leb-false 128 b p, q, head-bytes))))
 
-    pub holder-read : taken (getD (transactionsOf s) k none) ≡ true → (r : ℕ) → Two s (k * 2131 + 1) r → r ≡ transactionOf s k .holder
+    pub holder-read : taken (getD (transactionsOf s) k none) ≡ true → (r : ℕ) → Two s (k * transactionSize + 1) r → r ≡ transactionOf s k .holder
     unfolding transactionAt bitsAt
     holder-read u r w =
-        let e : k * 2131 + 1 + 1 ≡ k * 2131 + 2 = omega arith in
+        let e : k * transactionSize + 1 + 1 ≡ k * transactionSize + 2 = omega arith in
         let v = rw e at (w .value) in
-        let y = bytes (k * 2131 + 1) in
-        let z = bytes (k * 2131 + 2) in
+        let y = bytes (k * transactionSize + 1) in
+        let z = bytes (k * transactionSize + 2) in
         let q : r ≡ bitsAt head 0 16 = omega (arith, head-bytes) in
         q ∙ sym (ap Transaction.holder (is-read u))
 
@@ -118,25 +118,25 @@ module _ (s : Octets) (k : ℕ) (h : k < mostTransactions) where
     abbrev x : Transaction
     x = transactionOf s k
 
-    pub row-parts : row ≡ threeOf x ++ padded 2128 (flatMap changeBytes (x .changes))
+    pub row-parts : row ≡ threeOf x ++ padded changesSize (flatMap changeBytes (x .changes))
     row-parts = own-bytes c u ∙ transaction-parts x (open-fits u .holder) (open-fits u .few)
 
-    first-three : getD s (k * 2131) 0 ∷ getD s (k * 2131 + 1) 0 ∷ getD s (k * 2131 + 2) 0 ∷ [] ≡ threeOf x
+    first-three : getD s (k * transactionSize) 0 ∷ getD s (k * transactionSize + 1) 0 ∷ getD s (k * transactionSize + 2) 0 ∷ [] ≡ threeOf x
     first-three =
         let whole = c .whole in
-        sym (ap (λ (q : ℕ). take 3 (drop q s)) (sym (add-zero (k * 2131))) ∙ part-listed s (k * 2131) 0 3 (omega arith) ∙ rw add-zero)
-        ∙ sym (take-take 3 2131 (drop (k * 2131) s) (lit≤ tt))
+        sym (ap (λ (q : ℕ). take 3 (drop q s)) (sym (add-zero (k * transactionSize))) ∙ part-listed s (k * transactionSize) 0 3 (omega arith) ∙ rw add-zero)
+        ∙ sym (take-take 3 transactionSize (drop (k * transactionSize) s) (lit≤ tt))
         ∙ ap (take 3) row-parts
-        ∙ take-at (threeOf x) (padded 2128 (flatMap changeBytes (x .changes))) 3 refl
+        ∙ take-at (threeOf x) (padded changesSize (flatMap changeBytes (x .changes))) 3 refl
 
-    pub first-is : getD s (k * 2131) 0 ≡ 128 + 64 * bit (x .stale) + length (x .changes)
+    pub first-is : getD s (k * transactionSize) 0 ≡ 128 + 64 * bit (x .stale) + length (x .changes)
     first-is = let e = first-three in cc
 
-    marks : (getD s (k * 2131) 0 / 64 % 2 ≡ bit (x .stale)) × (getD s (k * 2131) 0 % 16 ≡ length (x .changes))
+    marks : (getD s (k * transactionSize) 0 / 64 % 2 ≡ bit (x .stale)) × (getD s (k * transactionSize) 0 % 16 ≡ length (x .changes))
     marks = marks-back _ _ _ first-is (bit-small (x .stale)) (open-fits u .few)
 
-    pub stale-read : eqb (getD s (k * 2131) 0 / 64 % 2) 1 ≡ x .stale
+    pub stale-read : eqb (getD s (k * transactionSize) 0 / 64 % 2) 1 ≡ x .stale
     stale-read = rw (marks .0) (bit-back (x .stale))
 
-    pub changes-read : getD s (k * 2131) 0 % 16 ≡ length (x .changes)
+    pub changes-read : getD s (k * transactionSize) 0 % 16 ≡ length (x .changes)
     changes-read = marks .1

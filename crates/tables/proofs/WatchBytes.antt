@@ -8,7 +8,7 @@ use native.Mathlib.Nat.{mod-lt, div-add-mod'}
 use native.Mathlib.Omega.{arith}
 use lib.ListN.{length, length-replicate, length-append}
 use lib.Dec.{eqb, lit<}
-use Rattle.rules.specs.Size.{mostWatches, watchSize}
+use Rattle.rules.specs.Size.{mostWatches, tokenAt, watchSize, longestPath}
 use Rattle.rules.specs.Octets.{Octets, field, bitsAt, bigEndian, bit, padded, pack, packFrom, _bits_}
 use Rattle.rules.specs.Path.{Given, malformed, absolute, relative, special, given}
 use Rattle.rules.specs.Payload.{Place, path, event}
@@ -82,26 +82,26 @@ six r g d o l t hr hg hd ho hl ht =
 pub record Narrow (w : Watch) : Type 0 where
   pub owner : w .owner < 65536
   pub depth : entryOr 0 (w .depth) < 256
-  pub path : length (placeText (w .place)) ≤ 264
+  pub path : length (placeText (w .place)) ≤ longestPath
   pub token : length (w .token) ≤ 32
 
 abbrev pub sixOf : Watch → Octets
 sixOf w = sixBytes (bit (isRelative (w .place))) (bit (taken (w .depth))) (entryOr 0 (w .depth)) (w .owner) (length (placeText (w .place))) (length (w .token))
 
-pub watch-parts : (w : Watch) → Narrow w → watchBytes (some w) ≡ sixOf w ++ (padded 264 (placeText (w .place)) ++ padded 32 (w .token))
+pub watch-parts : (w : Watch) → Narrow w → watchBytes (some w) ≡ sixOf w ++ (padded longestPath (placeText (w .place)) ++ padded 32 (w .token))
 unfolding watchBytes watchBits
 watch-parts w f =
     rw depth-bits
-    (ap (λ (a : Octets). a ++ (padded 264 (placeText (w .place)) ++ padded 32 (w .token)))
+    (ap (λ (a : Octets). a ++ (padded longestPath (placeText (w .place)) ++ padded 32 (w .token)))
     (six _ _ _ _ _ _ (bit-small (isRelative (w .place))) (bit-small (taken (w .depth))) (f .depth) (f .owner) (omega (arith, f .path)) (omega (arith, f .token))))
 
 pub narrow-width : (w : Watch) → Narrow w → length (watchBytes (some w)) ≡ watchSize
 narrow-width w f =
-    let p = length-padded 264 (placeText (w .place)) (f .path) in
+    let p = length-padded longestPath (placeText (w .place)) (f .path) in
     let t = length-padded 32 (w .token) (f .token) in
     ap length (watch-parts w f)
-    ∙ length-append (sixOf w) (padded 264 (placeText (w .place)) ++ padded 32 (w .token))
-    ∙ ap (λ (n : ℕ). 6 + n) (length-append (padded 264 (placeText (w .place))) (padded 32 (w .token)) ∙ ap₂ _+_ p t)
+    ∙ length-append (sixOf w) (padded longestPath (placeText (w .place)) ++ padded 32 (w .token))
+    ∙ ap (λ (n : ℕ). 6 + n) (length-append (padded longestPath (placeText (w .place))) (padded 32 (w .token)) ∙ ap₂ _+_ p t)
 
 -- ── a watch that was read ──
 
@@ -114,8 +114,8 @@ read-narrow r head =
     record {
       owner = mod-lt _ (lit< tt);
       depth = cond-case DepthBelow (eqb (bitsAt head 45 1) 1) (some (bitsAt head 32 8)) none (mod-lt _ (lit< tt)) (lit< tt);
-      path = omega (arith, place-short (eqb (bitsAt head 46 1) 1) (textAt r 6 264 (bitsAt head 7 9)), text-short r 6 264 (bitsAt head 7 9));
-      token = text-short r 270 32 (bitsAt head 0 6);
+      path = omega (arith, place-short (eqb (bitsAt head 46 1) 1) (textAt r 6 longestPath (bitsAt head 7 9)), text-short r 6 longestPath (bitsAt head 7 9));
+      token = text-short r tokenAt 32 (bitsAt head 0 6);
     }
 
 pub watch-wide : (r : Octets) → length (watchBytes (watchIn r)) ≡ watchSize
@@ -137,7 +137,7 @@ marks-back b r g e hr hg = (omega arith, omega arith, omega arith)
 packed-back : (n l t : ℕ) → n ≡ l * 128 + t → t ≤ 32 → (n / 128 ≡ l) × (n % 64 ≡ t)
 packed-back n l t e h = (omega arith, omega arith)
 
-pub lengths-back : (x y l t : ℕ) → x ≡ l / 2 % 256 → y ≡ l % 2 * 128 + t → l ≤ 264 → t ≤ 32
+pub lengths-back : (x y l t : ℕ) → x ≡ l / 2 % 256 → y ≡ l % 2 * 128 + t → l ≤ longestPath → t ≤ 32
     → ((x * 256 + y) / 128 ≡ l) × ((x * 256 + y) % 64 ≡ t) × (y / 64 % 2 ≡ 0)
 lengths-back x y l t hx hy hl ht =
     let half : x ≡ l / 2 = omega arith in

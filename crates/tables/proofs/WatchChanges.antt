@@ -8,7 +8,7 @@ use native.Mathlib.Omega.{arith}
 use lib.Dec.{eqb}
 use lib.ListN.{length, getD, set, replicate, length-replicate}
 use borrow.Author.Tests.{eqb-true}
-use Rattle.rules.specs.Size.{longestPath, mostWatches, watchSize, watchesSize}
+use Rattle.rules.specs.Size.{mostWatches, tokenAt, watchSize, watchesSize, longestPath}
 use Rattle.rules.specs.Octets.{Octets, same, paste, padded, bit}
 use Rattle.rules.specs.Entries.{without}
 use Rattle.rules.specs.Path.{Connection, absolute, special, namesIn}
@@ -76,7 +76,7 @@ module _ (c : Connection) (x : Octets) (r : Bool) (d : Depth) (t : Octets) (f : 
   given-narrow = record { owner = f .owner; depth = below; path = rw (placed r x (f .placed) .text) (f .path); token = f .few }
 
   given-parts : (first depth : ℕ) → first ≡ 128 + 64 * bit r + 32 * bit (taken (depthMeant d)) → depth ≡ entryOr 0 (depthMeant d)
-      → watchBytes (some w) ≡ (first ∷ depth ∷ (c / 256 % 256) ∷ (c % 256) ∷ (length x / 2 % 256) ∷ (length x % 2 * 128 + length t) ∷ []) ++ (padded 264 x ++ padded 32 t)
+      → watchBytes (some w) ≡ (first ∷ depth ∷ (c / 256 % 256) ∷ (c % 256) ∷ (length x / 2 % 256) ∷ (length x % 2 * 128 + length t) ∷ []) ++ (padded longestPath x ++ padded 32 t)
   unfolding watchGiven
   given-parts first depth p q = watch-parts w given-narrow ∙ rw (placed r x (f .placed) .text, placed r x (f .placed) .mark, p, q)
 
@@ -91,7 +91,7 @@ empty = record { width = length-replicate {A = ℕ} watchSize 0; back = watch-re
 module _ (s : Octets) (c : KeptWatches s) (k : ℕ) (h : k < mostWatches) where
   -- a place cleared, or left as it is
   pub freed-watch : (test : Watch → Bool) → passes test (getD (watchesOf s) k none) ≡ true
-      → paste (k * 302) (replicate 302 0) s ≡ watchesBytes (set (watchesOf s) k (droppedIf test (getD (watchesOf s) k none)))
+      → paste (k * watchSize) (replicate watchSize 0) s ≡ watchesBytes (set (watchesOf s) k (droppedIf test (getD (watchesOf s) k none)))
   unfolding watchesOf watchesBytes watchBytes
   freed-watch test = freed watchBytes watchIn watchSize watch-wide mostWatches s c k h empty test
 
@@ -109,21 +109,21 @@ module _ (s : Octets) (c : KeptWatches s) (k : ℕ) (h : k < mostWatches) where
   module _ (o : Connection) (x : Octets) (r : Bool) (d : Depth) (t : Octets) (f : FitWatch o x r t) (below : entryOr 0 (depthMeant d) < 256) where
     -- three parts put in, the last first
     pub put-watch : (first depth : ℕ) → first ≡ 128 + 64 * bit r + 32 * bit (taken (depthMeant d)) → depth ≡ entryOr 0 (depthMeant d)
-        → paste (k * 302) (first ∷ depth ∷ (o / 256 % 256) ∷ (o % 256) ∷ (length x / 2 % 256) ∷ (length x % 2 * 128 + length t) ∷ [])
-        (paste (k * 302 + 6) (padded 264 x) (paste (k * 302 + 270) (padded 32 t) s))
+        → paste (k * watchSize) (first ∷ depth ∷ (o / 256 % 256) ∷ (o % 256) ∷ (length x / 2 % 256) ∷ (length x % 2 * 128 + length t) ∷ [])
+        (paste (k * watchSize + 6) (padded longestPath x) (paste (k * watchSize + tokenAt) (padded 32 t) s))
         ≡ watchesBytes (set (watchesOf s) k (some (watchGiven o x r d t)))
     unfolding watchesOf watchesBytes
     put-watch first depth p q =
         let six = first ∷ depth ∷ (o / 256 % 256) ∷ (o % 256) ∷ (length x / 2 % 256) ∷ (length x % 2 * 128 + length t) ∷ [] in
         let whole = c .whole in
-        let l = length-padded 264 x (f .path) in
-        let e : k * 302 + 6 + 264 ≡ k * 302 + 270 = omega arith in
-        let inner = paste-append (k * 302 + 6) (padded 264 x) (padded 32 t) s (rw l (omega arith)) in
+        let l = length-padded longestPath x (f .path) in
+        let e : k * watchSize + 6 + longestPath ≡ k * watchSize + tokenAt = omega arith in
+        let inner = paste-append (k * watchSize + 6) (padded longestPath x) (padded 32 t) s (rw l (omega arith)) in
         sym
         (wrote watchBytes watchIn watchSize watch-wide mostWatches s c k (some (watchGiven o x r d t)) h (narrow-width _ (given-narrow o x r d t f below))
-        ∙ ap (λ (b : Octets). paste (k * 302) b s) (given-parts o x r d t f below first depth p q)
-        ∙ paste-append (k * 302) six (padded 264 x ++ padded 32 t) s (omega arith)
-        ∙ ap (paste (k * 302) six) (rw (l, e) at inner))
+        ∙ ap (λ (b : Octets). paste (k * watchSize) b s) (given-parts o x r d t f below first depth p q)
+        ∙ paste-append (k * watchSize) six (padded longestPath x ++ padded 32 t) s (omega arith)
+        ∙ ap (paste (k * watchSize) six) (rw (l, e) at inner))
 
     -- what the bytes are and mean after a watch is put in
     pub put-kept : (b : Octets) → b ≡ watchesBytes (set (watchesOf s) k (some (watchGiven o x r d t))) → KeptWatches b × (watchesOf b ≡ set (watchesOf s) k (some (watchGiven o x r d t)))
