@@ -9,7 +9,7 @@ use native.Mathlib.Omega.{arith}
 use lib.ListN.{length, getD, set, take, drop, length-append, length-drop}
 use lib.Seq.{length-take-le}
 use lib.Dec.{lit≤}
-use Rattle.rules.specs.Size.{mostTransactions, transactionSize, changeSize, changesSize, longestPath}
+use Rattle.rules.specs.Size.{mostTransactions, changesAt, transactionSize, mostChanges, changeSize, changesSize, longestPath}
 use Rattle.rules.specs.Octets.{Octets, padded, paste, bit}
 use Rattle.rules.specs.Path.{pathText, namesIn, isFull}
 use Rattle.rules.specs.Layout.{Transaction, changeBytes, transactionBytes, transactionIn, transactionsBytes, transactionsOf}
@@ -58,7 +58,7 @@ put-two s at r p h f hp m e =
 
 -- ── the transaction's bytes ──
 
-module _ (x : Transaction) (f : TransactionFits x) (few : length (x .changes) < 8) (r : Bool) (p : Octets) (full : isFull p ≡ true) (short : length p ≤ longestPath) where
+module _ (x : Transaction) (f : TransactionFits x) (few : length (x .changes) < mostChanges) (r : Bool) (p : Octets) (full : isFull p ≡ true) (short : length p ≤ longestPath) where
   longer : length (x .changes ++ changeGiven r p ∷ []) ≡ length (x .changes) + 1
   longer = length-append (x .changes) (changeGiven r p ∷ [])
 
@@ -75,7 +75,7 @@ module _ (x : Transaction) (f : TransactionFits x) (few : length (x .changes) < 
   rows-long = length-encoded changeBytes changeSize (x .changes) (each-map ChangeFits _ change-wide (x .changes) (f .changes))
 
   changed-bytes : (b : ℕ) → b ≡ 128 + 64 * bit (x .stale) + length (x .changes) + 1
-      → paste 0 (b ∷ []) (paste (3 + length (x .changes) * changeSize) (changeBytes (changeGiven r p)) (threeOf x ++ padded changesSize (flatMap changeBytes (x .changes))))
+      → paste 0 (b ∷ []) (paste (changesAt + length (x .changes) * changeSize) (changeBytes (changeGiven r p)) (threeOf x ++ padded changesSize (flatMap changeBytes (x .changes))))
       ≡ transactionBytes (some (changedBy x r p))
   unfolding changedBy paste
   changed-bytes b e =
@@ -100,13 +100,13 @@ module _ (s : Octets) (k : ℕ) (p : Octets) (room : Room s k p) (r : Bool) wher
   fits : TransactionFits x
   fits = open-fits s k (room .place .below) (room .place .used)
 
-  pub room-within : k * transactionSize + 3 + length (x .changes) * changeSize + changeSize ≤ length s
+  pub room-within : k * transactionSize + changesAt + length (x .changes) * changeSize + changeSize ≤ length s
   room-within = omega (arith, room .place .below, room .place .kept .whole, room .few)
 
   pub first-small : getD s (k * transactionSize) 0 + 1 < 256
   first-small = omega (arith, first-is s k (room .place .below) (room .place .kept) (room .place .used), room .few, bit-small (x .stale))
 
-  pub put-changed : set (paste (k * transactionSize + 3 + length (x .changes) * changeSize) (changeBytes (changeGiven r p)) s) (k * transactionSize) (getD s (k * transactionSize) 0 + 1)
+  pub put-changed : set (paste (k * transactionSize + changesAt + length (x .changes) * changeSize) (changeBytes (changeGiven r p)) s) (k * transactionSize) (getD s (k * transactionSize) 0 + 1)
       ≡ transactionsBytes (set (transactionsOf s) k (some (changedBy x r p)))
   unfolding transactionsOf transactionsBytes
   put-changed =
@@ -114,7 +114,7 @@ module _ (s : Octets) (k : ℕ) (p : Octets) (room : Room s k p) (r : Bool) wher
       let b = getD s at 0 + 1 in
       let c = changeBytes (changeGiven r p) in
       let row = take transactionSize (drop at s) in
-      let off = 3 + length (x .changes) * changeSize in
+      let off = changesAt + length (x .changes) * changeSize in
       let within = room-within in
       let wide : length c ≡ changeSize = change-wide (changeGiven r p) (given-fits r p (room .full) (room .short)) in
       let few = room .few in
@@ -123,8 +123,8 @@ module _ (s : Octets) (k : ℕ) (p : Octets) (room : Room s k p) (r : Bool) wher
       let lR : length R ≡ transactionSize = length-paste off c row (rw (lr, wide) (omega arith)) ∙ lr in
       let t = paste at R s in
       let lt : length t ≡ length s = length-paste at R s (rw lR (omega (arith, room .place .kept .whole, room .place .below))) in
-      let inner : paste (at + 3 + length (x .changes) * changeSize) c s ≡ t =
-      ap (λ (n : ℕ). paste n c s) (add-assoc at 3 (length (x .changes) * changeSize)) ∙ sym (paste-row s at transactionSize off c (omega (arith, room .place .kept .whole, room .place .below)) (rw wide (omega arith))) in
+      let inner : paste (at + changesAt + length (x .changes) * changeSize) c s ≡ t =
+      ap (λ (n : ℕ). paste n c s) (add-assoc at changesAt (length (x .changes) * changeSize)) ∙ sym (paste-row s at transactionSize off c (omega (arith, room .place .kept .whole, room .place .below)) (rw wide (omega arith))) in
       let e = ap (λ (n : ℕ). n + 1) (first-is s k (room .place .below) (room .place .kept) (room .place .used)) in
       let bytes : paste 0 (b ∷ []) R ≡ transactionBytes (some (changedBy x r p)) =
       ap (λ (q : Octets). paste 0 (b ∷ []) (paste off c q)) (row-parts s k (room .place .below) (room .place .kept) (room .place .used)) ∙ changed-bytes x fits few r p (room .full) (room .short) b e in

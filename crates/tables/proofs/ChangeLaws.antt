@@ -9,7 +9,7 @@ use lib.ListN.{length, getD, take, drop, replicate, length-append, length-drop}
 use lib.Seq.{take-at, drop-at, take-take, take-append-le, drop-append-le, drop-drop, take-append-seam}
 use lib.Dec.{leb, lit≤}
 use borrow.Author.Tests.{le-leb, lt-leb}
-use Rattle.rules.specs.Size.{transactionSize, changeSize, changesSize, longestPath}
+use Rattle.rules.specs.Size.{changesAt, transactionSize, changeFieldsSize, changeSize, changesSize, longestPath}
 use Rattle.rules.specs.Octets.{Octets, padded, bigEndian, bit, pack, packFrom, _bits_}
 use Rattle.rules.specs.Path.{pathText}
 use Rattle.rules.specs.Answer.{Change}
@@ -29,7 +29,7 @@ use Rattle.tables.proofs.TransactionLaws.{threeOf, row-parts, open-fits
 abbrev pub twoBytes : ℕ → ℕ → Octets
 twoBytes r l = (128 * r + l / 256) ∷ (l % 256) ∷ []
 
-pair : (r l : ℕ) → r < 2 → l ≤ longestPath → bigEndian 2 (pack (1 bits r ∷ 6 bits 0 ∷ 9 bits l ∷ [])) ≡ twoBytes r l
+pair : (r l : ℕ) → r < 2 → l ≤ longestPath → bigEndian changeFieldsSize (pack (1 bits r ∷ 6 bits 0 ∷ 9 bits l ∷ [])) ≡ twoBytes r l
 unfolding bigEndian pack packFrom
 pair r l hr hl =
     let p = pack (1 bits r ∷ 6 bits 0 ∷ 9 bits l ∷ []) in
@@ -46,7 +46,7 @@ change-parts c h = ap (λ (a : Octets). a ++ padded longestPath (pathText (c .na
 
 pub change-wide : (c : Change) → ChangeFits c → length (changeBytes c) ≡ changeSize
 change-wide c f =
-    ap length (change-parts c (f .short)) ∙ length-append (twoOf c) (padded longestPath (pathText (c .names))) ∙ ap (λ (n : ℕ). 2 + n) (length-padded longestPath (pathText (c .names)) (f .short))
+    ap length (change-parts c (f .short)) ∙ length-append (twoOf c) (padded longestPath (pathText (c .names))) ∙ ap (λ (n : ℕ). changeFieldsSize + n) (length-padded longestPath (pathText (c .names)) (f .short))
 
 number-back : (x y r l : ℕ) → x ≡ 128 * r + l / 256 → y ≡ l % 256 → r < 2 → l ≤ longestPath → (x * 256 + y) % 512 ≡ l
 number-back x y r l hx hy hr hl = omega arith
@@ -73,11 +73,11 @@ module _ (s : Octets) (k j : ℕ) (h : HasChange s k j) where
   rows : Each (Wide changeBytes changeSize) (x .changes)
   rows = each-map ChangeFits _ change-wide (x .changes) (fits .changes)
 
-  pub place-within : k * transactionSize + 3 + j * changeSize + changeSize ≤ length s
+  pub place-within : k * transactionSize + changesAt + j * changeSize + changeSize ≤ length s
   place-within = omega (arith, h .place .below, h .place .kept .whole, h .there, fits .few)
 
   -- the bytes of the change
-  own : take changeSize (drop (k * transactionSize + 3 + j * changeSize) s) ≡ changeBytes c
+  own : take changeSize (drop (k * transactionSize + changesAt + j * changeSize) s) ≡ changeBytes c
   unfolding padded
   own =
       let at = k * transactionSize in
@@ -86,46 +86,46 @@ module _ (s : Octets) (k j : ℕ) (h : HasChange s k j) where
       let l : length rest ≡ length (x .changes) * changeSize = length-encoded changeBytes changeSize (x .changes) rows in
       let few = fits .few in
       let there = h .there in
-      let body : drop 3 (take transactionSize (drop at s)) ≡ rest ++ zeros = ap (drop 3) (row-parts s k (h .place .below) (h .place .kept) (h .place .used)) ∙ drop-at (threeOf x) (rest ++ zeros) 3 refl in
-      sym (take-drop-take changeSize (3 + j * changeSize) transactionSize (drop at s) (omega arith) ∙ ap (take changeSize) (drop-drop (3 + j * changeSize) at s ∙ ap (λ (n : ℕ). drop n s) (sym (add-assoc at 3 (j * changeSize)))))
-      ∙ ap (take changeSize) (sym (drop-drop (j * changeSize) 3 (take transactionSize (drop at s))) ∙ ap (drop (j * changeSize)) body)
+      let body : drop changesAt (take transactionSize (drop at s)) ≡ rest ++ zeros = ap (drop changesAt) (row-parts s k (h .place .below) (h .place .kept) (h .place .used)) ∙ drop-at (threeOf x) (rest ++ zeros) changesAt refl in
+      sym (take-drop-take changeSize (changesAt + j * changeSize) transactionSize (drop at s) (omega arith) ∙ ap (take changeSize) (drop-drop (changesAt + j * changeSize) at s ∙ ap (λ (n : ℕ). drop n s) (sym (add-assoc at changesAt (j * changeSize)))))
+      ∙ ap (take changeSize) (sym (drop-drop (j * changeSize) changesAt (take transactionSize (drop at s))) ∙ ap (drop (j * changeSize)) body)
       ∙ ap (take changeSize) (drop-append-le (j * changeSize) rest zeros (omega arith))
       ∙ take-append-le changeSize (drop (j * changeSize) rest) zeros (rw (length-drop, l) (omega arith))
       ∙ encoded-at changeBytes changeSize (x .changes) j noChange rows (h .there)
 
-  parts : take changeSize (drop (k * transactionSize + 3 + j * changeSize) s) ≡ twoOf c ++ padded longestPath (pathText (c .names))
+  parts : take changeSize (drop (k * transactionSize + changesAt + j * changeSize) s) ≡ twoOf c ++ padded longestPath (pathText (c .names))
   parts = own ∙ change-parts c (change-fits .short)
 
-  first-two : getD s (k * transactionSize + 3 + j * changeSize) 0 ∷ getD s (k * transactionSize + 3 + j * changeSize + 1) 0 ∷ [] ≡ twoOf c
+  first-two : getD s (k * transactionSize + changesAt + j * changeSize) 0 ∷ getD s (k * transactionSize + changesAt + j * changeSize + 1) 0 ∷ [] ≡ twoOf c
   first-two =
-      let at = k * transactionSize + 3 + j * changeSize in
+      let at = k * transactionSize + changesAt + j * changeSize in
       let w = place-within in
-      sym (ap (λ (q : ℕ). take 2 (drop q s)) (sym (add-zero at)) ∙ part-listed s at 0 2 (omega arith) ∙ rw add-zero)
-      ∙ sym (take-take 2 changeSize (drop at s) (lit≤ tt))
-      ∙ ap (take 2) parts
-      ∙ take-at (twoOf c) (padded longestPath (pathText (c .names))) 2 refl
+      sym (ap (λ (q : ℕ). take changeFieldsSize (drop q s)) (sym (add-zero at)) ∙ part-listed s at 0 changeFieldsSize (omega arith) ∙ rw add-zero)
+      ∙ sym (take-take changeFieldsSize changeSize (drop at s) (lit≤ tt))
+      ∙ ap (take changeFieldsSize) parts
+      ∙ take-at (twoOf c) (padded longestPath (pathText (c .names))) changeFieldsSize refl
 
-  pub removed-read : leb 128 (getD s (k * transactionSize + 3 + j * changeSize) 0) ≡ c .removal
+  pub removed-read : leb 128 (getD s (k * transactionSize + changesAt + j * changeSize) 0) ≡ c .removal
   removed-read =
       let e = first-two in
-      let b : getD s (k * transactionSize + 3 + j * changeSize) 0 ≡ 128 * bit (c .removal) + length (pathText (c .names)) / 256 = cc in
+      let b : getD s (k * transactionSize + changesAt + j * changeSize) 0 ≡ 128 * bit (c .removal) + length (pathText (c .names)) / 256 = cc in
       removal-is _ _ (c .removal) b (change-fits .short)
 
-  pub length-read : (r : ℕ) → Two s (k * transactionSize + 3 + j * changeSize) r → r % 512 ≡ length (pathText (c .names))
+  pub length-read : (r : ℕ) → Two s (k * transactionSize + changesAt + j * changeSize) r → r % 512 ≡ length (pathText (c .names))
   length-read r w =
       let e = first-two in
-      let a : getD s (k * transactionSize + 3 + j * changeSize) 0 ≡ 128 * bit (c .removal) + length (pathText (c .names)) / 256 = cc in
-      let b : getD s (k * transactionSize + 3 + j * changeSize + 1) 0 ≡ length (pathText (c .names)) % 256 = cc in
+      let a : getD s (k * transactionSize + changesAt + j * changeSize) 0 ≡ 128 * bit (c .removal) + length (pathText (c .names)) / 256 = cc in
+      let b : getD s (k * transactionSize + changesAt + j * changeSize + 1) 0 ≡ length (pathText (c .names)) % 256 = cc in
       ap (λ (n : ℕ). n % 512) (w .value) ∙ number-back _ _ _ _ a b (bit-small (c .removal)) (change-fits .short)
 
-  pub path-read : (n : ℕ) → n ≡ length (pathText (c .names)) → take (k * transactionSize + 3 + j * changeSize + 2 + n - (k * transactionSize + 3 + j * changeSize + 2)) (drop (k * transactionSize + 3 + j * changeSize + 2) s) ≡ pathText (c .names)
+  pub path-read : (n : ℕ) → n ≡ length (pathText (c .names)) → take (k * transactionSize + changesAt + j * changeSize + changeFieldsSize + n - (k * transactionSize + changesAt + j * changeSize + changeFieldsSize)) (drop (k * transactionSize + changesAt + j * changeSize + changeFieldsSize) s) ≡ pathText (c .names)
   unfolding padded
   path-read n e =
-      let at = k * transactionSize + 3 + j * changeSize in
+      let at = k * transactionSize + changesAt + j * changeSize in
       let p = pathText (c .names) in
       let short = change-fits .short in
-      let body : drop 2 (take changeSize (drop at s)) ≡ p ++ replicate (longestPath - length p) 0 = ap (drop 2) parts ∙ drop-at (twoOf c) (padded longestPath p) 2 refl in
+      let body : drop changeFieldsSize (take changeSize (drop at s)) ≡ p ++ replicate (longestPath - length p) 0 = ap (drop changeFieldsSize) parts ∙ drop-at (twoOf c) (padded longestPath p) changeFieldsSize refl in
       ap (λ (m : ℕ). take m (drop (at + 2) s)) (add-sub-cancel-left (at + 2) n ∙ e)
-      ∙ sym (take-drop-take (length p) 2 changeSize (drop at s) (omega arith) ∙ ap (take (length p)) (drop-drop 2 at s))
+      ∙ sym (take-drop-take (length p) changeFieldsSize changeSize (drop at s) (omega arith) ∙ ap (take (length p)) (drop-drop changeFieldsSize at s))
       ∙ ap (take (length p)) body
       ∙ take-append-seam p (replicate (longestPath - length p) 0)

@@ -9,7 +9,7 @@ use native.Mathlib.Omega.{arith}
 use lib.ListN.{length, getD, take, drop, replicate, length-append, length-drop}
 use lib.Seq.{take-add, take-take, take-at, drop-at, drop-drop, length-take-le}
 use lib.Dec.{eqb, lit≤, lit<}
-use Rattle.rules.specs.Size.{changeSize, longestPath}
+use Rattle.rules.specs.Size.{changeFieldsSize, changeSize, longestPath}
 use Rattle.rules.specs.Octets.{Octets, same, padded, chunks, field, bitsAt, bit}
 use Rattle.rules.specs.Path.{Given, malformed, absolute, relative, special, given, namesIn, allNames, isFull, pathText}
 use Rattle.rules.specs.Answer.{Change}
@@ -63,17 +63,17 @@ names-all t = go (given t) (means t)
 
 read-short : (r : Octets) → length (pathText (changeIn r .names)) ≤ longestPath
 unfolding changeIn
-read-short r = names-short (textAt r 2 longestPath (bitsAt (field r 0 2) 0 9)) (text-short r 2 longestPath (bitsAt (field r 0 2) 0 9))
+read-short r = names-short (textAt r changeFieldsSize longestPath (bitsAt (field r 0 changeFieldsSize) 0 9)) (text-short r changeFieldsSize longestPath (bitsAt (field r 0 changeFieldsSize) 0 9))
 
 read-names : (r : Octets) → allNames (changeIn r .names) ≡ true
 unfolding changeIn
-read-names r = names-all (textAt r 2 longestPath (bitsAt (field r 0 2) 0 9))
+read-names r = names-all (textAt r changeFieldsSize longestPath (bitsAt (field r 0 changeFieldsSize) 0 9))
 
 pub change-long : (r : Octets) → length (changeBytes (changeIn r)) ≡ changeSize
 change-long r =
     ap length (change-parts (changeIn r) (read-short r))
     ∙ length-append (twoOf (changeIn r)) (padded longestPath (pathText (changeIn r .names)))
-    ∙ ap (λ (n : ℕ). 2 + n) (length-padded longestPath (pathText (changeIn r .names)) (read-short r))
+    ∙ ap (λ (n : ℕ). changeFieldsSize + n) (length-padded longestPath (pathText (changeIn r .names)) (read-short r))
 
 -- ── n changes ──
 
@@ -152,10 +152,10 @@ module _ (s : Octets) (at : ℕ) (bytes : Bytes s) (h : at + changeSize ≤ leng
   abbrev number : ℕ
   number = getD s at 0 * 256 + getD s (at + 1) 0
 
-  head-is : field row 0 2 ≡ number
-  head-is = field-part s at changeSize 0 2 (lit≤ tt) ∙ ap (λ (p : ℕ). field s p 2) (add-zero at) ∙ field-two s at (omega arith)
+  head-is : field row 0 changeFieldsSize ≡ number
+  head-is = field-part s at changeSize 0 changeFieldsSize (lit≤ tt) ∙ ap (λ (p : ℕ). field s p changeFieldsSize) (add-zero at) ∙ field-two s at (omega arith)
 
-  fields : (bitsAt (field row 0 2) 15 1 ≡ getD s at 0 / 128) × (bitsAt (field row 0 2) 0 9 ≡ number % 512)
+  fields : (bitsAt (field row 0 changeFieldsSize) 15 1 ≡ getD s at 0 / 128) × (bitsAt (field row 0 changeFieldsSize) 0 9 ≡ number % 512)
   unfolding bitsAt
   fields =
       let x = bytes at in
@@ -168,19 +168,19 @@ module _ (s : Octets) (at : ℕ) (bytes : Bytes s) (h : at + changeSize ≤ leng
 
   -- the text, as it stands
   abbrev text : Octets
-  text = textAt row 2 longestPath (number % 512)
+  text = textAt row changeFieldsSize longestPath (number % 512)
 
   names-are : c .names ≡ namesIn text
   unfolding changeIn
-  names-are = ap (λ (n : ℕ). namesIn (textAt row 2 longestPath n)) (fields .1)
+  names-are = ap (λ (n : ℕ). namesIn (textAt row changeFieldsSize longestPath n)) (fields .1)
 
-  first-two : take 2 row ≡ getD s at 0 ∷ getD s (at + 1) 0 ∷ []
-  first-two = take-take 2 changeSize (drop at s) (lit≤ tt) ∙ ap (λ (q : ℕ). take 2 (drop q s)) (sym (add-zero at)) ∙ part-listed s at 0 2 (omega arith) ∙ rw add-zero
+  first-two : take changeFieldsSize row ≡ getD s at 0 ∷ getD s (at + 1) 0 ∷ []
+  first-two = take-take changeFieldsSize changeSize (drop at s) (lit≤ tt) ∙ ap (λ (q : ℕ). take changeFieldsSize (drop q s)) (sym (add-zero at)) ∙ part-listed s at 0 changeFieldsSize (omega arith) ∙ rw add-zero
 
   -- a change whose bytes are its own
   module _ (own : changeBytes c ≡ row) where
     twos : twoOf c ≡ getD s at 0 ∷ getD s (at + 1) 0 ∷ []
-    twos = sym (take-at (twoOf c) (padded longestPath (pathText (c .names))) 2 refl) ∙ ap (take 2) (sym (change-parts c (read-short row)) ∙ own) ∙ first-two
+    twos = sym (take-at (twoOf c) (padded longestPath (pathText (c .names))) changeFieldsSize refl) ∙ ap (take changeFieldsSize) (sym (change-parts c (read-short row)) ∙ own) ∙ first-two
 
     record Said : Type 0 where
       zeros : number / 512 % 64 ≡ 0
@@ -202,7 +202,7 @@ module _ (s : Octets) (at : ℕ) (bytes : Bytes s) (h : at + changeSize ≤ leng
     unfolding textAt padded
     said-text =
         let p = pathText (c .names) in
-        let body : drop 2 row ≡ p ++ replicate (longestPath - length p) 0 = ap (drop 2) (sym own ∙ change-parts c (read-short row)) ∙ drop-at (twoOf c) (padded longestPath p) 2 refl in
+        let body : drop changeFieldsSize row ≡ p ++ replicate (longestPath - length p) 0 = ap (drop changeFieldsSize) (sym own ∙ change-parts c (read-short row)) ∙ drop-at (twoOf c) (padded longestPath p) changeFieldsSize refl in
         ap₂ (λ (n : ℕ) (r : Octets). take n (take longestPath r)) (said .long) body
         ∙ take-take (length p) longestPath (p ++ replicate (longestPath - length p) 0) (read-short row)
         ∙ take-at p (replicate (longestPath - length p) 0) (length p) refl
@@ -220,10 +220,10 @@ module _ (s : Octets) (at : ℕ) (bytes : Bytes s) (h : at + changeSize ≤ leng
   pub change-over : longestPath < number % 512 → changeKept row ≡ false
   change-over l = not-kept λ own. omega (arith, said-long own)
 
-  pub change-unfull : number % 512 ≤ longestPath → isFull (take (at + 2 + number % 512 - (at + 2)) (drop (at + 2) s)) ≡ false → changeKept row ≡ false
-  change-unfull l f = not-kept λ own. true≢false (sym (said-full own) ∙ ap isFull (sym (text-part s at changeSize 2 longestPath (number % 512) l (lit≤ tt))) ∙ f)
+  pub change-unfull : number % 512 ≤ longestPath → isFull (take (at + changeFieldsSize + number % 512 - (at + changeFieldsSize)) (drop (at + changeFieldsSize) s)) ≡ false → changeKept row ≡ false
+  change-unfull l f = not-kept λ own. true≢false (sym (said-full own) ∙ ap isFull (sym (text-part s at changeSize changeFieldsSize longestPath (number % 512) l (lit≤ tt))) ∙ f)
 
-  module _ (z : number / 512 % 64 ≡ 0) (l : number % 512 ≤ longestPath) (f : isFull (take (at + 2 + number % 512 - (at + 2)) (drop (at + 2) s)) ≡ true) where
+  module _ (z : number / 512 % 64 ≡ 0) (l : number % 512 ≤ longestPath) (f : isFull (take (at + changeFieldsSize + number % 512 - (at + changeFieldsSize)) (drop (at + changeFieldsSize) s)) ≡ true) where
     abbrev part : Octets
     part = take longestPath (drop (at + 2) s)
 
@@ -232,17 +232,17 @@ module _ (s : Octets) (at : ℕ) (bytes : Bytes s) (h : at + changeSize ≤ leng
 
     text-is : text ≡ take (number % 512) part
     text-is =
-        sym (text-part s at changeSize 2 longestPath (number % 512) l (lit≤ tt))
+        sym (text-part s at changeSize changeFieldsSize longestPath (number % 512) l (lit≤ tt))
         ∙ ap (λ (m : ℕ). take m (drop (at + 2) s)) (add-sub-cancel-left (at + 2) (number % 512))
         ∙ sym (take-take (number % 512) longestPath (drop (at + 2) s) l)
 
     path-is : pathText (c .names) ≡ text
-    path-is = ap pathText names-are ∙ sym (full text (ap isFull (sym (text-part s at changeSize 2 longestPath (number % 512) l (lit≤ tt))) ∙ f) .text)
+    path-is = ap pathText names-are ∙ sym (full text (ap isFull (sym (text-part s at changeSize changeFieldsSize longestPath (number % 512) l (lit≤ tt))) ∙ f) .text)
 
     path-long : length (pathText (c .names)) ≡ number % 512
     path-long = ap length (path-is ∙ text-is) ∙ length-take-le (number % 512) part (rw part-long l)
 
-    two-is : twoOf c ≡ take 2 row
+    two-is : twoOf c ≡ take changeFieldsSize row
     two-is =
         let x = getD s at 0 in
         let y = getD s (at + 1) 0 in
@@ -250,13 +250,13 @@ module _ (s : Octets) (at : ℕ) (bytes : Bytes s) (h : at + changeSize ≤ leng
         let hb = bytes at in
         rw (removal-is, path-long, bit-of (x / 128) (omega arith), n .0, n .1) (sym first-two)
 
-    row-is : row ≡ take 2 row ++ part
-    row-is = take-add 2 longestPath (drop at s) ∙ ap₂ _++_ (sym (take-take 2 changeSize (drop at s) (lit≤ tt))) (ap (take longestPath) (drop-drop 2 at s))
+    row-is : row ≡ take changeFieldsSize row ++ part
+    row-is = take-add changeFieldsSize longestPath (drop at s) ∙ ap₂ _++_ (sym (take-take changeFieldsSize changeSize (drop at s) (lit≤ tt))) (ap (take longestPath) (drop-drop changeFieldsSize at s))
 
     pub change-rest : changeKept row ≡ restZero s (at + 2) (number % 512) longestPath
     unfolding changeKept
     change-rest =
         let a = same-padded (number % 512) part in
         ap₂ same (change-parts c (read-short row)) row-is
-        ∙ same-append (twoOf c) (padded longestPath (pathText (c .names))) (take 2 row) part (ap length two-is)
+        ∙ same-append (twoOf c) (padded longestPath (pathText (c .names))) (take changeFieldsSize row) part (ap length two-is)
         ∙ ap₂ _&&_ (eq-same two-is) (ap (λ (t : Octets). same (padded longestPath t) part) (path-is ∙ text-is) ∙ (rw part-long at a))

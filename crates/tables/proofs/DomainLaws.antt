@@ -30,7 +30,7 @@ use Rattle.tables.proofs.Rows.{length-table, same-first, part-listed, k
 pub domain-wide : (m : Option Domain) → length (domainBytes m) ≡ domainSize
 unfolding domainBytes
 domain-wide none = length-replicate {A = ℕ} domainSize 0
-domain-wide (some d) = length-big 3 _
+domain-wide (some d) = length-big domainSize _
 
 pub length-domainsOf : (s : Octets) → length (domainsOf s) ≡ mostDomains
 unfolding domainsOf
@@ -38,37 +38,37 @@ length-domainsOf s = length-table domainBytes domainIn domainSize (λ r. domain-
 
 module _ (s : Octets) (bytes : Bytes s) (whole : length s ≡ domainsSize) (k : ℕ) (h : k < mostDomains) where
   head : ℕ
-  head = field s (k * 3) 3
+  head = field s (k * domainSize) domainSize
 
   place-is : getD (domainsOf s) k none ≡ cond (eqb (bitsAt head 23 1) 1) (some (bitsAt head 0 16)) none
   unfolding domainIn head
-  place-is = domain-at s k h ∙ rw (field-part s (k * 3) 3 0 3 (omega arith), add-zero)
+  place-is = domain-at s k h ∙ rw (field-part s (k * domainSize) domainSize 0 domainSize (omega arith), add-zero)
 
-  head-bytes : head ≡ (getD s (k * 3) 0 * 256 + getD s (k * 3 + 1) 0) * 256 + getD s (k * 3 + 2) 0
+  head-bytes : head ≡ (getD s (k * domainSize) 0 * 256 + getD s (k * domainSize + 1) 0) * 256 + getD s (k * domainSize + 2) 0
   unfolding head
-  head-bytes = field-three s (k * 3) (omega arith)
+  head-bytes = field-three s (k * domainSize) (omega arith)
 
-  pub used-byte : leb 128 (getD s (k * 3) 0) ≡ taken (getD (domainsOf s) k none)
+  pub used-byte : leb 128 (getD s (k * domainSize) 0) ≡ taken (getD (domainsOf s) k none)
   unfolding bitsAt
   used-byte =
-      let a = bytes (k * 3) in
-      let b = bytes (k * 3 + 1) in
-      let d = bytes (k * 3 + 2) in
+      let a = bytes (k * domainSize) in
+      let b = bytes (k * domainSize + 1) in
+      let d = bytes (k * domainSize + 2) in
       rw (place-is, taken-cond)
-      (agree (λ p. eq-eqb (bitsAt head 23 1) 1 (omega (arith, leb-true 128 (getD s (k * 3) 0) p, head-bytes))) (λ p. ne-eqb (bitsAt head 23 1) 1 (λ q. omega (arith, leb-false 128 (getD s (k * 3) 0) p, q, head-bytes))))
+      (agree (λ p. eq-eqb (bitsAt head 23 1) 1 (omega (arith, leb-true 128 (getD s (k * domainSize) 0) p, head-bytes))) (λ p. ne-eqb (bitsAt head 23 1) 1 (λ q. omega (arith, leb-false 128 (getD s (k * domainSize) 0) p, q, head-bytes))))
 
-  pub domain-bytes : taken (getD (domainsOf s) k none) ≡ true → getD s (k * 3 + 1) 0 * 256 + getD s (k * 3 + 2) 0 ≡ entryOr 0 (getD (domainsOf s) k none)
+  pub domain-bytes : taken (getD (domainsOf s) k none) ≡ true → getD s (k * domainSize + 1) 0 * 256 + getD s (k * domainSize + 2) 0 ≡ entryOr 0 (getD (domainsOf s) k none)
   unfolding bitsAt
   domain-bytes u =
-      let a = bytes (k * 3) in
-      let b = bytes (k * 3 + 1) in
-      let d = bytes (k * 3 + 2) in
+      let a = bytes (k * domainSize) in
+      let b = bytes (k * domainSize + 1) in
+      let d = bytes (k * domainSize + 2) in
       let e = entry-cond (eqb (bitsAt head 23 1) 1) (bitsAt head 0 16) 0 (sym (taken-cond _ (bitsAt head 0 16)) ∙ ap taken (sym place-is) ∙ u) in
       rw place-is (omega (arith, head-bytes, e))
 
-  pub domain-two : (r : ℕ) → Two s (k * 3 + 1) r → taken (getD (domainsOf s) k none) ≡ true → r ≡ entryOr 0 (getD (domainsOf s) k none)
+  pub domain-two : (r : ℕ) → Two s (k * domainSize + 1) r → taken (getD (domainsOf s) k none) ≡ true → r ≡ entryOr 0 (getD (domainsOf s) k none)
   domain-two r w u =
-      let e : k * 3 + 1 + 1 ≡ k * 3 + 2 = omega arith in
+      let e : k * domainSize + 1 + 1 ≡ k * domainSize + 2 = omega arith in
       (rw e at (w .value)) ∙ domain-bytes u
 
 -- ── whether the bytes are those of what they mean ──
@@ -104,30 +104,30 @@ three-bytes d h =
     rw (a, b, e)
 
 module _ (s : Octets) (bytes : Bytes s) (whole : length s ≡ domainsSize) (k : ℕ) (h : k < mostDomains) where
-  row : take 3 (drop (k * 3) s) ≡ getD s (k * 3) 0 ∷ getD s (k * 3 + 1) 0 ∷ getD s (k * 3 + 2) 0 ∷ []
-  row = ap (λ (p : ℕ). take 3 (drop p s)) (sym (add-zero (k * 3))) ∙ part-listed s (k * 3) 0 3 (omega arith) ∙ rw add-zero
+  row : take domainSize (drop (k * domainSize) s) ≡ getD s (k * domainSize) 0 ∷ getD s (k * domainSize + 1) 0 ∷ getD s (k * domainSize + 2) 0 ∷ []
+  row = ap (λ (p : ℕ). take domainSize (drop p s)) (sym (add-zero (k * domainSize))) ∙ part-listed s (k * domainSize) 0 domainSize (omega arith) ∙ rw add-zero
 
   -- a used place has nothing but its id
-  pub used-kept : 128 ≤ getD s (k * 3) 0 → eqb (getD s (k * 3) 0) 128 ≡ keptAt mostDomains domainSize domainBytes domainIn s k
+  pub used-kept : 128 ≤ getD s (k * domainSize) 0 → eqb (getD s (k * domainSize) 0) 128 ≡ keptAt mostDomains domainSize domainBytes domainIn s k
   unfolding keptAt
   used-kept u =
-      let x = getD s (k * 3 + 1) 0 in
-      let y = getD s (k * 3 + 2) 0 in
-      let p = bytes (k * 3 + 1) in
-      let q = bytes (k * 3 + 2) in
+      let x = getD s (k * domainSize + 1) 0 in
+      let y = getD s (k * domainSize + 2) 0 in
+      let p = bytes (k * domainSize + 1) in
+      let q = bytes (k * domainSize + 2) in
       let t = sym (used-byte s bytes whole k h) ∙ le-leb 128 _ u in
       let e = sym (domain-at s k h) ∙ (taken-some 0 (getD (domainsOf s) k none) t ∙ ap some (sym (domain-bytes s bytes whole k h t))) in
       let b : (x * 256 + y) / 256 % 256 ≡ x = omega arith in
       let d : (x * 256 + y) % 256 ≡ y = omega arith in
-      rw (e, three-bytes (x * 256 + y) (omega arith), row, b, d) (sym (same-first 128 (getD s (k * 3) 0) (x ∷ y ∷ [])))
+      rw (e, three-bytes (x * 256 + y) (omega arith), row, b, d) (sym (same-first 128 (getD s (k * domainSize) 0) (x ∷ y ∷ [])))
 
   -- a free place is all zero
-  pub free-kept : getD s (k * 3) 0 < 128 → allZero (take (k * 3 + 3 - k * 3) (drop (k * 3) s)) ≡ keptAt mostDomains domainSize domainBytes domainIn s k
+  pub free-kept : getD s (k * domainSize) 0 < 128 → allZero (take (k * domainSize + domainSize - k * domainSize) (drop (k * domainSize) s)) ≡ keptAt mostDomains domainSize domainBytes domainIn s k
   unfolding keptAt domainBytes
   free-kept u =
       let f = sym (used-byte s bytes whole k h) ∙ lt-leb 128 _ u in
       let e = sym (domain-at s k h) ∙ free-none (getD (domainsOf s) k none) f in
-      rw (e, add-sub-cancel-left) (sym (same-zeros 3 (take 3 (drop (k * 3) s)) (ap length row)))
+      rw (e, add-sub-cancel-left) (sym (same-zeros domainSize (take domainSize (drop (k * domainSize) s)) (ap length row)))
 
 -- ── what is asked of each ──
 
@@ -167,19 +167,19 @@ module _ (x : Option Domain) (ds : Domains) where
 -- ── what a written place leaves ──
 
 module _ (s : Octets) (c : KeptDomains s) (k : ℕ) (h : k < mostDomains) where
-  pub put-domain : (d : ℕ) → d < 65536 → set (set (set s (k * 3) 128) (k * 3 + 1) (d / 256 % 256)) (k * 3 + 2) (d % 256) ≡ domainsBytes (set (domainsOf s) k (some d))
+  pub put-domain : (d : ℕ) → d < 65536 → set (set (set s (k * domainSize) 128) (k * domainSize + 1) (d / 256 % 256)) (k * domainSize + 2) (d % 256) ≡ domainsBytes (set (domainsOf s) k (some d))
   unfolding domainsOf domainsBytes
   put-domain d l =
       let whole = c .whole in
-      let one : k * 3 + 1 ≡ suc (k * 3) = omega arith in
-      let two : k * 3 + 2 ≡ suc (suc (k * 3)) = omega arith in
+      let one : k * domainSize + 1 ≡ suc (k * domainSize) = omega arith in
+      let two : k * domainSize + 2 ≡ suc (suc (k * domainSize)) = omega arith in
       rw (one, two)
-      (paste-sets (k * 3) (128 ∷ (d / 256 % 256) ∷ (d % 256) ∷ []) s (omega arith)
-      ∙ ap (λ (r : Octets). paste (k * 3) r s) (sym (three-bytes d l))
+      (paste-sets (k * domainSize) (128 ∷ (d / 256 % 256) ∷ (d % 256) ∷ []) s (omega arith)
+      ∙ ap (λ (r : Octets). paste (k * domainSize) r s) (sym (three-bytes d l))
       ∙ sym (wrote domainBytes domainIn domainSize wide mostDomains s c k (some d) h (domain-wide (some d))))
 
   pub freed-domain : (test : Domain → Bool) → passes test (getD (domainsOf s) k none) ≡ true
-      → paste (k * 3) (replicate 3 0) s ≡ domainsBytes (set (domainsOf s) k (droppedIf test (getD (domainsOf s) k none)))
+      → paste (k * domainSize) (replicate domainSize 0) s ≡ domainsBytes (set (domainsOf s) k (droppedIf test (getD (domainsOf s) k none)))
   unfolding domainsOf domainsBytes domainBytes
   freed-domain test = freed domainBytes domainIn domainSize wide mostDomains s c k h empty test
 

@@ -10,7 +10,7 @@ use lib.ListN.{length, getD, take, drop, replicate, length-append, length-drop, 
 use lib.Seq.{take-add, take-take, take-at, drop-drop, length-take-le}
 use lib.Dec.{eqb, lit≤}
 use borrow.Author.Tests.{le-leb, lt-leb}
-use Rattle.rules.specs.Size.{mostTransactions, transactionSize, transactionsSize, changeSize, changesSize}
+use Rattle.rules.specs.Size.{mostTransactions, changesAt, transactionSize, transactionsSize, mostChanges, changeSize, changesSize}
 use Rattle.rules.specs.Octets.{Octets, same, allZero, padded, chunks, field, bitsAt, bit}
 use Rattle.rules.specs.Answer.{Change}
 use Rattle.rules.specs.Layout.{Transaction, changeBytes, changeIn, transactionBytes, transactionIn, transactionAt, transactionsBytes, transactionsOf}
@@ -83,7 +83,7 @@ three-fields a b d ha hb hd =
     let q : m / 4194304 ≡ a / 64 = omega arith in
     (ap (λ (n : ℕ). n % 2) q, ap (λ (n : ℕ). n % 16) p, omega arith)
 
-marks-back : (b m n : ℕ) → b ≡ 128 + 64 * m + n → m < 2 → n ≤ 8 → (b / 16 % 4 ≡ 0) × (b % 16 ≡ n)
+marks-back : (b m n : ℕ) → b ≡ 128 + 64 * m + n → m < 2 → n ≤ mostChanges → (b / 16 % 4 ≡ 0) × (b % 16 ≡ n)
 marks-back b m n e hm hn = (omega arith, omega arith)
 
 module _ (s : Octets) (k : ℕ) (h : k < mostTransactions) (bytes : Bytes s) (whole : length s ≡ transactionsSize) where
@@ -91,7 +91,7 @@ module _ (s : Octets) (k : ℕ) (h : k < mostTransactions) (bytes : Bytes s) (wh
   place = take transactionSize (drop (k * transactionSize) s)
 
   abbrev head : ℕ
-  head = field s (k * transactionSize) 3
+  head = field s (k * transactionSize) changesAt
 
   abbrev x : Transaction
   x = transactionAt place head
@@ -110,8 +110,8 @@ module _ (s : Octets) (k : ℕ) (h : k < mostTransactions) (bytes : Bytes s) (wh
       let e = sym (transaction-at s k h) ∙ free-none (getD (transactionsOf s) k none) f in
       rw (e, add-sub-cancel-left) (sym (same-zeros transactionSize place (length-take-le transactionSize (drop (k * transactionSize) s) (rw length-drop (omega arith)))))
 
-  first-three : take 3 (drop (k * transactionSize) s) ≡ first ∷ getD s (k * transactionSize + 1) 0 ∷ getD s (k * transactionSize + 2) 0 ∷ []
-  first-three = ap (λ (q : ℕ). take 3 (drop q s)) (sym (add-zero (k * transactionSize))) ∙ part-listed s (k * transactionSize) 0 3 (omega arith) ∙ rw add-zero
+  first-three : take changesAt (drop (k * transactionSize) s) ≡ first ∷ getD s (k * transactionSize + 1) 0 ∷ getD s (k * transactionSize + 2) 0 ∷ []
+  first-three = ap (λ (q : ℕ). take changesAt (drop q s)) (sym (add-zero (k * transactionSize))) ∙ part-listed s (k * transactionSize) 0 changesAt (omega arith) ∙ rw add-zero
 
   module _ (u : 128 ≤ first) where
     kept-is : kept ≡ same (transactionBytes (some x)) place
@@ -127,13 +127,13 @@ module _ (s : Octets) (k : ℕ) (h : k < mostTransactions) (bytes : Bytes s) (wh
     x-parts : transactionBytes (some x) ≡ threeOf x ++ padded changesSize (flatMap changeBytes (x .changes))
     x-parts = transaction-parts x (x-fits .holder) (x-fits .few)
 
-    marks-said : transactionBytes (some x) ≡ place → (first / 16 % 4 ≡ 0) × (first % 16 ≤ 8)
+    marks-said : transactionBytes (some x) ≡ place → (first / 16 % 4 ≡ 0) × (first % 16 ≤ mostChanges)
     marks-said own =
         let e : first ∷ getD s (k * transactionSize + 1) 0 ∷ getD s (k * transactionSize + 2) 0 ∷ [] ≡ threeOf x =
         sym first-three
-        ∙ sym (take-take 3 transactionSize (drop (k * transactionSize) s) (lit≤ tt))
-        ∙ ap (take 3) (sym own ∙ x-parts)
-        ∙ take-at (threeOf x) (padded changesSize (flatMap changeBytes (x .changes))) 3 refl in
+        ∙ sym (take-take changesAt transactionSize (drop (k * transactionSize) s) (lit≤ tt))
+        ∙ ap (take changesAt) (sym own ∙ x-parts)
+        ∙ take-at (threeOf x) (padded changesSize (flatMap changeBytes (x .changes))) changesAt refl in
         let b : first ≡ 128 + 64 * bit (x .stale) + length (x .changes) = cc in
         let m = marks-back _ _ _ b (bit-small (x .stale)) (x-fits .few) in
         (m .0, rw (m .1) (x-fits .few))
@@ -144,31 +144,31 @@ module _ (s : Octets) (k : ℕ) (h : k < mostTransactions) (bytes : Bytes s) (wh
     pub kept-marked : (first / 16 % 4 ≡ 0 → ⊥) → kept ≡ false
     kept-marked z = not-own λ own. z (marks-said own .0)
 
-    pub kept-many : 8 < first % 16 → kept ≡ false
+    pub kept-many : mostChanges < first % 16 → kept ≡ false
     kept-many l = not-own λ own. omega (arith, marks-said own .1)
 
-    module _ (z : first / 16 % 4 ≡ 0) (l : first % 16 ≤ 8) where
+    module _ (z : first / 16 % 4 ≡ 0) (l : first % 16 ≤ mostChanges) where
       abbrev n : ℕ
       n = first % 16
 
       abbrev body : Octets
-      body = take changesSize (drop (k * transactionSize + 3) s)
+      body = take changesSize (drop (k * transactionSize + changesAt) s)
 
       abbrev front : Octets
-      front = take (n * changeSize) (drop (k * transactionSize + 3) s)
+      front = take (n * changeSize) (drop (k * transactionSize + changesAt) s)
 
       head-fields : (bitsAt head 22 1 ≡ first / 64 % 2) × (bitsAt head 16 4 ≡ n) × (bitsAt head 0 16 ≡ getD s (k * transactionSize + 1) 0 * 256 + getD s (k * transactionSize + 2) 0)
       unfolding bitsAt
       head-fields = rw (field-three s (k * transactionSize) (omega arith)) (three-fields _ _ _ (bytes (k * transactionSize)) (bytes (k * transactionSize + 1)) (bytes (k * transactionSize + 2)))
 
-      place-body : place ≡ take 3 (drop (k * transactionSize) s) ++ body
-      place-body = take-add 3 changesSize (drop (k * transactionSize) s) ∙ ap (λ (r : Octets). take 3 (drop (k * transactionSize) s) ++ take changesSize r) (drop-drop 3 (k * transactionSize) s)
+      place-body : place ≡ take changesAt (drop (k * transactionSize) s) ++ body
+      place-body = take-add changesAt changesSize (drop (k * transactionSize) s) ∙ ap (λ (r : Octets). take changesAt (drop (k * transactionSize) s) ++ take changesSize r) (drop-drop changesAt (k * transactionSize) s)
 
-      body-is : drop 3 place ≡ body
-      body-is = drop-take-add 3 changesSize (drop (k * transactionSize) s) ∙ ap (take changesSize) (drop-drop 3 (k * transactionSize) s)
+      body-is : drop changesAt place ≡ body
+      body-is = drop-take-add changesAt changesSize (drop (k * transactionSize) s) ∙ ap (take changesSize) (drop-drop changesAt (k * transactionSize) s)
 
       front-is : take (n * changeSize) body ≡ front
-      front-is = take-take (n * changeSize) changesSize (drop (k * transactionSize + 3) s) (omega arith)
+      front-is = take-take (n * changeSize) changesSize (drop (k * transactionSize + changesAt) s) (omega arith)
 
       rows : List Octets
       rows = chunks n changeSize front
@@ -176,34 +176,34 @@ module _ (s : Octets) (k : ℕ) (h : k < mostTransactions) (bytes : Bytes s) (wh
       changes-are : x .changes ≡ map changeIn rows
       unfolding transactionAt rows
       changes-are =
-          rw (head-fields .1, body-is, chunks-take n 8 changeSize body l) (ap (map changeIn) (sym (chunks-front n changeSize body) ∙ ap (chunks n changeSize) front-is))
+          rw (head-fields .1, body-is, chunks-take n mostChanges changeSize body l) (ap (map changeIn) (sym (chunks-front n changeSize body) ∙ ap (chunks n changeSize) front-is))
 
       few : length (x .changes) ≡ n
       unfolding rows
       few = ap length changes-are ∙ length-map (chunks n changeSize front) changeIn ∙ length-chunks n changeSize front
 
-      three-is : threeOf x ≡ take 3 (drop (k * transactionSize) s)
+      three-is : threeOf x ≡ take changesAt (drop (k * transactionSize) s)
       unfolding transactionAt
       three-is =
           let p = pair-forward (getD s (k * transactionSize + 1) 0) (getD s (k * transactionSize + 2) 0) (bytes (k * transactionSize + 1)) (bytes (k * transactionSize + 2)) in
           rw (few, head-fields .0, head-fields .2, first-forward first u (bytes (k * transactionSize)) z, p .0, p .1) (sym first-three)
 
       front-long : length front ≡ n * changeSize
-      front-long = length-take-le (n * changeSize) (drop (k * transactionSize + 3) s) (rw length-drop (omega arith))
+      front-long = length-take-le (n * changeSize) (drop (k * transactionSize + changesAt) s) (rw length-drop (omega arith))
 
       all-long : length (flatMap changeBytes (map changeIn rows)) ≡ n * changeSize
       unfolding rows
       all-long = rows-long (chunks n changeSize front) ∙ ap (λ (m : ℕ). m * changeSize) (length-chunks n changeSize front)
 
-      pub kept-parts : kept ≡ (changesKept n front && restZero s (k * transactionSize + 3) (n * changeSize) changesSize)
+      pub kept-parts : kept ≡ (changesKept n front && restZero s (k * transactionSize + changesAt) (n * changeSize) changesSize)
       unfolding changesKept padded rows
       kept-parts =
           let all = flatMap changeBytes (map changeIn rows) in
           let e : length all ≡ n * changeSize = all-long in
-          let bl : length body ≡ changesSize = length-take-le changesSize (drop (k * transactionSize + 3) s) (rw length-drop (omega arith)) in
+          let bl : length body ≡ changesSize = length-take-le changesSize (drop (k * transactionSize + changesAt) s) (rw length-drop (omega arith)) in
           kept-is
           ∙ ap₂ same (x-parts ∙ ap (λ (cs : List Change). threeOf x ++ padded changesSize (flatMap changeBytes cs)) changes-are) place-body
-          ∙ same-append (threeOf x) (padded changesSize all) (take 3 (drop (k * transactionSize) s)) body (ap length three-is)
+          ∙ same-append (threeOf x) (padded changesSize all) (take changesAt (drop (k * transactionSize) s)) body (ap length three-is)
           ∙ ap₂ _&&_ (eq-same three-is) (ap (same (padded changesSize all)) (sym (take-append-drop (n * changeSize) body) ∙ ap (λ (r : Octets). r ++ drop (n * changeSize) body) front-is))
           ∙ same-append all (replicate (changesSize - length all) 0) front (drop (n * changeSize) body) (e ∙ sym front-long)
           ∙ ap (λ (b : Bool). same all front && b) (same-zeros (changesSize - length all) (drop (n * changeSize) body) (rw (length-drop, bl, e)))

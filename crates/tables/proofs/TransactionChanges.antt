@@ -9,7 +9,7 @@ use native.Mathlib.Omega.{arith}
 use lib.Dec.{lit≤}
 use lib.ListN.{length, getD, set, replicate, length-replicate}
 use lib.Seq.{set-getD}
-use Rattle.rules.specs.Size.{mostTransactions, transactionSize, changesSize}
+use Rattle.rules.specs.Size.{mostTransactions, changesAt, transactionSize, changesSize}
 use Rattle.rules.specs.Octets.{Octets, paste, padded}
 use Rattle.rules.specs.Entries.{without}
 use Rattle.rules.specs.Layout.{Transaction, Transactions, changeBytes, transactionBytes, transactionIn, transactionsBytes, transactionsOf}
@@ -100,16 +100,16 @@ module _ (s : Octets) (c : KeptTransactions s) (k : ℕ) (h : k < mostTransactio
   -- ── an open place ──
 
   pub put-open : (o : ℕ) → o < 65536
-      → set (set (set (paste (k * transactionSize + 3) (replicate changesSize 0) s) (k * transactionSize) 128) (k * transactionSize + 1) (o / 256 % 256)) (k * transactionSize + 2) (o % 256)
+      → set (set (set (paste (k * transactionSize + changesAt) (replicate changesSize 0) s) (k * transactionSize) 128) (k * transactionSize + 1) (o / 256 % 256)) (k * transactionSize + 2) (o % 256)
       ≡ transactionsBytes (set (transactionsOf s) k (some (opened o)))
   unfolding transactionsOf transactionsBytes
   put-open o ho =
       let at = k * transactionSize in
       let whole = c .whole in
       let zeros : Octets = replicate changesSize 0 in
-      let x = paste (at + 3) zeros s in
+      let x = paste (at + changesAt) zeros s in
       let head : Octets = 128 ∷ (o / 256 % 256) ∷ (o % 256) ∷ [] in
-      let l : length x ≡ length s = length-paste (at + 3) zeros s (rw length-replicate (omega arith)) in
+      let l : length x ≡ length s = length-paste (at + changesAt) zeros s (rw length-replicate (omega arith)) in
       let one : at + 1 ≡ suc at = omega arith in
       let two : at + 2 ≡ suc (suc at) = omega arith in
       let sets : set (set (set x at 128) (at + 1) (o / 256 % 256)) (at + 2) (o % 256) ≡ paste at head x = rw (one, two) (paste-sets at head x (rw l (omega arith))) in

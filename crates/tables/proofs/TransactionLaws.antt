@@ -10,7 +10,7 @@ use lib.ListN.{length, getD, take, drop}
 use lib.Seq.{take-at, take-take}
 use lib.Dec.{eqb, leb, lit<, lit≤}
 use borrow.Author.Tests.{eq-eqb, ne-eqb, leb-true, leb-false}
-use Rattle.rules.specs.Size.{mostTransactions, transactionSize, transactionsSize, changesSize}
+use Rattle.rules.specs.Size.{mostTransactions, changesAt, transactionSize, transactionsSize, mostChanges, changesSize}
 use Rattle.rules.specs.Octets.{Octets, field, bitsAt, bigEndian, bit, padded, pack, packFrom, _bits_}
 use Rattle.rules.specs.Layout.{Transaction, changeBytes, transactionBytes, transactionIn, transactionAt, transactionsOf}
 use Rattle.rules.proofs.Fields.{field-part, field-three, bit-small, bit-back}
@@ -31,7 +31,7 @@ use Rattle.tables.proofs.Rows.{length-table, part-listed, place-bytes}
 abbrev pub threeBytes : ℕ → ℕ → ℕ → Octets
 threeBytes m n o = (128 + 64 * m + n) ∷ (o / 256 % 256) ∷ (o % 256) ∷ []
 
-three : (m n o : ℕ) → m < 2 → n < 16 → o < 65536 → bigEndian 3 (pack (1 bits 1 ∷ 1 bits m ∷ 2 bits 0 ∷ 4 bits n ∷ 16 bits o ∷ [])) ≡ threeBytes m n o
+three : (m n o : ℕ) → m < 2 → n < 16 → o < 65536 → bigEndian changesAt (pack (1 bits 1 ∷ 1 bits m ∷ 2 bits 0 ∷ 4 bits n ∷ 16 bits o ∷ [])) ≡ threeBytes m n o
 unfolding bigEndian pack packFrom
 three m n o hm hn ho =
     let p = pack (1 bits 1 ∷ 1 bits m ∷ 2 bits 0 ∷ 4 bits n ∷ 16 bits o ∷ []) in
@@ -43,7 +43,7 @@ three m n o hm hn ho =
 abbrev pub threeOf : Transaction → Octets
 threeOf x = threeBytes (bit (x .stale)) (length (x .changes)) (x .holder)
 
-pub transaction-parts : (x : Transaction) → x .holder < 65536 → length (x .changes) ≤ 8 → transactionBytes (some x) ≡ threeOf x ++ padded changesSize (flatMap changeBytes (x .changes))
+pub transaction-parts : (x : Transaction) → x .holder < 65536 → length (x .changes) ≤ mostChanges → transactionBytes (some x) ≡ threeOf x ++ padded changesSize (flatMap changeBytes (x .changes))
 unfolding transactionBytes
 transaction-parts x ho hn =
     ap (λ (a : Octets). a ++ padded changesSize (flatMap changeBytes (x .changes))) (three (bit (x .stale)) (length (x .changes)) (x .holder) (bit-small (x .stale)) (omega arith) ho)
@@ -55,13 +55,13 @@ read-fits r head = let d = transaction-decoded r head in record { holder = mod-l
 pub transaction-wide : (r : Octets) → length (transactionBytes (transactionIn r)) ≡ transactionSize
 unfolding transactionIn
 transaction-wide r =
-    transaction-width _ (cond-case MaybeTransaction (eqb (bitsAt (field r 0 3) 23 1) 1) (some (transactionAt r (field r 0 3))) none (read-fits r (field r 0 3)) tt)
+    transaction-width _ (cond-case MaybeTransaction (eqb (bitsAt (field r 0 changesAt) 23 1) 1) (some (transactionAt r (field r 0 changesAt))) none (read-fits r (field r 0 changesAt)) tt)
 
 pub length-transactionsOf : (s : Octets) → length (transactionsOf s) ≡ mostTransactions
 unfolding transactionsOf
 length-transactionsOf s = length-table transactionBytes transactionIn transactionSize transaction-wide mostTransactions s
 
-marks-back : (b m n : ℕ) → b ≡ 128 + 64 * m + n → m < 2 → n ≤ 8 → (b / 64 % 2 ≡ m) × (b % 16 ≡ n)
+marks-back : (b m n : ℕ) → b ≡ 128 + 64 * m + n → m < 2 → n ≤ mostChanges → (b / 64 % 2 ≡ m) × (b % 16 ≡ n)
 marks-back b m n e hm hn = (omega arith, omega arith)
 
 -- ── place k of a table ──
@@ -71,11 +71,11 @@ module _ (s : Octets) (k : ℕ) (h : k < mostTransactions) where
   row = take transactionSize (drop (k * transactionSize) s)
 
   abbrev head : ℕ
-  head = field s (k * transactionSize) 3
+  head = field s (k * transactionSize) changesAt
 
   place-is : getD (transactionsOf s) k none ≡ cond (eqb (bitsAt head 23 1) 1) (some (transactionAt row head)) none
   unfolding transactionIn
-  place-is = transaction-at s k h ∙ rw (field-part s (k * transactionSize) transactionSize 0 3 (omega arith), add-zero)
+  place-is = transaction-at s k h ∙ rw (field-part s (k * transactionSize) transactionSize 0 changesAt (omega arith), add-zero)
 
   pub is-read : taken (getD (transactionsOf s) k none) ≡ true → transactionOf s k ≡ transactionAt row head
   is-read u =
@@ -124,10 +124,10 @@ module _ (s : Octets) (k : ℕ) (h : k < mostTransactions) where
     first-three : getD s (k * transactionSize) 0 ∷ getD s (k * transactionSize + 1) 0 ∷ getD s (k * transactionSize + 2) 0 ∷ [] ≡ threeOf x
     first-three =
         let whole = c .whole in
-        sym (ap (λ (q : ℕ). take 3 (drop q s)) (sym (add-zero (k * transactionSize))) ∙ part-listed s (k * transactionSize) 0 3 (omega arith) ∙ rw add-zero)
-        ∙ sym (take-take 3 transactionSize (drop (k * transactionSize) s) (lit≤ tt))
-        ∙ ap (take 3) row-parts
-        ∙ take-at (threeOf x) (padded changesSize (flatMap changeBytes (x .changes))) 3 refl
+        sym (ap (λ (q : ℕ). take changesAt (drop q s)) (sym (add-zero (k * transactionSize))) ∙ part-listed s (k * transactionSize) 0 changesAt (omega arith) ∙ rw add-zero)
+        ∙ sym (take-take changesAt transactionSize (drop (k * transactionSize) s) (lit≤ tt))
+        ∙ ap (take changesAt) row-parts
+        ∙ take-at (threeOf x) (padded changesSize (flatMap changeBytes (x .changes))) changesAt refl
 
     pub first-is : getD s (k * transactionSize) 0 ≡ 128 + 64 * bit (x .stale) + length (x .changes)
     first-is = let e = first-three in cc

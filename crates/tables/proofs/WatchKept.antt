@@ -10,7 +10,7 @@ use lib.ListN.{length, getD, take, drop, length-drop}
 use lib.Seq.{take-add, take-take, drop-drop, length-take-le}
 use lib.Dec.{eqb, leb, lit≤}
 use borrow.Author.Tests.{le-leb, lt-leb, eqb-true, leb-true}
-use Rattle.rules.specs.Size.{mostWatches, tokenAt, watchSize, watchesSize, longestPath}
+use Rattle.rules.specs.Size.{mostWatches, watchFieldsSize, tokenAt, watchSize, watchesSize, longestPath, longestToken}
 use Rattle.rules.specs.Octets.{Octets, same, allZero, padded, field, bitsAt, bit, text}
 use Rattle.rules.specs.Path.{Names, Given, malformed, absolute, relative, special, given, introduceName, releaseName, namesIn, isFull, split}
 use Rattle.rules.specs.Payload.{Place, event}
@@ -175,19 +175,19 @@ lengths-forward x y hx hy z =
 pub pair-forward : (x y : ℕ) → x < 256 → y < 256 → ((x * 256 + y) / 256 % 256 ≡ x) × ((x * 256 + y) % 256 ≡ y)
 pair-forward x y hx hy = (omega arith, omega arith)
 
-pub fields-few : (s : Octets) (k : ℕ) → fieldsSame s k ≡ true → tokenLength s k ≤ 32
+pub fields-few : (s : Octets) (k : ℕ) → fieldsSame s k ≡ true → tokenLength s k ≤ longestToken
 unfolding fieldsSame
 fields-few s k fs =
     let a = both-true (eqb (getD s (k * watchSize) 0 % 32) 0) _ fs in
     let b = both-true (eqb (getD s (k * watchSize + 5) 0 / 64 % 2) 0) _ (a .1) in
-    leb-true _ _ (both-true (leb (tokenLength s k) 32) (depthSame s k) (b .1) .0)
+    leb-true _ _ (both-true (leb (tokenLength s k) longestToken) (depthSame s k) (b .1) .0)
 
 module _ (s : Octets) (k : ℕ) (h : k < mostWatches) (bytes : Bytes s) (whole : length s ≡ watchesSize) where
   abbrev row : Octets
   row = take watchSize (drop (k * watchSize) s)
 
   abbrev head : ℕ
-  head = field s (k * watchSize) 6
+  head = field s (k * watchSize) watchFieldsSize
 
   abbrev v : Watch
   v = watchAt row head
@@ -218,35 +218,35 @@ module _ (s : Octets) (k : ℕ) (h : k < mostWatches) (bytes : Bytes s) (whole :
     pub kept-long : longestPath < pathLength s k → kept ≡ false
     kept-long l = not-kept λ own. omega (arith, path-within s k h bytes whole own)
 
-    pub kept-unplaced : placeSame (eqb (getD s (k * watchSize) 0 / 64 % 2) 1) (take (k * watchSize + 6 + pathLength s k - (k * watchSize + 6)) (drop (k * watchSize + 6) s)) ≡ false → kept ≡ false
+    pub kept-unplaced : placeSame (eqb (getD s (k * watchSize) 0 / 64 % 2) 1) (take (k * watchSize + watchFieldsSize + pathLength s k - (k * watchSize + watchFieldsSize)) (drop (k * watchSize + watchFieldsSize) s)) ≡ false → kept ≡ false
     unfolding placeSame watchAt pathLength
     kept-unplaced f =
         not-kept λ own.
         let l = path-within s k h bytes whole own in
-        let x : take (k * watchSize + 6 + pathLength s k - (k * watchSize + 6)) (drop (k * watchSize + 6) s) ≡ textAt row 6 longestPath (pathLength s k) = text-part s (k * watchSize) watchSize 6 longestPath (pathLength s k) l (lit≤ tt) in
+        let x : take (k * watchSize + watchFieldsSize + pathLength s k - (k * watchSize + watchFieldsSize)) (drop (k * watchSize + watchFieldsSize) s) ≡ textAt row watchFieldsSize longestPath (pathLength s k) = text-part s (k * watchSize) watchSize watchFieldsSize longestPath (pathLength s k) l (lit≤ tt) in
         let e = path-text s k h bytes whole own in
         let m = relative-said s k h bytes whole own in
         let r = marks s k h bytes whole .0 in
-        true≢false (sym (rw (x, r) (same-place (v .place) (textAt row 6 longestPath (bitsAt head 7 9)) (eqb (bitsAt head 46 1) 1) e m)) ∙ f)
+        true≢false (sym (rw (x, r) (same-place (v .place) (textAt row watchFieldsSize longestPath (bitsAt head 7 9)) (eqb (bitsAt head 46 1) 1) e m)) ∙ f)
 
     pub kept-fields : fieldsSame s k ≡ false → kept ≡ false
     kept-fields f = not-kept λ own. true≢false (sym (fields-said s k h bytes whole own) ∙ f)
 
     -- the parts of a place
     abbrev pathPart : Octets
-    pathPart = take longestPath (drop (k * watchSize + 6) s)
+    pathPart = take longestPath (drop (k * watchSize + watchFieldsSize) s)
 
     abbrev tokenPart : Octets
-    tokenPart = take 32 (drop (k * watchSize + tokenAt) s)
+    tokenPart = take longestToken (drop (k * watchSize + tokenAt) s)
 
-    row-parts : row ≡ take 6 (drop (k * watchSize) s) ++ (pathPart ++ tokenPart)
+    row-parts : row ≡ take watchFieldsSize (drop (k * watchSize) s) ++ (pathPart ++ tokenPart)
     row-parts =
-        let e : k * watchSize + 6 + longestPath ≡ k * watchSize + tokenAt = omega arith in
-        take-add 6 296 (drop (k * watchSize) s)
-        ∙ ap (λ (r : Octets). take 6 (drop (k * watchSize) s) ++ r)
-        (ap (take 296) (drop-drop 6 (k * watchSize) s)
-        ∙ take-add longestPath 32 (drop (k * watchSize + 6) s)
-        ∙ ap (λ (r : Octets). pathPart ++ take 32 r) (drop-drop longestPath (k * watchSize + 6) s ∙ ap (λ (n : ℕ). drop n s) e))
+        let e : k * watchSize + watchFieldsSize + longestPath ≡ k * watchSize + tokenAt = omega arith in
+        take-add watchFieldsSize (longestPath + longestToken) (drop (k * watchSize) s)
+        ∙ ap (λ (r : Octets). take watchFieldsSize (drop (k * watchSize) s) ++ r)
+        (ap (take (longestPath + longestToken)) (drop-drop watchFieldsSize (k * watchSize) s)
+        ∙ take-add longestPath longestToken (drop (k * watchSize + watchFieldsSize) s)
+        ∙ ap (λ (r : Octets). pathPart ++ take longestToken r) (drop-drop longestPath (k * watchSize + watchFieldsSize) s ∙ ap (λ (n : ℕ). drop n s) e))
 
     part-long : (p n : ℕ) → p + n ≤ watchesSize → length (take n (drop p s)) ≡ n
     part-long p n l = length-take-le n (drop p s) (rw length-drop (omega arith))
@@ -259,21 +259,21 @@ module _ (s : Octets) (k : ℕ) (h : k < mostWatches) (bytes : Bytes s) (whole :
         ∙ sym (take-take n size (drop (k * watchSize + j) s) hn)
 
     module _ (l : pathLength s k ≤ longestPath)
-        (ps : placeSame (eqb (getD s (k * watchSize) 0 / 64 % 2) 1) (take (k * watchSize + 6 + pathLength s k - (k * watchSize + 6)) (drop (k * watchSize + 6) s)) ≡ true)
+        (ps : placeSame (eqb (getD s (k * watchSize) 0 / 64 % 2) 1) (take (k * watchSize + watchFieldsSize + pathLength s k - (k * watchSize + watchFieldsSize)) (drop (k * watchSize + watchFieldsSize) s)) ≡ true)
         (fs : fieldsSame s k ≡ true) where
-      placed : (placeText (v .place) ≡ textAt row 6 longestPath (pathLength s k)) × (isRelative (v .place) ≡ eqb (getD s (k * watchSize) 0 / 64 % 2) 1)
+      placed : (placeText (v .place) ≡ textAt row watchFieldsSize longestPath (pathLength s k)) × (isRelative (v .place) ≡ eqb (getD s (k * watchSize) 0 / 64 % 2) 1)
       unfolding placeSame watchAt pathLength
       placed =
           let r = eqb (bitsAt head 46 1) 1 in
-          let x = textAt row 6 longestPath (bitsAt head 7 9) in
+          let x = textAt row watchFieldsSize longestPath (bitsAt head 7 9) in
           let m = marks s k h bytes whole .0 in
-          let both = both-true (same (placeText (placeIn r x)) x) (not r || isRelative (placeIn r x)) (rw (text-part s (k * watchSize) watchSize 6 longestPath (bitsAt head 7 9) l (lit≤ tt), m) at ps) in
+          let both = both-true (same (placeText (placeIn r x)) x) (not r || isRelative (placeIn r x)) (rw (text-part s (k * watchSize) watchSize watchFieldsSize longestPath (bitsAt head 7 9) l (lit≤ tt), m) at ps) in
           (same-eq (placeText (placeIn r x)) x (both .0), mark-of r x (both .1) ∙ ap (λ (n : ℕ). eqb n 1) (sym m))
 
       record Tests : Type 0 where
         low : getD s (k * watchSize) 0 % 32 ≡ 0
         middle : getD s (k * watchSize + 5) 0 / 64 % 2 ≡ 0
-        few : tokenLength s k ≤ 32
+        few : tokenLength s k ≤ longestToken
         depth : depthSame s k ≡ true
 
       tests : Tests
@@ -281,21 +281,21 @@ module _ (s : Octets) (k : ℕ) (h : k < mostWatches) (bytes : Bytes s) (whole :
       tests =
           let a = both-true (eqb (getD s (k * watchSize) 0 % 32) 0) _ fs in
           let b = both-true (eqb (getD s (k * watchSize + 5) 0 / 64 % 2) 0) _ (a .1) in
-          let c = both-true (leb (tokenLength s k) 32) (depthSame s k) (b .1) in
+          let c = both-true (leb (tokenLength s k) longestToken) (depthSame s k) (b .1) in
           record { low = eqb-true _ _ (a .0); middle = eqb-true _ _ (b .0); few = leb-true _ _ (c .0); depth = c .1 }
 
       path-is : placeText (v .place) ≡ take (pathLength s k) pathPart
-      path-is = placed .0 ∙ text-of 6 (pathLength s k) longestPath (lit≤ tt) l
+      path-is = placed .0 ∙ text-of watchFieldsSize (pathLength s k) longestPath (lit≤ tt) l
 
       token-is : v .token ≡ take (tokenLength s k) tokenPart
       unfolding watchAt tokenLength
-      token-is = text-of tokenAt (tokenLength s k) 32 (lit≤ tt) (tests .few)
+      token-is = text-of tokenAt (tokenLength s k) longestToken (lit≤ tt) (tests .few)
 
       path-long : length (placeText (v .place)) ≡ pathLength s k
-      path-long = ap length path-is ∙ length-take-le (pathLength s k) pathPart (rw (part-long (k * watchSize + 6) longestPath (omega arith)) l)
+      path-long = ap length path-is ∙ length-take-le (pathLength s k) pathPart (rw (part-long (k * watchSize + watchFieldsSize) longestPath (omega arith)) l)
 
       token-long : length (v .token) ≡ tokenLength s k
-      token-long = ap length token-is ∙ length-take-le (tokenLength s k) tokenPart (rw (part-long (k * watchSize + tokenAt) 32 (omega arith)) (tests .few))
+      token-long = ap length token-is ∙ length-take-le (tokenLength s k) tokenPart (rw (part-long (k * watchSize + tokenAt) longestToken (omega arith)) (tests .few))
 
       depth-byte : (taken (v .depth) ≡ eqb (getD s (k * watchSize) 0 / 32 % 2) 1) × (entryOr 0 (v .depth) ≡ getD s (k * watchSize + 1) 0)
       unfolding watchAt depthSame taken entryOr
@@ -308,7 +308,7 @@ module _ (s : Octets) (k : ℕ) (h : k < mostWatches) (bytes : Bytes s) (whole :
           go true e = (refl, refl)
           go false e = (refl, sym (eqb-true (getD s (k * watchSize + 1) 0) 0 e))
 
-      six-is : sixOf v ≡ take 6 (drop (k * watchSize) s)
+      six-is : sixOf v ≡ take watchFieldsSize (drop (k * watchSize) s)
       unfolding watchAt
       six-is =
           let x = getD s (k * watchSize + 4) 0 in
@@ -319,15 +319,15 @@ module _ (s : Octets) (k : ℕ) (h : k < mostWatches) (bytes : Bytes s) (whole :
           rw (placed .1, depth-byte .0, depth-byte .1, path-long, token-long, first-forward (getD s (k * watchSize) 0) u (bytes (k * watchSize)) (tests .low), ← owner-is s k h bytes whole, o .0, o .1, ← ls .0, ← ls .1, n .0, n .1)
           (sym (six-listed s (k * watchSize) (omega arith)))
 
-      pub kept-rests : kept ≡ (restZero s (k * watchSize + 6) (pathLength s k) longestPath && restZero s (k * watchSize + tokenAt) (tokenLength s k) 32)
+      pub kept-rests : kept ≡ (restZero s (k * watchSize + watchFieldsSize) (pathLength s k) longestPath && restZero s (k * watchSize + tokenAt) (tokenLength s k) longestToken)
       kept-rests =
           let n = read-narrow row head in
-          let pl = part-long (k * watchSize + 6) longestPath (omega arith) in
-          let tl = part-long (k * watchSize + tokenAt) 32 (omega arith) in
+          let pl = part-long (k * watchSize + watchFieldsSize) longestPath (omega arith) in
+          let tl = part-long (k * watchSize + tokenAt) longestToken (omega arith) in
           let a = same-padded (pathLength s k) pathPart in
           let b = same-padded (tokenLength s k) tokenPart in
           kept-is
           ∙ ap₂ same (watch-parts v n) row-parts
-          ∙ same-append (sixOf v) _ (take 6 (drop (k * watchSize) s)) (pathPart ++ tokenPart) (ap length six-is)
-          ∙ ap₂ _&&_ (eq-same six-is) (same-append (padded longestPath (placeText (v .place))) (padded 32 (v .token)) pathPart tokenPart (length-padded longestPath _ (n .path) ∙ sym pl))
-          ∙ ap₂ _&&_ (ap (λ (z : Octets). same (padded longestPath z) pathPart) path-is ∙ (rw pl at a)) (ap (λ (z : Octets). same (padded 32 z) tokenPart) token-is ∙ (rw tl at b))
+          ∙ same-append (sixOf v) _ (take watchFieldsSize (drop (k * watchSize) s)) (pathPart ++ tokenPart) (ap length six-is)
+          ∙ ap₂ _&&_ (eq-same six-is) (same-append (padded longestPath (placeText (v .place))) (padded longestToken (v .token)) pathPart tokenPart (length-padded longestPath _ (n .path) ∙ sym pl))
+          ∙ ap₂ _&&_ (ap (λ (z : Octets). same (padded longestPath z) pathPart) path-is ∙ (rw pl at a)) (ap (λ (z : Octets). same (padded longestToken z) tokenPart) token-is ∙ (rw tl at b))

@@ -10,7 +10,7 @@ use lib.ListN.{length, getD, take, drop}
 use lib.Seq.{take-at, take-take}
 use lib.Dec.{eqb, leb, lit≤}
 use borrow.Author.Tests.{le-leb, eq-eqb, ne-eqb, leb-true, leb-false}
-use Rattle.rules.specs.Size.{mostWatches, tokenAt, watchSize, watchesSize, longestPath}
+use Rattle.rules.specs.Size.{mostWatches, watchFieldsSize, tokenAt, watchSize, watchesSize, longestPath, longestToken}
 use Rattle.rules.specs.Octets.{Octets, same, field, bitsAt, bit, padded}
 use Rattle.rules.specs.Path.{Connection, relative, given}
 use Rattle.rules.specs.Payload.{path}
@@ -33,20 +33,20 @@ use Rattle.tables.proofs.WatchBytes.{sixOf, watch-parts, read-narrow, w
 
 -- ── place k of a table ──
 
-pub six-listed : (s : Octets) (p : ℕ) → p + 6 ≤ length s
-    → take 6 (drop p s) ≡ getD s p 0 ∷ getD s (p + 1) 0 ∷ getD s (p + 2) 0 ∷ getD s (p + 3) 0 ∷ getD s (p + 4) 0 ∷ getD s (p + 5) 0 ∷ []
-six-listed s p h = ap (λ (q : ℕ). take 6 (drop q s)) (sym (add-zero p)) ∙ part-listed s p 0 6 (omega arith) ∙ rw add-zero
+pub six-listed : (s : Octets) (p : ℕ) → p + watchFieldsSize ≤ length s
+    → take watchFieldsSize (drop p s) ≡ getD s p 0 ∷ getD s (p + 1) 0 ∷ getD s (p + 2) 0 ∷ getD s (p + 3) 0 ∷ getD s (p + 4) 0 ∷ getD s (p + 5) 0 ∷ []
+six-listed s p h = ap (λ (q : ℕ). take watchFieldsSize (drop q s)) (sym (add-zero p)) ∙ part-listed s p 0 watchFieldsSize (omega arith) ∙ rw add-zero
 
 module _ (s : Octets) (k : ℕ) (h : k < mostWatches) where
   abbrev row : Octets
   row = take watchSize (drop (k * watchSize) s)
 
   abbrev head : ℕ
-  head = field s (k * watchSize) 6
+  head = field s (k * watchSize) watchFieldsSize
 
   place-is : getD (watchesOf s) k none ≡ cond (eqb (bitsAt head 47 1) 1) (some (watchAt row head)) none
   unfolding watchIn
-  place-is = watch-at s k h ∙ rw (field-part s (k * watchSize) watchSize 0 6 (omega arith), add-zero)
+  place-is = watch-at s k h ∙ rw (field-part s (k * watchSize) watchSize 0 watchFieldsSize (omega arith), add-zero)
 
   pub is-read : taken (getD (watchesOf s) k none) ≡ true → watchOf s k ≡ watchAt row head
   is-read u =
@@ -137,9 +137,9 @@ module _ (s : Octets) (k : ℕ) (h : k < mostWatches) where
     first-six : getD s (k * watchSize) 0 ∷ getD s (k * watchSize + 1) 0 ∷ getD s (k * watchSize + 2) 0 ∷ getD s (k * watchSize + 3) 0 ∷ getD s (k * watchSize + 4) 0 ∷ getD s (k * watchSize + 5) 0 ∷ [] ≡ sixOf v
     first-six =
         sym (six-listed s (k * watchSize) (omega arith))
-        ∙ sym (take-take 6 watchSize (drop (k * watchSize) s) (lit≤ tt))
-        ∙ ap (take 6) (own ∙ watch-parts v (read-narrow row head))
-        ∙ take-at (sixOf v) (padded longestPath (placeText (v .place)) ++ padded 32 (v .token)) 6 refl
+        ∙ sym (take-take watchFieldsSize watchSize (drop (k * watchSize) s) (lit≤ tt))
+        ∙ ap (take watchFieldsSize) (own ∙ watch-parts v (read-narrow row head))
+        ∙ take-at (sixOf v) (padded longestPath (placeText (v .place)) ++ padded longestToken (v .token)) watchFieldsSize refl
 
     record Said : Type 0 where
       path : pathLength s k ≡ length (placeText (v .place))
@@ -164,7 +164,7 @@ module _ (s : Octets) (k : ℕ) (h : k < mostWatches) where
 
     pub fields-said : fieldsSame s k ≡ true
     unfolding fieldsSame depthSame taken entryOr
-    fields-said = rw (said .zeros .0, said .zeros .1, le-leb (tokenLength s k) 32 (rw (said .token) (read-narrow row head .token))) (go (v .depth) (said .given) (said .depth))
+    fields-said = rw (said .zeros .0, said .zeros .1, le-leb (tokenLength s k) longestToken (rw (said .token) (read-narrow row head .token))) (go (v .depth) (said .given) (said .depth))
       where
         go : (m : Option ℕ) → getD s (k * watchSize) 0 / 32 % 2 ≡ bit (taken m) → getD s (k * watchSize + 1) 0 ≡ entryOr 0 m
             → (eqb (getD s (k * watchSize) 0 / 32 % 2) 1 || eqb (getD s (k * watchSize + 1) 0) 0) ≡ true
@@ -174,16 +174,16 @@ module _ (s : Octets) (k : ℕ) (h : k < mostWatches) where
     pub path-within : pathLength s k ≤ longestPath
     path-within = rw (said .path) (read-narrow row head .path)
 
-    pub token-within : tokenLength s k ≤ 32
+    pub token-within : tokenLength s k ≤ longestToken
     token-within = rw (said .token) (read-narrow row head .token)
 
-    pub path-text : placeText (v .place) ≡ textAt row 6 longestPath (pathLength s k)
+    pub path-text : placeText (v .place) ≡ textAt row watchFieldsSize longestPath (pathLength s k)
     unfolding watchAt pathLength
     path-text =
-        let x = textAt row 6 longestPath (bitsAt head 7 9) in
+        let x = textAt row watchFieldsSize longestPath (bitsAt head 7 9) in
         let r = eqb (bitsAt head 46 1) 1 in
         let q : bitsAt head 7 9 ≡ length (placeText (placeIn r x)) = said .path in
-        place-whole r x (omega (arith, place-short r x, text-few row 6 longestPath (bitsAt head 7 9)))
+        place-whole r x (omega (arith, place-short r x, text-few row watchFieldsSize longestPath (bitsAt head 7 9)))
 
     pub relative-said : eqb (bitsAt head 46 1) 1 ≡ isRelative (v .place)
     relative-said = rw (said .relative) (bit-back (isRelative (v .place)))
@@ -195,7 +195,7 @@ module _ (s : Octets) (k : ℕ) (h : k < mostWatches) where
     pub path-length-within : pathLength s k ≤ longestPath
     path-length-within = path-within bytes (c .whole) own
 
-    pub token-length-within : tokenLength s k ≤ 32
+    pub token-length-within : tokenLength s k ≤ longestToken
     token-length-within = token-within bytes (c .whole) own
 
     pub relative-read : eqb (getD s (k * watchSize) 0 / 64 % 2) 1 ≡ isRelative (watchOf s k .place)
@@ -206,12 +206,12 @@ module _ (s : Octets) (k : ℕ) (h : k < mostWatches) where
     unfolding watchAt pathLength
     place-again = rw (is-read u, ← relative-said bytes (c .whole) own, path-text bytes (c .whole) own)
 
-    pub path-part : take (k * watchSize + 6 + pathLength s k - (k * watchSize + 6)) (drop (k * watchSize + 6) s) ≡ placeText (watchOf s k .place)
-    path-part = text-part s (k * watchSize) watchSize 6 longestPath (pathLength s k) path-length-within (lit≤ tt) ∙ sym (rw (is-read u) (path-text bytes (c .whole) own))
+    pub path-part : take (k * watchSize + watchFieldsSize + pathLength s k - (k * watchSize + watchFieldsSize)) (drop (k * watchSize + watchFieldsSize) s) ≡ placeText (watchOf s k .place)
+    path-part = text-part s (k * watchSize) watchSize watchFieldsSize longestPath (pathLength s k) path-length-within (lit≤ tt) ∙ sym (rw (is-read u) (path-text bytes (c .whole) own))
 
     pub token-part : take (k * watchSize + tokenAt + tokenLength s k - (k * watchSize + tokenAt)) (drop (k * watchSize + tokenAt) s) ≡ watchOf s k .token
     unfolding watchAt tokenLength
-    token-part = text-part s (k * watchSize) watchSize tokenAt 32 (tokenLength s k) token-length-within (lit≤ tt) ∙ sym (ap Watch.token (is-read u))
+    token-part = text-part s (k * watchSize) watchSize tokenAt longestToken (tokenLength s k) token-length-within (lit≤ tt) ∙ sym (ap Watch.token (is-read u))
 
 -- ── finding ──
 
