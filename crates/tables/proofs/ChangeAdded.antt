@@ -94,23 +94,25 @@ module _ (x : Transaction) (f : TransactionFits x) (few : length (x .changes) < 
       first-set b u v w t = refl
 
 module _ (s : Octets) (k : ℕ) (p : Octets) (room : Room s k p) (r : Bool) where
+  abbrev at : ℕ
+  at = k * transactionSize
+
   abbrev x : Transaction
   x = transactionOf s k
 
   fits : TransactionFits x
   fits = open-fits s k (room .place .below) (room .place .used)
 
-  pub room-within : k * transactionSize + changesAt + length (x .changes) * changeSize + changeSize ≤ length s
+  pub room-within : at + changesAt + length (x .changes) * changeSize + changeSize ≤ length s
   room-within = omega (arith, room .place .below, room .place .kept .whole, room .few)
 
-  pub first-small : getD s (k * transactionSize) 0 + 1 < 256
+  pub first-small : getD s at 0 + 1 < 256
   first-small = omega (arith, first-is s k (room .place .below) (room .place .kept) (room .place .used), room .few, bit-small (x .stale))
 
-  pub put-changed : set (paste (k * transactionSize + changesAt + length (x .changes) * changeSize) (changeBytes (changeGiven r p)) s) (k * transactionSize) (getD s (k * transactionSize) 0 + 1)
+  pub put-changed : set (paste (at + changesAt + length (x .changes) * changeSize) (changeBytes (changeGiven r p)) s) at (getD s at 0 + 1)
       ≡ transactionsBytes (set (transactionsOf s) k (some (changedBy x r p)))
   unfolding transactionsOf transactionsBytes
   put-changed =
-      let at = k * transactionSize in
       let b = getD s at 0 + 1 in
       let c = changeBytes (changeGiven r p) in
       let row = take transactionSize (drop at s) in

@@ -20,7 +20,7 @@ use Rattle.rules.proofs.TransactionLayouts.{ChangeFits, TransactionFits}
 use Rattle.tables.specs.Two.{Two}
 use Rattle.tables.specs.Transaction.{noChange, transactionOf, changeOf, HasChange}
 use Rattle.rules.proofs.Slots.{length-padded}
-use Rattle.tables.proofs.Rows.{part-listed}
+use Rattle.tables.proofs.Rows.{listed-from}
 use Rattle.tables.proofs.TransactionLaws.{threeOf, row-parts, open-fits}
 
 -- ── the bytes of a change ──
@@ -58,6 +58,9 @@ removal-is x l false e h = lt-leb 128 x (omega arith)
 -- ── change j of place k ──
 
 module _ (s : Octets) (k j : ℕ) (h : HasChange s k j) where
+  abbrev at : ℕ
+  at = k * transactionSize + changesAt + j * changeSize
+
   abbrev x : Transaction
   x = transactionOf s k
 
@@ -73,11 +76,11 @@ module _ (s : Octets) (k j : ℕ) (h : HasChange s k j) where
   rows : Each (Wide changeBytes changeSize) (x .changes)
   rows = each-map ChangeFits _ change-wide (x .changes) (fits .changes)
 
-  pub place-within : k * transactionSize + changesAt + j * changeSize + changeSize ≤ length s
+  pub place-within : at + changeSize ≤ length s
   place-within = omega (arith, h .place .below, h .place .kept .whole, h .there, fits .few)
 
   -- the bytes of the change
-  own : take changeSize (drop (k * transactionSize + changesAt + j * changeSize) s) ≡ changeBytes c
+  own : take changeSize (drop at s) ≡ changeBytes c
   unfolding padded
   own =
       let at = k * transactionSize in
@@ -93,35 +96,33 @@ module _ (s : Octets) (k j : ℕ) (h : HasChange s k j) where
       ∙ take-append-le changeSize (drop (j * changeSize) rest) zeros (rw (length-drop, l) (omega arith))
       ∙ encoded-at changeBytes changeSize (x .changes) j noChange rows (h .there)
 
-  parts : take changeSize (drop (k * transactionSize + changesAt + j * changeSize) s) ≡ twoOf c ++ padded longestPath (pathText (c .names))
+  parts : take changeSize (drop at s) ≡ twoOf c ++ padded longestPath (pathText (c .names))
   parts = own ∙ change-parts c (change-fits .short)
 
-  first-two : getD s (k * transactionSize + changesAt + j * changeSize) 0 ∷ getD s (k * transactionSize + changesAt + j * changeSize + 1) 0 ∷ [] ≡ twoOf c
+  first-two : getD s at 0 ∷ getD s (at + 1) 0 ∷ [] ≡ twoOf c
   first-two =
-      let at = k * transactionSize + changesAt + j * changeSize in
       let w = place-within in
-      sym (ap (λ (q : ℕ). take changeFieldsSize (drop q s)) (sym (add-zero at)) ∙ part-listed s at 0 changeFieldsSize (omega arith) ∙ rw add-zero)
+      sym (listed-from s at changeFieldsSize (omega arith) ∙ rw add-zero)
       ∙ sym (take-take changeFieldsSize changeSize (drop at s) (lit≤ tt))
       ∙ ap (take changeFieldsSize) parts
       ∙ take-at (twoOf c) (padded longestPath (pathText (c .names))) changeFieldsSize refl
 
-  pub removed-read : leb 128 (getD s (k * transactionSize + changesAt + j * changeSize) 0) ≡ c .removal
+  pub removed-read : leb 128 (getD s at 0) ≡ c .removal
   removed-read =
       let e = first-two in
-      let b : getD s (k * transactionSize + changesAt + j * changeSize) 0 ≡ 128 * bit (c .removal) + length (pathText (c .names)) / 256 = cc in
+      let b : getD s at 0 ≡ 128 * bit (c .removal) + length (pathText (c .names)) / 256 = cc in
       removal-is _ _ (c .removal) b (change-fits .short)
 
-  pub length-read : (r : ℕ) → Two s (k * transactionSize + changesAt + j * changeSize) r → r % 512 ≡ length (pathText (c .names))
+  pub length-read : (r : ℕ) → Two s at r → r % 512 ≡ length (pathText (c .names))
   length-read r w =
       let e = first-two in
-      let a : getD s (k * transactionSize + changesAt + j * changeSize) 0 ≡ 128 * bit (c .removal) + length (pathText (c .names)) / 256 = cc in
-      let b : getD s (k * transactionSize + changesAt + j * changeSize + 1) 0 ≡ length (pathText (c .names)) % 256 = cc in
+      let a : getD s at 0 ≡ 128 * bit (c .removal) + length (pathText (c .names)) / 256 = cc in
+      let b : getD s (at + 1) 0 ≡ length (pathText (c .names)) % 256 = cc in
       ap (λ (n : ℕ). n % 512) (w .value) ∙ number-back _ _ _ _ a b (bit-small (c .removal)) (change-fits .short)
 
-  pub path-read : (n : ℕ) → n ≡ length (pathText (c .names)) → take (k * transactionSize + changesAt + j * changeSize + changeFieldsSize + n - (k * transactionSize + changesAt + j * changeSize + changeFieldsSize)) (drop (k * transactionSize + changesAt + j * changeSize + changeFieldsSize) s) ≡ pathText (c .names)
+  pub path-read : (n : ℕ) → n ≡ length (pathText (c .names)) → take (at + changeFieldsSize + n - (at + changeFieldsSize)) (drop (at + changeFieldsSize) s) ≡ pathText (c .names)
   unfolding padded
   path-read n e =
-      let at = k * transactionSize + changesAt + j * changeSize in
       let p = pathText (c .names) in
       let short = change-fits .short in
       let body : drop changeFieldsSize (take changeSize (drop at s)) ≡ p ++ replicate (longestPath - length p) 0 = ap (drop changeFieldsSize) parts ∙ drop-at (twoOf c) (padded longestPath p) changeFieldsSize refl in

@@ -24,7 +24,7 @@ use Rattle.tables.specs.Two.{Bytes}
 use Rattle.tables.specs.Kept.{keptAt}
 use Rattle.tables.specs.WatchKept.{restZero}
 use Rattle.tables.specs.Entries.{changeKept, changesKept}
-use Rattle.tables.proofs.Rows.{same-padded, part-listed, text-part, keptFrom, kept-start, kept-next, kept-end}
+use Rattle.tables.proofs.Rows.{same-padded, listed-from, text-part, keptFrom, kept-start, kept-next, kept-end}
 use Rattle.tables.proofs.WatchKept.{bit-of}
 use Rattle.tables.proofs.ChangeLaws.{twoOf, change-parts}
 
@@ -175,7 +175,7 @@ module _ (s : Octets) (at : ℕ) (bytes : Bytes s) (h : at + changeSize ≤ leng
   names-are = ap (λ (n : ℕ). namesIn (textAt row changeFieldsSize longestPath n)) (fields .1)
 
   first-two : take changeFieldsSize row ≡ getD s at 0 ∷ getD s (at + 1) 0 ∷ []
-  first-two = take-take changeFieldsSize changeSize (drop at s) (lit≤ tt) ∙ ap (λ (q : ℕ). take changeFieldsSize (drop q s)) (sym (add-zero at)) ∙ part-listed s at 0 changeFieldsSize (omega arith) ∙ rw add-zero
+  first-two = take-take changeFieldsSize changeSize (drop at s) (lit≤ tt) ∙ listed-from s at changeFieldsSize (omega arith) ∙ rw add-zero
 
   -- a change whose bytes are its own
   module _ (own : changeBytes c ≡ row) where

@@ -26,7 +26,7 @@ use Rattle.tables.specs.Transaction.{opened}
 use Rattle.tables.specs.Entries.{changesKept}
 use Rattle.tables.proofs.Search.{free-none, taken-some}
 use Rattle.rules.proofs.Reencoding.{same-zeros, same-append}
-use Rattle.tables.proofs.Rows.{part-listed, keptFrom, kept-start, kept-next, kept-end}
+use Rattle.tables.proofs.Rows.{listed-from, keptFrom, kept-start, kept-next, kept-end}
 use Rattle.octets.proofs.Padding.{drop-take}
 use Rattle.tables.proofs.WatchKept.{bit-of, pair-forward}
 use Rattle.tables.proofs.TransactionLaws.{threeOf, transaction-parts, transaction-wide, read-fits, used-byte, is-read}
@@ -87,11 +87,14 @@ marks-back : (b m n : ℕ) → b ≡ 128 + 64 * m + n → m < 2 → n ≤ mostCh
 marks-back b m n e hm hn = (omega arith, omega arith)
 
 module _ (s : Octets) (k : ℕ) (h : k < mostTransactions) (bytes : Bytes s) (whole : length s ≡ transactionsSize) where
+  abbrev at : ℕ
+  at = k * transactionSize
+
   abbrev place : Octets
-  place = take transactionSize (drop (k * transactionSize) s)
+  place = take transactionSize (drop at s)
 
   abbrev head : ℕ
-  head = field s (k * transactionSize) changesAt
+  head = field s at changesAt
 
   abbrev x : Transaction
   x = transactionAt place head
@@ -100,18 +103,18 @@ module _ (s : Octets) (k : ℕ) (h : k < mostTransactions) (bytes : Bytes s) (wh
   kept = keptAt mostTransactions transactionSize transactionBytes transactionIn s k
 
   abbrev first : ℕ
-  first = getD s (k * transactionSize) 0
+  first = getD s at 0
 
   -- a closed place is all zero
-  pub free-kept : first < 128 → allZero (take (k * transactionSize + transactionSize - k * transactionSize) (drop (k * transactionSize) s)) ≡ kept
+  pub free-kept : first < 128 → allZero (take (at + transactionSize - at) (drop at s)) ≡ kept
   unfolding keptAt transactionBytes
   free-kept u =
       let f = sym (used-byte s k h bytes whole) ∙ lt-leb 128 _ u in
       let e = sym (transaction-at s k h) ∙ free-none (getD (transactionsOf s) k none) f in
-      rw (e, add-sub-cancel-left) (sym (same-zeros transactionSize place (length-take-le transactionSize (drop (k * transactionSize) s) (rw length-drop (omega arith)))))
+      rw (e, add-sub-cancel-left) (sym (same-zeros transactionSize place (length-take-le transactionSize (drop at s) (rw length-drop (omega arith)))))
 
-  first-three : take changesAt (drop (k * transactionSize) s) ≡ first ∷ getD s (k * transactionSize + 1) 0 ∷ getD s (k * transactionSize + 2) 0 ∷ []
-  first-three = ap (λ (q : ℕ). take changesAt (drop q s)) (sym (add-zero (k * transactionSize))) ∙ part-listed s (k * transactionSize) 0 changesAt (omega arith) ∙ rw add-zero
+  first-three : take changesAt (drop at s) ≡ first ∷ getD s (at + 1) 0 ∷ getD s (at + 2) 0 ∷ []
+  first-three = listed-from s at changesAt (omega arith) ∙ rw add-zero
 
   module _ (u : 128 ≤ first) where
     kept-is : kept ≡ same (transactionBytes (some x)) place
@@ -129,9 +132,9 @@ module _ (s : Octets) (k : ℕ) (h : k < mostTransactions) (bytes : Bytes s) (wh
 
     marks-said : transactionBytes (some x) ≡ place → (first / 16 % 4 ≡ 0) × (first % 16 ≤ mostChanges)
     marks-said own =
-        let e : first ∷ getD s (k * transactionSize + 1) 0 ∷ getD s (k * transactionSize + 2) 0 ∷ [] ≡ threeOf x =
+        let e : first ∷ getD s (at + 1) 0 ∷ getD s (at + 2) 0 ∷ [] ≡ threeOf x =
         sym first-three
-        ∙ sym (take-take changesAt transactionSize (drop (k * transactionSize) s) (lit≤ tt))
+        ∙ sym (take-take changesAt transactionSize (drop at s) (lit≤ tt))
         ∙ ap (take changesAt) (sym own ∙ x-parts)
         ∙ take-at (threeOf x) (padded changesSize (flatMap changeBytes (x .changes))) changesAt refl in
         let b : first ≡ 128 + 64 * bit (x .stale) + length (x .changes) = cc in
@@ -152,23 +155,23 @@ module _ (s : Octets) (k : ℕ) (h : k < mostTransactions) (bytes : Bytes s) (wh
       n = first % 16
 
       abbrev body : Octets
-      body = take changesSize (drop (k * transactionSize + changesAt) s)
+      body = take changesSize (drop (at + changesAt) s)
 
       abbrev front : Octets
-      front = take (n * changeSize) (drop (k * transactionSize + changesAt) s)
+      front = take (n * changeSize) (drop (at + changesAt) s)
 
-      head-fields : (bitsAt head 22 1 ≡ first / 64 % 2) × (bitsAt head 16 4 ≡ n) × (bitsAt head 0 16 ≡ getD s (k * transactionSize + 1) 0 * 256 + getD s (k * transactionSize + 2) 0)
+      head-fields : (bitsAt head 22 1 ≡ first / 64 % 2) × (bitsAt head 16 4 ≡ n) × (bitsAt head 0 16 ≡ getD s (at + 1) 0 * 256 + getD s (at + 2) 0)
       unfolding bitsAt
-      head-fields = rw (field-three s (k * transactionSize) (omega arith)) (three-fields _ _ _ (bytes (k * transactionSize)) (bytes (k * transactionSize + 1)) (bytes (k * transactionSize + 2)))
+      head-fields = rw (field-three s at (omega arith)) (three-fields _ _ _ (bytes at) (bytes (at + 1)) (bytes (at + 2)))
 
-      place-body : place ≡ take changesAt (drop (k * transactionSize) s) ++ body
-      place-body = take-add changesAt changesSize (drop (k * transactionSize) s) ∙ ap (λ (r : Octets). take changesAt (drop (k * transactionSize) s) ++ take changesSize r) (drop-drop changesAt (k * transactionSize) s)
+      place-body : place ≡ take changesAt (drop at s) ++ body
+      place-body = take-add changesAt changesSize (drop at s) ∙ ap (λ (r : Octets). take changesAt (drop at s) ++ take changesSize r) (drop-drop changesAt at s)
 
       body-is : drop changesAt place ≡ body
-      body-is = drop-take-add changesAt changesSize (drop (k * transactionSize) s) ∙ ap (take changesSize) (drop-drop changesAt (k * transactionSize) s)
+      body-is = drop-take-add changesAt changesSize (drop at s) ∙ ap (take changesSize) (drop-drop changesAt at s)
 
       front-is : take (n * changeSize) body ≡ front
-      front-is = take-take (n * changeSize) changesSize (drop (k * transactionSize + changesAt) s) (omega arith)
+      front-is = take-take (n * changeSize) changesSize (drop (at + changesAt) s) (omega arith)
 
       rows : List Octets
       rows = chunks n changeSize front
@@ -182,28 +185,28 @@ module _ (s : Octets) (k : ℕ) (h : k < mostTransactions) (bytes : Bytes s) (wh
       unfolding rows
       few = ap length changes-are ∙ length-map (chunks n changeSize front) changeIn ∙ length-chunks n changeSize front
 
-      three-is : threeOf x ≡ take changesAt (drop (k * transactionSize) s)
+      three-is : threeOf x ≡ take changesAt (drop at s)
       unfolding transactionAt
       three-is =
-          let p = pair-forward (getD s (k * transactionSize + 1) 0) (getD s (k * transactionSize + 2) 0) (bytes (k * transactionSize + 1)) (bytes (k * transactionSize + 2)) in
-          rw (few, head-fields .0, head-fields .2, first-forward first u (bytes (k * transactionSize)) z, p .0, p .1) (sym first-three)
+          let p = pair-forward (getD s (at + 1) 0) (getD s (at + 2) 0) (bytes (at + 1)) (bytes (at + 2)) in
+          rw (few, head-fields .0, head-fields .2, first-forward first u (bytes at) z, p .0, p .1) (sym first-three)
 
       front-long : length front ≡ n * changeSize
-      front-long = length-take-le (n * changeSize) (drop (k * transactionSize + changesAt) s) (rw length-drop (omega arith))
+      front-long = length-take-le (n * changeSize) (drop (at + changesAt) s) (rw length-drop (omega arith))
 
       all-long : length (flatMap changeBytes (map changeIn rows)) ≡ n * changeSize
       unfolding rows
       all-long = rows-long (chunks n changeSize front) ∙ ap (λ (m : ℕ). m * changeSize) (length-chunks n changeSize front)
 
-      pub kept-parts : kept ≡ (changesKept n front && restZero s (k * transactionSize + changesAt) (n * changeSize) changesSize)
+      pub kept-parts : kept ≡ (changesKept n front && restZero s (at + changesAt) (n * changeSize) changesSize)
       unfolding changesKept padded rows
       kept-parts =
           let all = flatMap changeBytes (map changeIn rows) in
           let e : length all ≡ n * changeSize = all-long in
-          let bl : length body ≡ changesSize = length-take-le changesSize (drop (k * transactionSize + changesAt) s) (rw length-drop (omega arith)) in
+          let bl : length body ≡ changesSize = length-take-le changesSize (drop (at + changesAt) s) (rw length-drop (omega arith)) in
           kept-is
           ∙ ap₂ same (x-parts ∙ ap (λ (cs : List Change). threeOf x ++ padded changesSize (flatMap changeBytes cs)) changes-are) place-body
-          ∙ same-append (threeOf x) (padded changesSize all) (take changesAt (drop (k * transactionSize) s)) body (ap length three-is)
+          ∙ same-append (threeOf x) (padded changesSize all) (take changesAt (drop at s)) body (ap length three-is)
           ∙ ap₂ _&&_ (eq-same three-is) (ap (same (padded changesSize all)) (sym (take-append-drop (n * changeSize) body) ∙ ap (λ (r : Octets). r ++ drop (n * changeSize) body) front-is))
           ∙ same-append all (replicate (changesSize - length all) 0) front (drop (n * changeSize) body) (e ∙ sym front-long)
           ∙ ap (λ (b : Bool). same all front && b) (same-zeros (changesSize - length all) (drop (n * changeSize) body) (rw (length-drop, bl, e)))

@@ -72,12 +72,15 @@ unfolding transactionsOf transactionsBytes
 kept-transactions s c = c .same
 
 module _ (s : Octets) (c : KeptTransactions s) (k : ℕ) (h : k < mostTransactions) where
-  pub closed : paste (k * transactionSize) (replicate transactionSize 0) s ≡ transactionsBytes (set (transactionsOf s) k none)
+  abbrev at : ℕ
+  at = k * transactionSize
+
+  pub closed : paste at (replicate transactionSize 0) s ≡ transactionsBytes (set (transactionsOf s) k none)
   unfolding transactionsOf transactionsBytes transactionBytes
   closed = sym (wrote transactionBytes transactionIn transactionSize transaction-wide mostTransactions s c k none h (transaction-width none tt))
 
   pub freed-transaction : (test : Transaction → Bool) → passes test (getD (transactionsOf s) k none) ≡ true
-      → paste (k * transactionSize) (replicate transactionSize 0) s ≡ transactionsBytes (set (transactionsOf s) k (droppedIf test (getD (transactionsOf s) k none)))
+      → paste at (replicate transactionSize 0) s ≡ transactionsBytes (set (transactionsOf s) k (droppedIf test (getD (transactionsOf s) k none)))
   unfolding transactionsOf transactionsBytes transactionBytes
   freed-transaction test = freed transactionBytes transactionIn transactionSize transaction-wide mostTransactions s c k h (writable none tt) test
 
@@ -100,11 +103,10 @@ module _ (s : Octets) (c : KeptTransactions s) (k : ℕ) (h : k < mostTransactio
   -- ── an open place ──
 
   pub put-open : (o : ℕ) → o < 65536
-      → set (set (set (paste (k * transactionSize + changesAt) (replicate changesSize 0) s) (k * transactionSize) 128) (k * transactionSize + 1) (o / 256 % 256)) (k * transactionSize + 2) (o % 256)
+      → set (set (set (paste (at + changesAt) (replicate changesSize 0) s) at 128) (at + 1) (o / 256 % 256)) (at + 2) (o % 256)
       ≡ transactionsBytes (set (transactionsOf s) k (some (opened o)))
   unfolding transactionsOf transactionsBytes
   put-open o ho =
-      let at = k * transactionSize in
       let whole = c .whole in
       let zeros : Octets = replicate changesSize 0 in
       let x = paste (at + changesAt) zeros s in
@@ -127,10 +129,9 @@ module _ (s : Octets) (c : KeptTransactions s) (k : ℕ) (h : k < mostTransactio
       sym (rw (ap staleOf e ∙ sym e, set-getD (transactionsOf s) k none) (kept-transactions s c))
 
   pub put-stale : taken (getD (transactionsOf s) k none) ≡ true
-      → set s (k * transactionSize) (192 + getD s (k * transactionSize) 0 % 16) ≡ transactionsBytes (set (transactionsOf s) k (staleOf (getD (transactionsOf s) k none)))
+      → set s at (192 + getD s at 0 % 16) ≡ transactionsBytes (set (transactionsOf s) k (staleOf (getD (transactionsOf s) k none)))
   unfolding transactionsOf transactionsBytes
   put-stale u =
-      let at = k * transactionSize in
       let whole = c .whole in
       let b = 192 + getD s at 0 % 16 in
       let x = transactionOf s k in

@@ -23,7 +23,7 @@ use Rattle.tables.specs.Kept.{KeptTransactions}
 use Rattle.tables.specs.Transaction.{opened, transactionOf}
 use Rattle.tables.proofs.Bytes.{agree, taken-cond, entry-cond}
 use Rattle.tables.proofs.Search.{taken-some}
-use Rattle.tables.proofs.Rows.{length-table, part-listed, place-bytes}
+use Rattle.tables.proofs.Rows.{length-table, listed-from, place-bytes}
 
 -- ── the bytes of a transaction ──
 
@@ -67,15 +67,18 @@ marks-back b m n e hm hn = (omega arith, omega arith)
 -- ── place k of a table ──
 
 module _ (s : Octets) (k : ℕ) (h : k < mostTransactions) where
+  abbrev at : ℕ
+  at = k * transactionSize
+
   abbrev row : Octets
-  row = take transactionSize (drop (k * transactionSize) s)
+  row = take transactionSize (drop at s)
 
   abbrev head : ℕ
-  head = field s (k * transactionSize) changesAt
+  head = field s at changesAt
 
   place-is : getD (transactionsOf s) k none ≡ cond (eqb (bitsAt head 23 1) 1) (some (transactionAt row head)) none
   unfolding transactionIn
-  place-is = transaction-at s k h ∙ rw (field-part s (k * transactionSize) transactionSize 0 changesAt (omega arith), add-zero)
+  place-is = transaction-at s k h ∙ rw (field-part s at transactionSize 0 changesAt (omega arith), add-zero)
 
   pub is-read : taken (getD (transactionsOf s) k none) ≡ true → transactionOf s k ≡ transactionAt row head
   is-read u =
@@ -91,26 +94,26 @@ module _ (s : Octets) (k : ℕ) (h : k < mostTransactions) where
   open-fits u = rw (is-read u) (read-fits row head)
 
   module _ (bytes : Bytes s) (whole : length s ≡ transactionsSize) where
-    head-bytes : head ≡ (getD s (k * transactionSize) 0 * 256 + getD s (k * transactionSize + 1) 0) * 256 + getD s (k * transactionSize + 2) 0
-    head-bytes = field-three s (k * transactionSize) (omega arith)
+    head-bytes : head ≡ (getD s at 0 * 256 + getD s (at + 1) 0) * 256 + getD s (at + 2) 0
+    head-bytes = field-three s at (omega arith)
 
-    pub used-byte : leb 128 (getD s (k * transactionSize) 0) ≡ taken (getD (transactionsOf s) k none)
+    pub used-byte : leb 128 (getD s at 0) ≡ taken (getD (transactionsOf s) k none)
     unfolding bitsAt
     used-byte =
-        let b = getD s (k * transactionSize) 0 in
-        let x = bytes (k * transactionSize) in
-        let y = bytes (k * transactionSize + 1) in
-        let z = bytes (k * transactionSize + 2) in
+        let b = getD s at 0 in
+        let x = bytes at in
+        let y = bytes (at + 1) in
+        let z = bytes (at + 2) in
         rw (place-is, taken-cond)
         (agree (λ p. eq-eqb (bitsAt head 23 1) 1 (omega (arith, leb-true 128 b p, head-bytes))) (λ p. ne-eqb (bitsAt head 23 1) 1 (λ q. omega (arith, leb-false 128 b p, q, head-bytes))))
 
-    pub holder-read : taken (getD (transactionsOf s) k none) ≡ true → (r : ℕ) → Two s (k * transactionSize + 1) r → r ≡ transactionOf s k .holder
+    pub holder-read : taken (getD (transactionsOf s) k none) ≡ true → (r : ℕ) → Two s (at + 1) r → r ≡ transactionOf s k .holder
     unfolding transactionAt bitsAt
     holder-read u r w =
-        let e : k * transactionSize + 1 + 1 ≡ k * transactionSize + 2 = omega arith in
+        let e : at + 1 + 1 ≡ at + 2 = omega arith in
         let v = rw e at (w .value) in
-        let y = bytes (k * transactionSize + 1) in
-        let z = bytes (k * transactionSize + 2) in
+        let y = bytes (at + 1) in
+        let z = bytes (at + 2) in
         let q : r ≡ bitsAt head 0 16 = omega (arith, head-bytes) in
         q ∙ sym (ap Transaction.holder (is-read u))
 
@@ -121,22 +124,22 @@ module _ (s : Octets) (k : ℕ) (h : k < mostTransactions) where
     pub row-parts : row ≡ threeOf x ++ padded changesSize (flatMap changeBytes (x .changes))
     row-parts = own-bytes c u ∙ transaction-parts x (open-fits u .holder) (open-fits u .few)
 
-    first-three : getD s (k * transactionSize) 0 ∷ getD s (k * transactionSize + 1) 0 ∷ getD s (k * transactionSize + 2) 0 ∷ [] ≡ threeOf x
+    first-three : getD s at 0 ∷ getD s (at + 1) 0 ∷ getD s (at + 2) 0 ∷ [] ≡ threeOf x
     first-three =
         let whole = c .whole in
-        sym (ap (λ (q : ℕ). take changesAt (drop q s)) (sym (add-zero (k * transactionSize))) ∙ part-listed s (k * transactionSize) 0 changesAt (omega arith) ∙ rw add-zero)
-        ∙ sym (take-take changesAt transactionSize (drop (k * transactionSize) s) (lit≤ tt))
+        sym (listed-from s at changesAt (omega arith) ∙ rw add-zero)
+        ∙ sym (take-take changesAt transactionSize (drop at s) (lit≤ tt))
         ∙ ap (take changesAt) row-parts
         ∙ take-at (threeOf x) (padded changesSize (flatMap changeBytes (x .changes))) changesAt refl
 
-    pub first-is : getD s (k * transactionSize) 0 ≡ 128 + 64 * bit (x .stale) + length (x .changes)
+    pub first-is : getD s at 0 ≡ 128 + 64 * bit (x .stale) + length (x .changes)
     first-is = let e = first-three in cc
 
-    marks : (getD s (k * transactionSize) 0 / 64 % 2 ≡ bit (x .stale)) × (getD s (k * transactionSize) 0 % 16 ≡ length (x .changes))
+    marks : (getD s at 0 / 64 % 2 ≡ bit (x .stale)) × (getD s at 0 % 16 ≡ length (x .changes))
     marks = marks-back _ _ _ first-is (bit-small (x .stale)) (open-fits u .few)
 
-    pub stale-read : eqb (getD s (k * transactionSize) 0 / 64 % 2) 1 ≡ x .stale
+    pub stale-read : eqb (getD s at 0 / 64 % 2) 1 ≡ x .stale
     stale-read = rw (marks .0) (bit-back (x .stale))
 
-    pub changes-read : getD s (k * transactionSize) 0 % 16 ≡ length (x .changes)
+    pub changes-read : getD s at 0 % 16 ≡ length (x .changes)
     changes-read = marks .1

@@ -89,9 +89,12 @@ unfolding watchBytes
 empty = record { width = length-replicate {A = ℕ} watchSize 0; back = watch-read none tt }
 
 module _ (s : Octets) (c : KeptWatches s) (k : ℕ) (h : k < mostWatches) where
+  abbrev at : ℕ
+  at = k * watchSize
+
   -- a place cleared, or left as it is
   pub freed-watch : (test : Watch → Bool) → passes test (getD (watchesOf s) k none) ≡ true
-      → paste (k * watchSize) (replicate watchSize 0) s ≡ watchesBytes (set (watchesOf s) k (droppedIf test (getD (watchesOf s) k none)))
+      → paste at (replicate watchSize 0) s ≡ watchesBytes (set (watchesOf s) k (droppedIf test (getD (watchesOf s) k none)))
   unfolding watchesOf watchesBytes watchBytes
   freed-watch test = freed watchBytes watchIn watchSize watch-wide mostWatches s c k h empty test
 
@@ -109,21 +112,21 @@ module _ (s : Octets) (c : KeptWatches s) (k : ℕ) (h : k < mostWatches) where
   module _ (o : Connection) (x : Octets) (r : Bool) (d : Depth) (t : Octets) (f : FitWatch o x r t) (below : entryOr 0 (depthMeant d) < 256) where
     -- three parts put in, the last first
     pub put-watch : (first depth : ℕ) → first ≡ 128 + 64 * bit r + 32 * bit (taken (depthMeant d)) → depth ≡ entryOr 0 (depthMeant d)
-        → paste (k * watchSize) (first ∷ depth ∷ (o / 256 % 256) ∷ (o % 256) ∷ (length x / 2 % 256) ∷ (length x % 2 * 128 + length t) ∷ [])
-        (paste (k * watchSize + watchFieldsSize) (padded longestPath x) (paste (k * watchSize + tokenAt) (padded longestToken t) s))
+        → paste at (first ∷ depth ∷ (o / 256 % 256) ∷ (o % 256) ∷ (length x / 2 % 256) ∷ (length x % 2 * 128 + length t) ∷ [])
+        (paste (at + watchFieldsSize) (padded longestPath x) (paste (at + tokenAt) (padded longestToken t) s))
         ≡ watchesBytes (set (watchesOf s) k (some (watchGiven o x r d t)))
     unfolding watchesOf watchesBytes
     put-watch first depth p q =
         let six = first ∷ depth ∷ (o / 256 % 256) ∷ (o % 256) ∷ (length x / 2 % 256) ∷ (length x % 2 * 128 + length t) ∷ [] in
         let whole = c .whole in
         let l = length-padded longestPath x (f .path) in
-        let e : k * watchSize + watchFieldsSize + longestPath ≡ k * watchSize + tokenAt = omega arith in
-        let inner = paste-append (k * watchSize + watchFieldsSize) (padded longestPath x) (padded longestToken t) s (rw l (omega arith)) in
+        let e : at + watchFieldsSize + longestPath ≡ at + tokenAt = omega arith in
+        let inner = paste-append (at + watchFieldsSize) (padded longestPath x) (padded longestToken t) s (rw l (omega arith)) in
         sym
         (wrote watchBytes watchIn watchSize watch-wide mostWatches s c k (some (watchGiven o x r d t)) h (narrow-width _ (given-narrow o x r d t f below))
-        ∙ ap (λ (b : Octets). paste (k * watchSize) b s) (given-parts o x r d t f below first depth p q)
-        ∙ paste-append (k * watchSize) six (padded longestPath x ++ padded longestToken t) s (omega arith)
-        ∙ ap (paste (k * watchSize) six) (rw (l, e) at inner))
+        ∙ ap (λ (b : Octets). paste at b s) (given-parts o x r d t f below first depth p q)
+        ∙ paste-append at six (padded longestPath x ++ padded longestToken t) s (omega arith)
+        ∙ ap (paste at six) (rw (l, e) at inner))
 
     -- what the bytes are and mean after a watch is put in
     pub put-kept : (b : Octets) → b ≡ watchesBytes (set (watchesOf s) k (some (watchGiven o x r d t))) → KeptWatches b × (watchesOf b ≡ set (watchesOf s) k (some (watchGiven o x r d t)))

@@ -183,11 +183,14 @@ fields-few s k fs =
     leb-true _ _ (both-true (leb (tokenLength s k) longestToken) (depthSame s k) (b .1) .0)
 
 module _ (s : Octets) (k : ℕ) (h : k < mostWatches) (bytes : Bytes s) (whole : length s ≡ watchesSize) where
+  abbrev at : ℕ
+  at = k * watchSize
+
   abbrev row : Octets
-  row = take watchSize (drop (k * watchSize) s)
+  row = take watchSize (drop at s)
 
   abbrev head : ℕ
-  head = field s (k * watchSize) watchFieldsSize
+  head = field s at watchFieldsSize
 
   abbrev v : Watch
   v = watchAt row head
@@ -196,14 +199,14 @@ module _ (s : Octets) (k : ℕ) (h : k < mostWatches) (bytes : Bytes s) (whole :
   kept = keptAt mostWatches watchSize watchBytes watchIn s k
 
   -- a free place is all zero
-  pub free-kept : getD s (k * watchSize) 0 < 128 → allZero (take (k * watchSize + watchSize - k * watchSize) (drop (k * watchSize) s)) ≡ kept
+  pub free-kept : getD s at 0 < 128 → allZero (take (at + watchSize - at) (drop at s)) ≡ kept
   unfolding keptAt watchBytes
   free-kept u =
       let f = sym (used-byte s k h bytes whole) ∙ lt-leb 128 _ u in
       let e = sym (watch-at s k h) ∙ free-none (getD (watchesOf s) k none) f in
-      rw (e, add-sub-cancel-left) (sym (same-zeros watchSize row (length-take-le watchSize (drop (k * watchSize) s) (rw length-drop (omega arith)))))
+      rw (e, add-sub-cancel-left) (sym (same-zeros watchSize row (length-take-le watchSize (drop at s) (rw length-drop (omega arith)))))
 
-  module _ (u : 128 ≤ getD s (k * watchSize) 0) where
+  module _ (u : 128 ≤ getD s at 0) where
     kept-is : kept ≡ same (watchBytes (some v)) row
     unfolding keptAt
     kept-is =
@@ -218,12 +221,12 @@ module _ (s : Octets) (k : ℕ) (h : k < mostWatches) (bytes : Bytes s) (whole :
     pub kept-long : longestPath < pathLength s k → kept ≡ false
     kept-long l = not-kept λ own. omega (arith, path-within s k h bytes whole own)
 
-    pub kept-unplaced : placeSame (eqb (getD s (k * watchSize) 0 / 64 % 2) 1) (take (k * watchSize + watchFieldsSize + pathLength s k - (k * watchSize + watchFieldsSize)) (drop (k * watchSize + watchFieldsSize) s)) ≡ false → kept ≡ false
+    pub kept-unplaced : placeSame (eqb (getD s at 0 / 64 % 2) 1) (take (at + watchFieldsSize + pathLength s k - (at + watchFieldsSize)) (drop (at + watchFieldsSize) s)) ≡ false → kept ≡ false
     unfolding placeSame watchAt pathLength
     kept-unplaced f =
         not-kept λ own.
         let l = path-within s k h bytes whole own in
-        let x : take (k * watchSize + watchFieldsSize + pathLength s k - (k * watchSize + watchFieldsSize)) (drop (k * watchSize + watchFieldsSize) s) ≡ textAt row watchFieldsSize longestPath (pathLength s k) = text-part s (k * watchSize) watchSize watchFieldsSize longestPath (pathLength s k) l (lit≤ tt) in
+        let x : take (at + watchFieldsSize + pathLength s k - (at + watchFieldsSize)) (drop (at + watchFieldsSize) s) ≡ textAt row watchFieldsSize longestPath (pathLength s k) = text-part s at watchSize watchFieldsSize longestPath (pathLength s k) l (lit≤ tt) in
         let e = path-text s k h bytes whole own in
         let m = relative-said s k h bytes whole own in
         let r = marks s k h bytes whole .0 in
@@ -234,53 +237,53 @@ module _ (s : Octets) (k : ℕ) (h : k < mostWatches) (bytes : Bytes s) (whole :
 
     -- the parts of a place
     abbrev pathPart : Octets
-    pathPart = take longestPath (drop (k * watchSize + watchFieldsSize) s)
+    pathPart = take longestPath (drop (at + watchFieldsSize) s)
 
     abbrev tokenPart : Octets
-    tokenPart = take longestToken (drop (k * watchSize + tokenAt) s)
+    tokenPart = take longestToken (drop (at + tokenAt) s)
 
-    row-parts : row ≡ take watchFieldsSize (drop (k * watchSize) s) ++ (pathPart ++ tokenPart)
+    row-parts : row ≡ take watchFieldsSize (drop at s) ++ (pathPart ++ tokenPart)
     row-parts =
-        let e : k * watchSize + watchFieldsSize + longestPath ≡ k * watchSize + tokenAt = omega arith in
-        take-add watchFieldsSize (longestPath + longestToken) (drop (k * watchSize) s)
-        ∙ ap (λ (r : Octets). take watchFieldsSize (drop (k * watchSize) s) ++ r)
-        (ap (take (longestPath + longestToken)) (drop-drop watchFieldsSize (k * watchSize) s)
-        ∙ take-add longestPath longestToken (drop (k * watchSize + watchFieldsSize) s)
-        ∙ ap (λ (r : Octets). pathPart ++ take longestToken r) (drop-drop longestPath (k * watchSize + watchFieldsSize) s ∙ ap (λ (n : ℕ). drop n s) e))
+        let e : at + watchFieldsSize + longestPath ≡ at + tokenAt = omega arith in
+        take-add watchFieldsSize (longestPath + longestToken) (drop at s)
+        ∙ ap (λ (r : Octets). take watchFieldsSize (drop at s) ++ r)
+        (ap (take (longestPath + longestToken)) (drop-drop watchFieldsSize at s)
+        ∙ take-add longestPath longestToken (drop (at + watchFieldsSize) s)
+        ∙ ap (λ (r : Octets). pathPart ++ take longestToken r) (drop-drop longestPath (at + watchFieldsSize) s ∙ ap (λ (n : ℕ). drop n s) e))
 
     part-long : (p n : ℕ) → p + n ≤ watchesSize → length (take n (drop p s)) ≡ n
     part-long p n l = length-take-le n (drop p s) (rw length-drop (omega arith))
 
     -- a text of the place, taken from its field
-    text-of : (j n size : ℕ) → j + size ≤ watchSize → n ≤ size → textAt row j size n ≡ take n (take size (drop (k * watchSize + j) s))
+    text-of : (j n size : ℕ) → j + size ≤ watchSize → n ≤ size → textAt row j size n ≡ take n (take size (drop (at + j) s))
     text-of j n size hj hn =
-        sym (text-part s (k * watchSize) watchSize j size n hn hj)
-        ∙ ap (λ (m : ℕ). take m (drop (k * watchSize + j) s)) (add-sub-cancel-left (k * watchSize + j) n)
-        ∙ sym (take-take n size (drop (k * watchSize + j) s) hn)
+        sym (text-part s at watchSize j size n hn hj)
+        ∙ ap (λ (m : ℕ). take m (drop (at + j) s)) (add-sub-cancel-left (at + j) n)
+        ∙ sym (take-take n size (drop (at + j) s) hn)
 
     module _ (l : pathLength s k ≤ longestPath)
-        (ps : placeSame (eqb (getD s (k * watchSize) 0 / 64 % 2) 1) (take (k * watchSize + watchFieldsSize + pathLength s k - (k * watchSize + watchFieldsSize)) (drop (k * watchSize + watchFieldsSize) s)) ≡ true)
+        (ps : placeSame (eqb (getD s at 0 / 64 % 2) 1) (take (at + watchFieldsSize + pathLength s k - (at + watchFieldsSize)) (drop (at + watchFieldsSize) s)) ≡ true)
         (fs : fieldsSame s k ≡ true) where
-      placed : (placeText (v .place) ≡ textAt row watchFieldsSize longestPath (pathLength s k)) × (isRelative (v .place) ≡ eqb (getD s (k * watchSize) 0 / 64 % 2) 1)
+      placed : (placeText (v .place) ≡ textAt row watchFieldsSize longestPath (pathLength s k)) × (isRelative (v .place) ≡ eqb (getD s at 0 / 64 % 2) 1)
       unfolding placeSame watchAt pathLength
       placed =
           let r = eqb (bitsAt head 46 1) 1 in
           let x = textAt row watchFieldsSize longestPath (bitsAt head 7 9) in
           let m = marks s k h bytes whole .0 in
-          let both = both-true (same (placeText (placeIn r x)) x) (not r || isRelative (placeIn r x)) (rw (text-part s (k * watchSize) watchSize watchFieldsSize longestPath (bitsAt head 7 9) l (lit≤ tt), m) at ps) in
+          let both = both-true (same (placeText (placeIn r x)) x) (not r || isRelative (placeIn r x)) (rw (text-part s at watchSize watchFieldsSize longestPath (bitsAt head 7 9) l (lit≤ tt), m) at ps) in
           (same-eq (placeText (placeIn r x)) x (both .0), mark-of r x (both .1) ∙ ap (λ (n : ℕ). eqb n 1) (sym m))
 
       record Tests : Type 0 where
-        low : getD s (k * watchSize) 0 % 32 ≡ 0
-        middle : getD s (k * watchSize + 5) 0 / 64 % 2 ≡ 0
+        low : getD s at 0 % 32 ≡ 0
+        middle : getD s (at + 5) 0 / 64 % 2 ≡ 0
         few : tokenLength s k ≤ longestToken
         depth : depthSame s k ≡ true
 
       tests : Tests
       unfolding fieldsSame
       tests =
-          let a = both-true (eqb (getD s (k * watchSize) 0 % 32) 0) _ fs in
-          let b = both-true (eqb (getD s (k * watchSize + 5) 0 / 64 % 2) 0) _ (a .1) in
+          let a = both-true (eqb (getD s at 0 % 32) 0) _ fs in
+          let b = both-true (eqb (getD s (at + 5) 0 / 64 % 2) 0) _ (a .1) in
           let c = both-true (leb (tokenLength s k) longestToken) (depthSame s k) (b .1) in
           record { low = eqb-true _ _ (a .0); middle = eqb-true _ _ (b .0); few = leb-true _ _ (c .0); depth = c .1 }
 
@@ -292,42 +295,42 @@ module _ (s : Octets) (k : ℕ) (h : k < mostWatches) (bytes : Bytes s) (whole :
       token-is = text-of tokenAt (tokenLength s k) longestToken (lit≤ tt) (tests .few)
 
       path-long : length (placeText (v .place)) ≡ pathLength s k
-      path-long = ap length path-is ∙ length-take-le (pathLength s k) pathPart (rw (part-long (k * watchSize + watchFieldsSize) longestPath (omega arith)) l)
+      path-long = ap length path-is ∙ length-take-le (pathLength s k) pathPart (rw (part-long (at + watchFieldsSize) longestPath (omega arith)) l)
 
       token-long : length (v .token) ≡ tokenLength s k
-      token-long = ap length token-is ∙ length-take-le (tokenLength s k) tokenPart (rw (part-long (k * watchSize + tokenAt) longestToken (omega arith)) (tests .few))
+      token-long = ap length token-is ∙ length-take-le (tokenLength s k) tokenPart (rw (part-long (at + tokenAt) longestToken (omega arith)) (tests .few))
 
-      depth-byte : (taken (v .depth) ≡ eqb (getD s (k * watchSize) 0 / 32 % 2) 1) × (entryOr 0 (v .depth) ≡ getD s (k * watchSize + 1) 0)
+      depth-byte : (taken (v .depth) ≡ eqb (getD s at 0 / 32 % 2) 1) × (entryOr 0 (v .depth) ≡ getD s (at + 1) 0)
       unfolding watchAt depthSame taken entryOr
       depth-byte =
           let m = marks s k h bytes whole in
-          rw (← m .1, ← m .2) (go (eqb (getD s (k * watchSize) 0 / 32 % 2) 1) (tests .depth))
+          rw (← m .1, ← m .2) (go (eqb (getD s at 0 / 32 % 2) 1) (tests .depth))
         where
-          go : (b : Bool) → (b || eqb (getD s (k * watchSize + 1) 0) 0) ≡ true
-              → (taken (cond b (some (getD s (k * watchSize + 1) 0)) none) ≡ b) × (entryOr 0 (cond b (some (getD s (k * watchSize + 1) 0)) none) ≡ getD s (k * watchSize + 1) 0)
+          go : (b : Bool) → (b || eqb (getD s (at + 1) 0) 0) ≡ true
+              → (taken (cond b (some (getD s (at + 1) 0)) none) ≡ b) × (entryOr 0 (cond b (some (getD s (at + 1) 0)) none) ≡ getD s (at + 1) 0)
           go true e = (refl, refl)
-          go false e = (refl, sym (eqb-true (getD s (k * watchSize + 1) 0) 0 e))
+          go false e = (refl, sym (eqb-true (getD s (at + 1) 0) 0 e))
 
-      six-is : sixOf v ≡ take watchFieldsSize (drop (k * watchSize) s)
+      six-is : sixOf v ≡ take watchFieldsSize (drop at s)
       unfolding watchAt
       six-is =
-          let x = getD s (k * watchSize + 4) 0 in
-          let y = getD s (k * watchSize + 5) 0 in
-          let o = pair-forward (getD s (k * watchSize + 2) 0) (getD s (k * watchSize + 3) 0) (bytes (k * watchSize + 2)) (bytes (k * watchSize + 3)) in
-          let n = lengths-forward x y (bytes (k * watchSize + 4)) (bytes (k * watchSize + 5)) (tests .middle) in
+          let x = getD s (at + 4) 0 in
+          let y = getD s (at + 5) 0 in
+          let o = pair-forward (getD s (at + 2) 0) (getD s (at + 3) 0) (bytes (at + 2)) (bytes (at + 3)) in
+          let n = lengths-forward x y (bytes (at + 4)) (bytes (at + 5)) (tests .middle) in
           let ls = lengths s k h bytes whole in
-          rw (placed .1, depth-byte .0, depth-byte .1, path-long, token-long, first-forward (getD s (k * watchSize) 0) u (bytes (k * watchSize)) (tests .low), ← owner-is s k h bytes whole, o .0, o .1, ← ls .0, ← ls .1, n .0, n .1)
-          (sym (six-listed s (k * watchSize) (omega arith)))
+          rw (placed .1, depth-byte .0, depth-byte .1, path-long, token-long, first-forward (getD s at 0) u (bytes at) (tests .low), ← owner-is s k h bytes whole, o .0, o .1, ← ls .0, ← ls .1, n .0, n .1)
+          (sym (six-listed s at (omega arith)))
 
-      pub kept-rests : kept ≡ (restZero s (k * watchSize + watchFieldsSize) (pathLength s k) longestPath && restZero s (k * watchSize + tokenAt) (tokenLength s k) longestToken)
+      pub kept-rests : kept ≡ (restZero s (at + watchFieldsSize) (pathLength s k) longestPath && restZero s (at + tokenAt) (tokenLength s k) longestToken)
       kept-rests =
           let n = read-narrow row head in
-          let pl = part-long (k * watchSize + watchFieldsSize) longestPath (omega arith) in
-          let tl = part-long (k * watchSize + tokenAt) longestToken (omega arith) in
+          let pl = part-long (at + watchFieldsSize) longestPath (omega arith) in
+          let tl = part-long (at + tokenAt) longestToken (omega arith) in
           let a = same-padded (pathLength s k) pathPart in
           let b = same-padded (tokenLength s k) tokenPart in
           kept-is
           ∙ ap₂ same (watch-parts v n) row-parts
-          ∙ same-append (sixOf v) _ (take watchFieldsSize (drop (k * watchSize) s)) (pathPart ++ tokenPart) (ap length six-is)
+          ∙ same-append (sixOf v) _ (take watchFieldsSize (drop at s)) (pathPart ++ tokenPart) (ap length six-is)
           ∙ ap₂ _&&_ (eq-same six-is) (same-append (padded longestPath (placeText (v .place))) (padded longestToken (v .token)) pathPart tokenPart (length-padded longestPath _ (n .path) ∙ sym pl))
           ∙ ap₂ _&&_ (ap (λ (z : Octets). same (padded longestPath z) pathPart) path-is ∙ (rw pl at a)) (ap (λ (z : Octets). same (padded longestToken z) tokenPart) token-is ∙ (rw tl at b))
