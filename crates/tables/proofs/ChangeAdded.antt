@@ -32,7 +32,8 @@ given-fits : (r : Bool) (p : Octets) → isFull p ≡ true → length p ≤ long
 unfolding changeGiven
 given-fits r p f h = record { names = full p f .names; short = rw (← full p f .text) h }
 
-given-parts : (r : Bool) (p : Octets) → isFull p ≡ true → length p ≤ longestPath → changeBytes (changeGiven r p) ≡ ((128 * bit r + length p / 256) ∷ (length p % 256) ∷ []) ++ padded longestPath p
+given-parts : (r : Bool) (p : Octets) → isFull p ≡ true → length p ≤ longestPath
+    → changeBytes (changeGiven r p) ≡ ((128 * bit r + length p / 256) ∷ (length p % 256) ∷ []) ++ padded longestPath p
 unfolding changeGiven
 given-parts r p f h =
     let e : pathText (namesIn p) ≡ p = sym (full p f .text) in
@@ -58,7 +59,8 @@ put-two s at r p h f hp m e =
 
 -- ── the transaction's bytes ──
 
-module _ (x : Transaction) (f : TransactionFits x) (few : length (x .changes) < mostChanges) (r : Bool) (p : Octets) (full : isFull p ≡ true) (short : length p ≤ longestPath) where
+module _ (x : Transaction) (f : TransactionFits x) (few : length (x .changes) < mostChanges)
+    (r : Bool) (p : Octets) (full : isFull p ≡ true) (short : length p ≤ longestPath) where
   longer : length (x .changes ++ changeGiven r p ∷ []) ≡ length (x .changes) + 1
   longer = length-append (x .changes) (changeGiven r p ∷ [])
 
@@ -75,7 +77,9 @@ module _ (x : Transaction) (f : TransactionFits x) (few : length (x .changes) < 
   rows-long = length-encoded changeBytes changeSize (x .changes) (each-map ChangeFits _ change-wide (x .changes) (f .changes))
 
   changed-bytes : (b : ℕ) → b ≡ 128 + 64 * bit (x .stale) + length (x .changes) + 1
-      → paste 0 (b ∷ []) (paste (changesAt + length (x .changes) * changeSize) (changeBytes (changeGiven r p)) (threeOf x ++ padded changesSize (flatMap changeBytes (x .changes))))
+      → paste 0 (b ∷ [])
+      (paste (changesAt + length (x .changes) * changeSize) (changeBytes (changeGiven r p))
+      (threeOf x ++ padded changesSize (flatMap changeBytes (x .changes))))
       ≡ transactionBytes (some (changedBy x r p))
   unfolding changedBy paste
   changed-bytes b e =
@@ -87,13 +91,15 @@ module _ (x : Transaction) (f : TransactionFits x) (few : length (x .changes) < 
       let more = padded-more changesSize rows c (rw (rl, wide) (omega arith)) in
       ap (paste 0 (b ∷ [])) (paste-past (threeOf x) (padded changesSize rows) c (length (x .changes) * changeSize))
       ∙ first-set b (128 + 64 * bit (x .stale) + length (x .changes)) _ _ (paste (length (x .changes) * changeSize) c (padded changesSize rows))
-      ∙ ap₂ (λ (m : ℕ) (t : Octets). m ∷ (x .holder / 256 % 256) ∷ (x .holder % 256) ∷ t) n (sym (rw rl at more) ∙ ap (padded changesSize) (sym (flat-last changeBytes (x .changes) (changeGiven r p))))
+      ∙ ap₂ (λ (m : ℕ) (t : Octets). m ∷ (x .holder / 256 % 256) ∷ (x .holder % 256) ∷ t) n
+      (sym (rw rl at more) ∙ ap (padded changesSize) (sym (flat-last changeBytes (x .changes) (changeGiven r p))))
       ∙ sym (transaction-parts (changedBy x r p) (f .holder) (changed-fits .few))
     where
       first-set : (b u v w : ℕ) (t : Octets) → paste 0 (b ∷ []) (u ∷ v ∷ w ∷ t) ≡ b ∷ v ∷ w ∷ t
       first-set b u v w t = refl
 
 module _ (s : Octets) (k : ℕ) (p : Octets) (room : Room s k p) (r : Bool) where
+  -- where place k begins
   abbrev at : ℕ
   at = k * transactionSize
 
@@ -120,13 +126,15 @@ module _ (s : Octets) (k : ℕ) (p : Octets) (room : Room s k p) (r : Bool) wher
       let within = room-within in
       let wide : length c ≡ changeSize = change-wide (changeGiven r p) (given-fits r p (room .full) (room .short)) in
       let few = room .few in
-      let lr : length row ≡ transactionSize = length-take-le transactionSize (drop at s) (rw length-drop (omega (arith, room .place .kept .whole, room .place .below))) in
+      let lr : length row ≡ transactionSize =
+      length-take-le transactionSize (drop at s) (rw length-drop (omega (arith, room .place .kept .whole, room .place .below))) in
       let R = paste off c row in
       let lR : length R ≡ transactionSize = length-paste off c row (rw (lr, wide) (omega arith)) ∙ lr in
       let t = paste at R s in
       let lt : length t ≡ length s = length-paste at R s (rw lR (omega (arith, room .place .kept .whole, room .place .below))) in
       let inner : paste (at + changesAt + length (x .changes) * changeSize) c s ≡ t =
-      ap (λ (n : ℕ). paste n c s) (add-assoc at changesAt (length (x .changes) * changeSize)) ∙ sym (paste-row s at transactionSize off c (omega (arith, room .place .kept .whole, room .place .below)) (rw wide (omega arith))) in
+      ap (λ (n : ℕ). paste n c s) (add-assoc at changesAt (length (x .changes) * changeSize))
+      ∙ sym (paste-row s at transactionSize off c (omega (arith, room .place .kept .whole, room .place .below)) (rw wide (omega arith))) in
       let e = ap (λ (n : ℕ). n + 1) (first-is s k (room .place .below) (room .place .kept) (room .place .used)) in
       let bytes : paste 0 (b ∷ []) R ≡ transactionBytes (some (changedBy x r p)) =
       ap (λ (q : Octets). paste 0 (b ∷ []) (paste off c q)) (row-parts s k (room .place .below) (room .place .kept) (room .place .used)) ∙ changed-bytes x fits few r p (room .full) (room .short) b e in

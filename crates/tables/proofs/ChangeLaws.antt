@@ -20,7 +20,7 @@ use Rattle.rules.proofs.TransactionLayouts.{ChangeFits, TransactionFits}
 use Rattle.tables.specs.Two.{Two}
 use Rattle.tables.specs.Transaction.{noChange, transactionOf, changeOf, HasChange}
 use Rattle.rules.proofs.Slots.{length-padded}
-use Rattle.tables.proofs.Rows.{listed-from}
+use Rattle.tables.proofs.Rows.{listed-from, partAt}
 use Rattle.tables.proofs.TransactionLaws.{threeOf, row-parts, open-fits}
 
 -- ── the bytes of a change ──
@@ -42,11 +42,14 @@ twoOf c = twoBytes (bit (c .removal)) (length (pathText (c .names)))
 
 pub change-parts : (c : Change) → length (pathText (c .names)) ≤ longestPath → changeBytes c ≡ twoOf c ++ padded longestPath (pathText (c .names))
 unfolding changeBytes
-change-parts c h = ap (λ (a : Octets). a ++ padded longestPath (pathText (c .names))) (pair (bit (c .removal)) (length (pathText (c .names))) (bit-small (c .removal)) h)
+change-parts c h =
+    ap (λ (a : Octets). a ++ padded longestPath (pathText (c .names))) (pair (bit (c .removal)) (length (pathText (c .names))) (bit-small (c .removal)) h)
 
 pub change-wide : (c : Change) → ChangeFits c → length (changeBytes c) ≡ changeSize
 change-wide c f =
-    ap length (change-parts c (f .short)) ∙ length-append (twoOf c) (padded longestPath (pathText (c .names))) ∙ ap (λ (n : ℕ). changeFieldsSize + n) (length-padded longestPath (pathText (c .names)) (f .short))
+    ap length (change-parts c (f .short))
+    ∙ length-append (twoOf c) (padded longestPath (pathText (c .names)))
+    ∙ ap (λ (n : ℕ). changeFieldsSize + n) (length-padded longestPath (pathText (c .names)) (f .short))
 
 number-back : (x y r l : ℕ) → x ≡ 128 * r + l / 256 → y ≡ l % 256 → r < 2 → l ≤ longestPath → (x * 256 + y) % 512 ≡ l
 number-back x y r l hx hy hr hl = omega arith
@@ -58,6 +61,7 @@ removal-is x l false e h = lt-leb 128 x (omega arith)
 -- ── change j of place k ──
 
 module _ (s : Octets) (k j : ℕ) (h : HasChange s k j) where
+  -- where the change begins
   abbrev at : ℕ
   at = k * transactionSize + changesAt + j * changeSize
 
@@ -83,15 +87,17 @@ module _ (s : Octets) (k j : ℕ) (h : HasChange s k j) where
   own : take changeSize (drop at s) ≡ changeBytes c
   unfolding padded
   own =
-      let at = k * transactionSize in
+      let start = k * transactionSize in
       let rest = flatMap changeBytes (x .changes) in
       let zeros : Octets = replicate (changesSize - length rest) 0 in
       let l : length rest ≡ length (x .changes) * changeSize = length-encoded changeBytes changeSize (x .changes) rows in
       let few = fits .few in
       let there = h .there in
-      let body : drop changesAt (take transactionSize (drop at s)) ≡ rest ++ zeros = ap (drop changesAt) (row-parts s k (h .place .below) (h .place .kept) (h .place .used)) ∙ drop-at (threeOf x) (rest ++ zeros) changesAt refl in
-      sym (take-drop-take changeSize (changesAt + j * changeSize) transactionSize (drop at s) (omega arith) ∙ ap (take changeSize) (drop-drop (changesAt + j * changeSize) at s ∙ ap (λ (n : ℕ). drop n s) (sym (add-assoc at changesAt (j * changeSize)))))
-      ∙ ap (take changeSize) (sym (drop-drop (j * changeSize) changesAt (take transactionSize (drop at s))) ∙ ap (drop (j * changeSize)) body)
+      let body : drop changesAt (take transactionSize (drop start s)) ≡ rest ++ zeros =
+      ap (drop changesAt) (row-parts s k (h .place .below) (h .place .kept) (h .place .used)) ∙ drop-at (threeOf x) (rest ++ zeros) changesAt refl in
+      sym (take-drop-take changeSize (changesAt + j * changeSize) transactionSize (drop start s) (omega arith)
+      ∙ ap (take changeSize) (drop-drop (changesAt + j * changeSize) start s ∙ ap (λ (n : ℕ). drop n s) (sym (add-assoc start changesAt (j * changeSize)))))
+      ∙ ap (take changeSize) (sym (drop-drop (j * changeSize) changesAt (take transactionSize (drop start s))) ∙ ap (drop (j * changeSize)) body)
       ∙ ap (take changeSize) (drop-append-le (j * changeSize) rest zeros (omega arith))
       ∙ take-append-le changeSize (drop (j * changeSize) rest) zeros (rw (length-drop, l) (omega arith))
       ∙ encoded-at changeBytes changeSize (x .changes) j noChange rows (h .there)
@@ -120,13 +126,15 @@ module _ (s : Octets) (k j : ℕ) (h : HasChange s k j) where
       let b : getD s (at + 1) 0 ≡ length (pathText (c .names)) % 256 = cc in
       ap (λ (n : ℕ). n % 512) (w .value) ∙ number-back _ _ _ _ a b (bit-small (c .removal)) (change-fits .short)
 
-  pub path-read : (n : ℕ) → n ≡ length (pathText (c .names)) → take (at + changeFieldsSize + n - (at + changeFieldsSize)) (drop (at + changeFieldsSize) s) ≡ pathText (c .names)
+  pub path-read : (n : ℕ) → n ≡ length (pathText (c .names))
+      → partAt s (at + changeFieldsSize) n ≡ pathText (c .names)
   unfolding padded
   path-read n e =
       let p = pathText (c .names) in
       let short = change-fits .short in
-      let body : drop changeFieldsSize (take changeSize (drop at s)) ≡ p ++ replicate (longestPath - length p) 0 = ap (drop changeFieldsSize) parts ∙ drop-at (twoOf c) (padded longestPath p) changeFieldsSize refl in
-      ap (λ (m : ℕ). take m (drop (at + 2) s)) (add-sub-cancel-left (at + 2) n ∙ e)
+      let body : drop changeFieldsSize (take changeSize (drop at s)) ≡ p ++ replicate (longestPath - length p) 0 =
+      ap (drop changeFieldsSize) parts ∙ drop-at (twoOf c) (padded longestPath p) changeFieldsSize refl in
+      ap (λ (m : ℕ). take m (drop (at + changeFieldsSize) s)) (add-sub-cancel-left (at + changeFieldsSize) n ∙ e)
       ∙ sym (take-drop-take (length p) changeFieldsSize changeSize (drop at s) (omega arith) ∙ ap (take (length p)) (drop-drop changeFieldsSize at s))
       ∙ ap (take (length p)) body
       ∙ take-append-seam p (replicate (longestPath - length p) 0)

@@ -24,7 +24,7 @@ use Rattle.tables.specs.Two.{Bytes}
 use Rattle.tables.specs.Kept.{keptAt}
 use Rattle.tables.specs.WatchKept.{restZero}
 use Rattle.tables.specs.Entries.{changeKept, changesKept}
-use Rattle.tables.proofs.Rows.{same-padded, listed-from, text-part, keptFrom, kept-start, kept-next, kept-end}
+use Rattle.tables.proofs.Rows.{same-padded, partAt, listed-from, text-part, keptFrom, kept-start, kept-next, kept-end}
 use Rattle.tables.proofs.WatchKept.{bit-of}
 use Rattle.tables.proofs.ChangeLaws.{twoOf, change-parts}
 
@@ -45,7 +45,8 @@ names-short : (t : Octets) → length t ≤ longestPath → length (pathText (na
 unfolding namesIn pathText
 names-short t l = go (given t) (means t)
   where
-    go : (g : Given) → Means t g → length (pathText (elim g as (λ g. List Octets) [ malformed ↦ [] | absolute ns ↦ ns | relative ns ↦ [] | special e ↦ [] ])) ≤ longestPath
+    go : (g : Given) → Means t g
+        → length (pathText (elim g as (λ g. List Octets) [ malformed ↦ [] | absolute ns ↦ ns | relative ns ↦ [] | special e ↦ [] ])) ≤ longestPath
     go malformed m = lit≤ tt
     go (absolute ns) m = omega (arith, ap length (m .text))
     go (relative ns) m = lit≤ tt
@@ -63,7 +64,9 @@ names-all t = go (given t) (means t)
 
 read-short : (r : Octets) → length (pathText (changeIn r .names)) ≤ longestPath
 unfolding changeIn
-read-short r = names-short (textAt r changeFieldsSize longestPath (bitsAt (field r 0 changeFieldsSize) 0 9)) (text-short r changeFieldsSize longestPath (bitsAt (field r 0 changeFieldsSize) 0 9))
+read-short r =
+    let n = bitsAt (field r 0 changeFieldsSize) 0 9 in
+    names-short (textAt r changeFieldsSize longestPath n) (text-short r changeFieldsSize longestPath n)
 
 read-names : (r : Octets) → allNames (changeIn r .names) ≡ true
 unfolding changeIn
@@ -106,11 +109,14 @@ unfolding changeKept keptAt
 changes-next s at n h j l =
     let d = take (n * changeSize) (drop at s) in
     let whole : length d ≡ n * changeSize = length-take-le (n * changeSize) (drop at s) (rw length-drop (omega arith)) in
-    let row : take changeSize (drop (j * changeSize) d) ≡ take changeSize (drop (at + j * changeSize) s) = take-drop-take changeSize (j * changeSize) (n * changeSize) (drop at s) (omega arith) ∙ ap (take changeSize) (drop-drop (j * changeSize) at s) in
+    let row : take changeSize (drop (j * changeSize) d) ≡ take changeSize (drop (at + j * changeSize) s) =
+    take-drop-take changeSize (j * changeSize) (n * changeSize) (drop at s) (omega arith) ∙ ap (take changeSize) (drop-drop (j * changeSize) at s) in
     kept-next encode decode changeSize wide n d whole j l ∙ ap (λ (r : Octets). same (changeBytes (changeIn r)) r && changesRest n d (j + 1)) row
 
 pub changes-end : (s : Octets) (at n : ℕ) → at + n * changeSize ≤ length s → (j : ℕ) → n ≤ j → changesRest n (take (n * changeSize) (drop at s)) j ≡ true
-changes-end s at n h j l = kept-end encode decode changeSize wide n (take (n * changeSize) (drop at s)) (length-take-le (n * changeSize) (drop at s) (rw length-drop (omega arith))) j l
+changes-end s at n h j l =
+    kept-end encode decode changeSize wide n (take (n * changeSize) (drop at s))
+    (length-take-le (n * changeSize) (drop at s) (rw length-drop (omega arith))) j l
 
 -- ── the parts of a change ──
 
@@ -180,7 +186,9 @@ module _ (s : Octets) (at : ℕ) (bytes : Bytes s) (h : at + changeSize ≤ leng
   -- a change whose bytes are its own
   module _ (own : changeBytes c ≡ row) where
     twos : twoOf c ≡ getD s at 0 ∷ getD s (at + 1) 0 ∷ []
-    twos = sym (take-at (twoOf c) (padded longestPath (pathText (c .names))) changeFieldsSize refl) ∙ ap (take changeFieldsSize) (sym (change-parts c (read-short row)) ∙ own) ∙ first-two
+    twos =
+        sym (take-at (twoOf c) (padded longestPath (pathText (c .names))) changeFieldsSize refl)
+        ∙ ap (take changeFieldsSize) (sym (change-parts c (read-short row)) ∙ own) ∙ first-two
 
     record Said : Type 0 where
       zeros : number / 512 % 64 ≡ 0
@@ -202,7 +210,8 @@ module _ (s : Octets) (at : ℕ) (bytes : Bytes s) (h : at + changeSize ≤ leng
     unfolding textAt padded
     said-text =
         let p = pathText (c .names) in
-        let body : drop changeFieldsSize row ≡ p ++ replicate (longestPath - length p) 0 = ap (drop changeFieldsSize) (sym own ∙ change-parts c (read-short row)) ∙ drop-at (twoOf c) (padded longestPath p) changeFieldsSize refl in
+        let body : drop changeFieldsSize row ≡ p ++ replicate (longestPath - length p) 0 =
+        ap (drop changeFieldsSize) (sym own ∙ change-parts c (read-short row)) ∙ drop-at (twoOf c) (padded longestPath p) changeFieldsSize refl in
         ap₂ (λ (n : ℕ) (r : Octets). take n (take longestPath r)) (said .long) body
         ∙ take-take (length p) longestPath (p ++ replicate (longestPath - length p) 0) (read-short row)
         ∙ take-at p (replicate (longestPath - length p) 0) (length p) refl
@@ -220,10 +229,12 @@ module _ (s : Octets) (at : ℕ) (bytes : Bytes s) (h : at + changeSize ≤ leng
   pub change-over : longestPath < number % 512 → changeKept row ≡ false
   change-over l = not-kept λ own. omega (arith, said-long own)
 
-  pub change-unfull : number % 512 ≤ longestPath → isFull (take (at + changeFieldsSize + number % 512 - (at + changeFieldsSize)) (drop (at + changeFieldsSize) s)) ≡ false → changeKept row ≡ false
-  change-unfull l f = not-kept λ own. true≢false (sym (said-full own) ∙ ap isFull (sym (text-part s at changeSize changeFieldsSize longestPath (number % 512) l (lit≤ tt))) ∙ f)
+  pub change-unfull : number % 512 ≤ longestPath → isFull (partAt s (at + changeFieldsSize) (number % 512)) ≡ false → changeKept row ≡ false
+  change-unfull l f =
+      not-kept λ own.
+      true≢false (sym (said-full own) ∙ ap isFull (sym (text-part s at changeSize changeFieldsSize longestPath (number % 512) l (lit≤ tt))) ∙ f)
 
-  module _ (z : number / 512 % 64 ≡ 0) (l : number % 512 ≤ longestPath) (f : isFull (take (at + changeFieldsSize + number % 512 - (at + changeFieldsSize)) (drop (at + changeFieldsSize) s)) ≡ true) where
+  module _ (z : number / 512 % 64 ≡ 0) (l : number % 512 ≤ longestPath) (f : isFull (partAt s (at + changeFieldsSize) (number % 512)) ≡ true) where
     abbrev part : Octets
     part = take longestPath (drop (at + 2) s)
 
@@ -237,7 +248,8 @@ module _ (s : Octets) (at : ℕ) (bytes : Bytes s) (h : at + changeSize ≤ leng
         ∙ sym (take-take (number % 512) longestPath (drop (at + 2) s) l)
 
     path-is : pathText (c .names) ≡ text
-    path-is = ap pathText names-are ∙ sym (full text (ap isFull (sym (text-part s at changeSize changeFieldsSize longestPath (number % 512) l (lit≤ tt))) ∙ f) .text)
+    path-is = ap pathText names-are
+        ∙ sym (full text (ap isFull (sym (text-part s at changeSize changeFieldsSize longestPath (number % 512) l (lit≤ tt))) ∙ f) .text)
 
     path-long : length (pathText (c .names)) ≡ number % 512
     path-long = ap length (path-is ∙ text-is) ∙ length-take-le (number % 512) part (rw part-long l)
@@ -251,7 +263,9 @@ module _ (s : Octets) (at : ℕ) (bytes : Bytes s) (h : at + changeSize ≤ leng
         rw (removal-is, path-long, bit-of (x / 128) (omega arith), n .0, n .1) (sym first-two)
 
     row-is : row ≡ take changeFieldsSize row ++ part
-    row-is = take-add changeFieldsSize longestPath (drop at s) ∙ ap₂ _++_ (sym (take-take changeFieldsSize changeSize (drop at s) (lit≤ tt))) (ap (take longestPath) (drop-drop changeFieldsSize at s))
+    row-is =
+        take-add changeFieldsSize longestPath (drop at s)
+        ∙ ap₂ _++_ (sym (take-take changeFieldsSize changeSize (drop at s) (lit≤ tt))) (ap (take longestPath) (drop-drop changeFieldsSize at s))
 
     pub change-rest : changeKept row ≡ restZero s (at + 2) (number % 512) longestPath
     unfolding changeKept

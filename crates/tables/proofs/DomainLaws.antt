@@ -25,7 +25,8 @@ use Rattle.tables.specs.Good.{goodDomain}
 use Rattle.tables.proofs.Bytes.{agree, taken-cond, entry-cond}
 use Rattle.tables.proofs.Search.{free-none, taken-some, goods-next, swept}
 use Rattle.rules.proofs.Reencoding.{same-zeros}
-use Rattle.tables.proofs.Rows.{length-table, same-first, listed-from, keptFrom, kept-start, kept-next, kept-end, Writable, wrote, freed, left, dropped-kept}
+use Rattle.tables.proofs.Rows.{length-table, same-first, listed-from, keptFrom, kept-start, kept-next, kept-end}
+use Rattle.tables.proofs.Rows.{Writable, wrote, freed, left, dropped-kept}
 
 pub domain-wide : (m : Option Domain) → length (domainBytes m) ≡ domainSize
 unfolding domainBytes
@@ -59,7 +60,8 @@ module _ (s : Octets) (bytes : Bytes s) (whole : length s ≡ domainsSize) (k : 
       let b = bytes (at k + 1) in
       let d = bytes (at k + 2) in
       rw (place-is, taken-cond)
-      (agree (λ p. eq-eqb (bitsAt head 23 1) 1 (omega (arith, leb-true 128 (getD s (at k) 0) p, head-bytes))) (λ p. ne-eqb (bitsAt head 23 1) 1 (λ q. omega (arith, leb-false 128 (getD s (at k) 0) p, q, head-bytes))))
+      (agree (λ p. eq-eqb (bitsAt head 23 1) 1 (omega (arith, leb-true 128 (getD s (at k) 0) p, head-bytes)))
+      (λ p. ne-eqb (bitsAt head 23 1) 1 (λ q. omega (arith, leb-false 128 (getD s (at k) 0) p, q, head-bytes))))
 
   pub domain-bytes : taken (getD (domainsOf s) k none) ≡ true → getD s (at k + 1) 0 * 256 + getD s (at k + 2) 0 ≡ entryOr 0 (getD (domainsOf s) k none)
   unfolding bitsAt
@@ -171,7 +173,8 @@ module _ (x : Option Domain) (ds : Domains) where
 -- ── what a written place leaves ──
 
 module _ (s : Octets) (c : KeptDomains s) (k : ℕ) (h : k < mostDomains) where
-  pub put-domain : (d : ℕ) → d < 65536 → set (set (set s (at k) 128) (at k + 1) (d / 256 % 256)) (at k + 2) (d % 256) ≡ domainsBytes (set (domainsOf s) k (some d))
+  pub put-domain : (d : ℕ) → d < 65536
+      → set (set (set s (at k) 128) (at k + 1) (d / 256 % 256)) (at k + 2) (d % 256) ≡ domainsBytes (set (domainsOf s) k (some d))
   unfolding domainsOf domainsBytes
   put-domain d l =
       let whole = c .whole in

@@ -70,7 +70,9 @@ rows-long : (rs : List Octets) → length (flatMap changeBytes (map changeIn rs)
 unfolding flatMap
 rows-long [] = refl
 rows-long (r ∷ rs) =
-    length-append (changeBytes (changeIn r)) (flatMap changeBytes (map changeIn rs)) ∙ ap₂ _+_ (change-long r) (rows-long rs) ∙ (let e : changeSize + length rs * changeSize ≡ suc (length rs) * changeSize = omega arith in e)
+    length-append (changeBytes (changeIn r)) (flatMap changeBytes (map changeIn rs))
+    ∙ ap₂ _+_ (change-long r) (rows-long rs)
+    ∙ (let e : changeSize + length rs * changeSize ≡ suc (length rs) * changeSize = omega arith in e)
 
 first-forward : (b : ℕ) → 128 ≤ b → b < 256 → b / 16 % 4 ≡ 0 → 128 + 64 * bit (eqb (b / 64 % 2) 1) + b % 16 ≡ b
 first-forward b l h z = rw (bit-of (b / 64 % 2) (omega arith)) (omega arith)
@@ -87,6 +89,7 @@ marks-back : (b m n : ℕ) → b ≡ 128 + 64 * m + n → m < 2 → n ≤ mostCh
 marks-back b m n e hm hn = (omega arith, omega arith)
 
 module _ (s : Octets) (k : ℕ) (h : k < mostTransactions) (bytes : Bytes s) (whole : length s ≡ transactionsSize) where
+  -- where place k begins
   abbrev at : ℕ
   at = k * transactionSize
 
@@ -179,7 +182,8 @@ module _ (s : Octets) (k : ℕ) (h : k < mostTransactions) (bytes : Bytes s) (wh
       changes-are : x .changes ≡ map changeIn rows
       unfolding transactionAt rows
       changes-are =
-          rw (head-fields .1, body-is, chunks-take n mostChanges changeSize body l) (ap (map changeIn) (sym (chunks-front n changeSize body) ∙ ap (chunks n changeSize) front-is))
+          rw (head-fields .1, body-is, chunks-take n mostChanges changeSize body l)
+          (ap (map changeIn) (sym (chunks-front n changeSize body) ∙ ap (chunks n changeSize) front-is))
 
       few : length (x .changes) ≡ n
       unfolding rows
@@ -207,6 +211,7 @@ module _ (s : Octets) (k : ℕ) (h : k < mostTransactions) (bytes : Bytes s) (wh
           kept-is
           ∙ ap₂ same (x-parts ∙ ap (λ (cs : List Change). threeOf x ++ padded changesSize (flatMap changeBytes cs)) changes-are) place-body
           ∙ same-append (threeOf x) (padded changesSize all) (take changesAt (drop at s)) body (ap length three-is)
-          ∙ ap₂ _&&_ (eq-same three-is) (ap (same (padded changesSize all)) (sym (take-append-drop (n * changeSize) body) ∙ ap (λ (r : Octets). r ++ drop (n * changeSize) body) front-is))
+          ∙ ap₂ _&&_ (eq-same three-is)
+          (ap (same (padded changesSize all)) (sym (take-append-drop (n * changeSize) body) ∙ ap (λ (r : Octets). r ++ drop (n * changeSize) body) front-is))
           ∙ same-append all (replicate (changesSize - length all) 0) front (drop (n * changeSize) body) (e ∙ sym front-long)
           ∙ ap (λ (b : Bool). same all front && b) (same-zeros (changesSize - length all) (drop (n * changeSize) body) (rw (length-drop, bl, e)))

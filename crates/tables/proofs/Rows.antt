@@ -50,8 +50,12 @@ part-listed s p j (suc n) h =
 pub listed-from : (s : Octets) (p n : ℕ) → p + n ≤ length s → take n (drop p s) ≡ listed s p 0 n
 listed-from s p n h = ap (λ (q : ℕ). take n (drop q s)) (sym (add-zero p)) ∙ part-listed s p 0 n (rw add-zero h)
 
+-- n bytes from p on, as the code takes them
+abbrev pub partAt : Octets → ℕ → ℕ → Octets
+partAt s p n = take (p + n - p) (drop p s)
+
 -- a text of a place of `size` bytes, as the part of the table that the code returns
-pub text-part : (s : Octets) (p size j k n : ℕ) → n ≤ k → j + k ≤ size → take (p + j + n - (p + j)) (drop (p + j) s) ≡ textAt (take size (drop p s)) j k n
+pub text-part : (s : Octets) (p size j k n : ℕ) → n ≤ k → j + k ≤ size → partAt s (p + j) n ≡ textAt (take size (drop p s)) j k n
 unfolding textAt
 text-part s p size j k n hn hk =
     ap (λ (m : ℕ). take m (drop (p + j) s)) (add-sub-cancel-left (p + j) n)

@@ -72,6 +72,7 @@ unfolding transactionsOf transactionsBytes
 kept-transactions s c = c .same
 
 module _ (s : Octets) (c : KeptTransactions s) (k : ℕ) (h : k < mostTransactions) where
+  -- where place k begins
   abbrev at : ℕ
   at = k * transactionSize
 

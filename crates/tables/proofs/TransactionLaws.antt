@@ -43,10 +43,12 @@ three m n o hm hn ho =
 abbrev pub threeOf : Transaction → Octets
 threeOf x = threeBytes (bit (x .stale)) (length (x .changes)) (x .holder)
 
-pub transaction-parts : (x : Transaction) → x .holder < 65536 → length (x .changes) ≤ mostChanges → transactionBytes (some x) ≡ threeOf x ++ padded changesSize (flatMap changeBytes (x .changes))
+pub transaction-parts : (x : Transaction) → x .holder < 65536 → length (x .changes) ≤ mostChanges
+    → transactionBytes (some x) ≡ threeOf x ++ padded changesSize (flatMap changeBytes (x .changes))
 unfolding transactionBytes
 transaction-parts x ho hn =
-    ap (λ (a : Octets). a ++ padded changesSize (flatMap changeBytes (x .changes))) (three (bit (x .stale)) (length (x .changes)) (x .holder) (bit-small (x .stale)) (omega arith) ho)
+    ap (λ (a : Octets). a ++ padded changesSize (flatMap changeBytes (x .changes)))
+    (three (bit (x .stale)) (length (x .changes)) (x .holder) (bit-small (x .stale)) (omega arith) ho)
 
 pub read-fits : (r : Octets) (head : ℕ) → TransactionFits (transactionAt r head)
 unfolding transactionAt bitsAt
@@ -55,7 +57,8 @@ read-fits r head = let d = transaction-decoded r head in record { holder = mod-l
 pub transaction-wide : (r : Octets) → length (transactionBytes (transactionIn r)) ≡ transactionSize
 unfolding transactionIn
 transaction-wide r =
-    transaction-width _ (cond-case MaybeTransaction (eqb (bitsAt (field r 0 changesAt) 23 1) 1) (some (transactionAt r (field r 0 changesAt))) none (read-fits r (field r 0 changesAt)) tt)
+    let head = field r 0 changesAt in
+    transaction-width _ (cond-case MaybeTransaction (eqb (bitsAt head 23 1) 1) (some (transactionAt r head)) none (read-fits r head) tt)
 
 pub length-transactionsOf : (s : Octets) → length (transactionsOf s) ≡ mostTransactions
 unfolding transactionsOf
@@ -67,6 +70,7 @@ marks-back b m n e hm hn = (omega arith, omega arith)
 -- ── place k of a table ──
 
 module _ (s : Octets) (k : ℕ) (h : k < mostTransactions) where
+  -- where place k begins
   abbrev at : ℕ
   at = k * transactionSize
 

@@ -67,7 +67,8 @@ abbrev pub sixBytes : ℕ → ℕ → ℕ → ℕ → ℕ → ℕ → Octets
 sixBytes r g d o l t = (128 + 64 * r + 32 * g) ∷ d ∷ (o / 256 % 256) ∷ (o % 256) ∷ (l / 2 % 256) ∷ (l % 2 * 128 + t) ∷ []
 
 six : (r g d o l t : ℕ) → r < 2 → g < 2 → d < 256 → o < 65536 → l < 512 → t < 64
-    → bigEndian watchFieldsSize (pack (1 bits 1 ∷ 1 bits r ∷ 1 bits g ∷ 5 bits 0 ∷ 8 bits d ∷ 16 bits o ∷ 9 bits l ∷ 1 bits 0 ∷ 6 bits t ∷ [])) ≡ sixBytes r g d o l t
+    → bigEndian watchFieldsSize (pack (1 bits 1 ∷ 1 bits r ∷ 1 bits g ∷ 5 bits 0 ∷ 8 bits d ∷ 16 bits o ∷ 9 bits l ∷ 1 bits 0 ∷ 6 bits t ∷ []))
+    ≡ sixBytes r g d o l t
 unfolding bigEndian pack packFrom
 six r g d o l t hr hg hd ho hl ht =
     let n = pack (1 bits 1 ∷ 1 bits r ∷ 1 bits g ∷ 5 bits 0 ∷ 8 bits d ∷ 16 bits o ∷ 9 bits l ∷ 1 bits 0 ∷ 6 bits t ∷ []) in
@@ -111,18 +112,20 @@ DepthBelow m = entryOr 0 m < 256
 pub read-narrow : (r : Octets) (head : ℕ) → Narrow (watchAt r head)
 unfolding watchAt bitsAt entryOr
 read-narrow r head =
+    let text = textAt r watchFieldsSize longestPath (bitsAt head 7 9) in
     record {
       owner = mod-lt _ (lit< tt);
       depth = cond-case DepthBelow (eqb (bitsAt head 45 1) 1) (some (bitsAt head 32 8)) none (mod-lt _ (lit< tt)) (lit< tt);
-      path = omega (arith, place-short (eqb (bitsAt head 46 1) 1) (textAt r watchFieldsSize longestPath (bitsAt head 7 9)), text-short r watchFieldsSize longestPath (bitsAt head 7 9));
+      path = omega (arith, place-short (eqb (bitsAt head 46 1) 1) text, text-short r watchFieldsSize longestPath (bitsAt head 7 9));
       token = text-short r tokenAt longestToken (bitsAt head 0 6);
     }
 
 pub watch-wide : (r : Octets) → length (watchBytes (watchIn r)) ≡ watchSize
 unfolding watchIn watchBytes
 watch-wide r =
-    cond-case (λ (m : Option Watch). length (watchBytes m) ≡ watchSize) (eqb (bitsAt (field r 0 watchFieldsSize) 47 1) 1) (some (watchAt r (field r 0 watchFieldsSize))) none
-    (narrow-width _ (read-narrow r (field r 0 watchFieldsSize))) none-width
+    let head = field r 0 watchFieldsSize in
+    cond-case (λ (m : Option Watch). length (watchBytes m) ≡ watchSize) (eqb (bitsAt head 47 1) 1) (some (watchAt r head)) none
+    (narrow-width _ (read-narrow r head)) none-width
   where
     none-width : length (watchBytes none) ≡ watchSize
     none-width = length-replicate {A = ℕ} watchSize 0

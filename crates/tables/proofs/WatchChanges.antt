@@ -76,7 +76,8 @@ module _ (c : Connection) (x : Octets) (r : Bool) (d : Depth) (t : Octets) (f : 
   given-narrow = record { owner = f .owner; depth = below; path = rw (placed r x (f .placed) .text) (f .path); token = f .few }
 
   given-parts : (first depth : ℕ) → first ≡ 128 + 64 * bit r + 32 * bit (taken (depthMeant d)) → depth ≡ entryOr 0 (depthMeant d)
-      → watchBytes (some w) ≡ (first ∷ depth ∷ (c / 256 % 256) ∷ (c % 256) ∷ (length x / 2 % 256) ∷ (length x % 2 * 128 + length t) ∷ []) ++ (padded longestPath x ++ padded longestToken t)
+      → watchBytes (some w) ≡ (first ∷ depth ∷ (c / 256 % 256) ∷ (c % 256) ∷ (length x / 2 % 256) ∷ (length x % 2 * 128 + length t) ∷ [])
+      ++ (padded longestPath x ++ padded longestToken t)
   unfolding watchGiven
   given-parts first depth p q = watch-parts w given-narrow ∙ rw (placed r x (f .placed) .text, placed r x (f .placed) .mark, p, q)
 
@@ -89,6 +90,7 @@ unfolding watchBytes
 empty = record { width = length-replicate {A = ℕ} watchSize 0; back = watch-read none tt }
 
 module _ (s : Octets) (c : KeptWatches s) (k : ℕ) (h : k < mostWatches) where
+  -- where place k begins
   abbrev at : ℕ
   at = k * watchSize
 

@@ -28,7 +28,7 @@ use Rattle.tables.specs.WatchKept.{placeSame, depthSame, fieldsSame, res
 use Rattle.tables.proofs.Search.{free-none, taken-some}
 use Rattle.rules.proofs.Reencoding.{same-zeros, same-append}
 use Rattle.rules.proofs.Slots.{length-padded}
-use Rattle.tables.proofs.Rows.{same-padded, text-part, keptFrom, kept-start, kept-next, kept-end}
+use Rattle.tables.proofs.Rows.{same-padded, partAt, text-part, keptFrom, kept-start, kept-next, kept-end}
 use Rattle.tables.proofs.WatchBytes.{meantBy, place-given, empty-is, watch-wide, sixOf, watch-parts, read-narrow}
 use Rattle.tables.proofs.WatchLaws.{used-byte, is-read, OwnBytes, six-listed, path-within, path-text, relative-said, fields-said, lengths, marks, owner-is}
 
@@ -183,6 +183,7 @@ fields-few s k fs =
     leb-true _ _ (both-true (leb (tokenLength s k) longestToken) (depthSame s k) (b .1) .0)
 
 module _ (s : Octets) (k : ℕ) (h : k < mostWatches) (bytes : Bytes s) (whole : length s ≡ watchesSize) where
+  -- where place k begins
   abbrev at : ℕ
   at = k * watchSize
 
@@ -221,12 +222,13 @@ module _ (s : Octets) (k : ℕ) (h : k < mostWatches) (bytes : Bytes s) (whole :
     pub kept-long : longestPath < pathLength s k → kept ≡ false
     kept-long l = not-kept λ own. omega (arith, path-within s k h bytes whole own)
 
-    pub kept-unplaced : placeSame (eqb (getD s at 0 / 64 % 2) 1) (take (at + watchFieldsSize + pathLength s k - (at + watchFieldsSize)) (drop (at + watchFieldsSize) s)) ≡ false → kept ≡ false
+    pub kept-unplaced : placeSame (eqb (getD s at 0 / 64 % 2) 1) (partAt s (at + watchFieldsSize) (pathLength s k)) ≡ false → kept ≡ false
     unfolding placeSame watchAt pathLength
     kept-unplaced f =
         not-kept λ own.
         let l = path-within s k h bytes whole own in
-        let x : take (at + watchFieldsSize + pathLength s k - (at + watchFieldsSize)) (drop (at + watchFieldsSize) s) ≡ textAt row watchFieldsSize longestPath (pathLength s k) = text-part s at watchSize watchFieldsSize longestPath (pathLength s k) l (lit≤ tt) in
+        let x : partAt s (at + watchFieldsSize) (pathLength s k) ≡ textAt row watchFieldsSize longestPath (pathLength s k) =
+        text-part s at watchSize watchFieldsSize longestPath (pathLength s k) l (lit≤ tt) in
         let e = path-text s k h bytes whole own in
         let m = relative-said s k h bytes whole own in
         let r = marks s k h bytes whole .0 in
@@ -262,7 +264,7 @@ module _ (s : Octets) (k : ℕ) (h : k < mostWatches) (bytes : Bytes s) (whole :
         ∙ sym (take-take n size (drop (at + j) s) hn)
 
     module _ (l : pathLength s k ≤ longestPath)
-        (ps : placeSame (eqb (getD s at 0 / 64 % 2) 1) (take (at + watchFieldsSize + pathLength s k - (at + watchFieldsSize)) (drop (at + watchFieldsSize) s)) ≡ true)
+        (ps : placeSame (eqb (getD s at 0 / 64 % 2) 1) (partAt s (at + watchFieldsSize) (pathLength s k)) ≡ true)
         (fs : fieldsSame s k ≡ true) where
       placed : (placeText (v .place) ≡ textAt row watchFieldsSize longestPath (pathLength s k)) × (isRelative (v .place) ≡ eqb (getD s at 0 / 64 % 2) 1)
       unfolding placeSame watchAt pathLength
@@ -270,7 +272,9 @@ module _ (s : Octets) (k : ℕ) (h : k < mostWatches) (bytes : Bytes s) (whole :
           let r = eqb (bitsAt head 46 1) 1 in
           let x = textAt row watchFieldsSize longestPath (bitsAt head 7 9) in
           let m = marks s k h bytes whole .0 in
-          let both = both-true (same (placeText (placeIn r x)) x) (not r || isRelative (placeIn r x)) (rw (text-part s at watchSize watchFieldsSize longestPath (bitsAt head 7 9) l (lit≤ tt), m) at ps) in
+          let both =
+          both-true (same (placeText (placeIn r x)) x) (not r || isRelative (placeIn r x))
+          (rw (text-part s at watchSize watchFieldsSize longestPath (bitsAt head 7 9) l (lit≤ tt), m) at ps) in
           (same-eq (placeText (placeIn r x)) x (both .0), mark-of r x (both .1) ∙ ap (λ (n : ℕ). eqb n 1) (sym m))
 
       record Tests : Type 0 where
@@ -319,7 +323,8 @@ module _ (s : Octets) (k : ℕ) (h : k < mostWatches) (bytes : Bytes s) (whole :
           let o = pair-forward (getD s (at + 2) 0) (getD s (at + 3) 0) (bytes (at + 2)) (bytes (at + 3)) in
           let n = lengths-forward x y (bytes (at + 4)) (bytes (at + 5)) (tests .middle) in
           let ls = lengths s k h bytes whole in
-          rw (placed .1, depth-byte .0, depth-byte .1, path-long, token-long, first-forward (getD s at 0) u (bytes at) (tests .low), ← owner-is s k h bytes whole, o .0, o .1, ← ls .0, ← ls .1, n .0, n .1)
+          let f = first-forward (getD s at 0) u (bytes at) (tests .low) in
+          rw (placed .1, depth-byte .0, depth-byte .1, path-long, token-long, f, ← owner-is s k h bytes whole, o .0, o .1, ← ls .0, ← ls .1, n .0, n .1)
           (sym (six-listed s at (omega arith)))
 
       pub kept-rests : kept ≡ (restZero s (at + watchFieldsSize) (pathLength s k) longestPath && restZero s (at + tokenAt) (tokenLength s k) longestToken)
@@ -332,5 +337,8 @@ module _ (s : Octets) (k : ℕ) (h : k < mostWatches) (bytes : Bytes s) (whole :
           kept-is
           ∙ ap₂ same (watch-parts v n) row-parts
           ∙ same-append (sixOf v) _ (take watchFieldsSize (drop at s)) (pathPart ++ tokenPart) (ap length six-is)
-          ∙ ap₂ _&&_ (eq-same six-is) (same-append (padded longestPath (placeText (v .place))) (padded longestToken (v .token)) pathPart tokenPart (length-padded longestPath _ (n .path) ∙ sym pl))
-          ∙ ap₂ _&&_ (ap (λ (z : Octets). same (padded longestPath z) pathPart) path-is ∙ (rw pl at a)) (ap (λ (z : Octets). same (padded longestToken z) tokenPart) token-is ∙ (rw tl at b))
+          ∙ ap₂ _&&_ (eq-same six-is)
+          (same-append (padded longestPath (placeText (v .place))) (padded longestToken (v .token)) pathPart tokenPart
+          (length-padded longestPath _ (n .path) ∙ sym pl))
+          ∙ ap₂ _&&_ (ap (λ (z : Octets). same (padded longestPath z) pathPart) path-is ∙ (rw pl at a))
+          (ap (λ (z : Octets). same (padded longestToken z) tokenPart) token-is ∙ (rw tl at b))

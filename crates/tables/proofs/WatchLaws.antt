@@ -27,7 +27,7 @@ use Rattle.tables.specs.Watch.{nobody, ownedBy, watchOf, pathLength, tok
 use Rattle.tables.specs.WatchKept.{depthSame, fieldsSame}
 use Rattle.tables.proofs.Bytes.{agree, taken-cond, entry-cond}
 use Rattle.tables.proofs.Search.{taken-some}
-use Rattle.tables.proofs.Rows.{listed-from, text-part, place-bytes}
+use Rattle.tables.proofs.Rows.{listed-from, partAt, text-part, place-bytes}
 use Rattle.tables.proofs.WatchBytes.{place-short, place-whole, marks-back, lengths-back}
 use Rattle.tables.proofs.WatchBytes.{sixOf, watch-parts, read-narrow, watch-wide}
 
@@ -38,6 +38,7 @@ pub six-listed : (s : Octets) (p : ℕ) → p + watchFieldsSize ≤ length s
 six-listed s p h = listed-from s p watchFieldsSize (omega arith) ∙ rw add-zero
 
 module _ (s : Octets) (k : ℕ) (h : k < mostWatches) where
+  -- where place k begins
   abbrev at : ℕ
   at = k * watchSize
 
@@ -63,7 +64,8 @@ module _ (s : Octets) (k : ℕ) (h : k < mostWatches) where
       fourth : getD s (at + 3) 0 < 256
       fifth : getD s (at + 4) 0 < 256
       sixth : getD s (at + 5) 0 < 256
-      sum : head ≡ ((getD s at 0 * 256 + getD s (at + 1) 0) * 256 + getD s (at + 2) 0) * 16777216 + ((getD s (at + 3) 0 * 256 + getD s (at + 4) 0) * 256 + getD s (at + 5) 0)
+      sum : head ≡ ((getD s at 0 * 256 + getD s (at + 1) 0) * 256 + getD s (at + 2) 0) * 16777216
+          + ((getD s (at + 3) 0 * 256 + getD s (at + 4) 0) * 256 + getD s (at + 5) 0)
 
     head-bytes : HeadBytes
     head-bytes =
@@ -99,7 +101,8 @@ module _ (s : Octets) (k : ℕ) (h : k < mostWatches) where
         let v = rw e at (w .value) in
         omega (arith, head-bytes)
 
-    pub lengths : ((getD s (at + 4) 0 * 256 + getD s (at + 5) 0) / 128 ≡ pathLength s k) × ((getD s (at + 4) 0 * 256 + getD s (at + 5) 0) % 64 ≡ tokenLength s k)
+    pub lengths : ((getD s (at + 4) 0 * 256 + getD s (at + 5) 0) / 128 ≡ pathLength s k)
+        × ((getD s (at + 4) 0 * 256 + getD s (at + 5) 0) % 64 ≡ tokenLength s k)
     unfolding bitsAt pathLength tokenLength
     lengths = let f = head-bytes in (omega arith, omega arith)
 
@@ -166,7 +169,9 @@ module _ (s : Octets) (k : ℕ) (h : k < mostWatches) where
 
     pub fields-said : fieldsSame s k ≡ true
     unfolding fieldsSame depthSame taken entryOr
-    fields-said = rw (said .zeros .0, said .zeros .1, le-leb (tokenLength s k) longestToken (rw (said .token) (read-narrow row head .token))) (go (v .depth) (said .given) (said .depth))
+    fields-said =
+        rw (said .zeros .0, said .zeros .1, le-leb (tokenLength s k) longestToken (rw (said .token) (read-narrow row head .token)))
+        (go (v .depth) (said .given) (said .depth))
       where
         go : (m : Option ℕ) → getD s at 0 / 32 % 2 ≡ bit (taken m) → getD s (at + 1) 0 ≡ entryOr 0 m
             → (eqb (getD s at 0 / 32 % 2) 1 || eqb (getD s (at + 1) 0) 0) ≡ true
@@ -208,10 +213,12 @@ module _ (s : Octets) (k : ℕ) (h : k < mostWatches) where
     unfolding watchAt pathLength
     place-again = rw (is-read u, ← relative-said bytes (c .whole) own, path-text bytes (c .whole) own)
 
-    pub path-part : take (at + watchFieldsSize + pathLength s k - (at + watchFieldsSize)) (drop (at + watchFieldsSize) s) ≡ placeText (watchOf s k .place)
-    path-part = text-part s at watchSize watchFieldsSize longestPath (pathLength s k) path-length-within (lit≤ tt) ∙ sym (rw (is-read u) (path-text bytes (c .whole) own))
+    pub path-part : partAt s (at + watchFieldsSize) (pathLength s k) ≡ placeText (watchOf s k .place)
+    path-part =
+        text-part s at watchSize watchFieldsSize longestPath (pathLength s k) path-length-within (lit≤ tt)
+        ∙ sym (rw (is-read u) (path-text bytes (c .whole) own))
 
-    pub token-part : take (at + tokenAt + tokenLength s k - (at + tokenAt)) (drop (at + tokenAt) s) ≡ watchOf s k .token
+    pub token-part : partAt s (at + tokenAt) (tokenLength s k) ≡ watchOf s k .token
     unfolding watchAt tokenLength
     token-part = text-part s at watchSize tokenAt longestToken (tokenLength s k) token-length-within (lit≤ tt) ∙ sym (ap Watch.token (is-read u))
 

@@ -45,7 +45,9 @@ returns c =
     let b = c .before .before .before .before .before .before .before .before .before in
     let at = b .args .k * transactionSize in
     let e = c .before .before .put-change .ensures in
-    ap (λ (l : Octets). set l at (getD (b .args .s .now) at 0 + 1)) (e ∙ ap (λ (n : ℕ). paste (at + changesAt + n * changeSize) (changeBytes (changeGiven (b .args .removed) (b .args .path .now))) (b .args .s .now)) (c .before .before .before .before .changes .ensures .0))
+    ap (λ (l : Octets). set l at (getD (b .args .s .now) at 0 + 1))
+    (e ∙ ap (λ (n : ℕ). paste (at + changesAt + n * changeSize) (changeBytes (changeGiven (b .args .removed) (b .args .path .now))) (b .args .s .now))
+    (c .before .before .before .before .changes .ensures .0))
     ∙ put-changed (b .args .s .now) (b .args .k) (b .args .path .now) (b .pre) (b .args .removed)
 
 pub add-change-spec : {M : Type 1} → statement M

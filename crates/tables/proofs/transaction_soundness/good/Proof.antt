@@ -13,7 +13,8 @@ use Rattle.tables.proofs.transaction_soundness.good.Statement.{statemen
 use Rattle.tables.proofs.transaction_soundness.good.Tie as tie
 
 abbrev Inv-loop : tie.InvT-loop
-Inv-loop s domains i₀ i = (i ≤ mostTransactions) × (allOpenGood (domainsOf domains) (transactionsOf s) ≡ allOpenGood (domainsOf domains) (drop i (transactionsOf s)))
+Inv-loop s domains i₀ i =
+    (i ≤ mostTransactions) × (allOpenGood (domainsOf domains) (transactionsOf s) ≡ allOpenGood (domainsOf domains) (drop i (transactionsOf s)))
 
 abbrev μ-loop : tie.MeasureT-loop
 μ-loop s domains i₀ i = mostTransactions - i
