@@ -9,7 +9,7 @@ use native.Mathlib.Omega.{arith}
 use lib.ListN.{length, getD, set, take, drop, length-append, length-drop}
 use lib.Seq.{length-take-le}
 use lib.Dec.{lit≤}
-use Rattle.rules.specs.Size.{mostTransactions, transactionSize}
+use Rattle.rules.specs.Size.{mostTransactions, changesAt, transactionSize, mostChanges, changeSize, changesSize, longestPath}
 use Rattle.rules.specs.Octets.{Octets, padded, paste, bit}
 use Rattle.rules.specs.Path.{pathText, namesIn, isFull}
 use Rattle.rules.specs.Layout.{Transaction, changeBytes, transactionBytes, transactionIn, transactionsBytes, transactionsOf}
@@ -28,11 +28,12 @@ use Rattle.tables.proofs.ChangeLaws.{change-parts, change-wide}
 
 -- ── the change's own bytes ──
 
-given-fits : (r : Bool) (p : Octets) → isFull p ≡ true → length p ≤ 264 → ChangeFits (changeGiven r p)
+given-fits : (r : Bool) (p : Octets) → isFull p ≡ true → length p ≤ longestPath → ChangeFits (changeGiven r p)
 unfolding changeGiven
 given-fits r p f h = record { names = full p f .names; short = rw (← full p f .text) h }
 
-given-parts : (r : Bool) (p : Octets) → isFull p ≡ true → length p ≤ 264 → changeBytes (changeGiven r p) ≡ ((128 * bit r + length p / 256) ∷ (length p % 256) ∷ []) ++ padded 264 p
+given-parts : (r : Bool) (p : Octets) → isFull p ≡ true → length p ≤ longestPath
+    → changeBytes (changeGiven r p) ≡ ((128 * bit r + length p / 256) ∷ (length p % 256) ∷ []) ++ padded longestPath p
 unfolding changeGiven
 given-parts r p f h =
     let e : pathText (namesIn p) ≡ p = sym (full p f .text) in
@@ -43,11 +44,11 @@ mark-small true = lit≤ tt
 mark-small false = lit≤ tt
 
 -- two stores, after the text was put in
-pub put-two : (s : Octets) (at : ℕ) (r : Bool) (p : Octets) → at + 266 ≤ length s → isFull p ≡ true → length p ≤ 264 → (m : ℕ) → m ≡ 128 * bit r
-    → set (set (paste (at + 2) (padded 264 p) s) at (m + length p / 256 % 2)) (at + 1) (length p % 256) ≡ paste at (changeBytes (changeGiven r p)) s
+pub put-two : (s : Octets) (at : ℕ) (r : Bool) (p : Octets) → at + changeSize ≤ length s → isFull p ≡ true → length p ≤ longestPath → (m : ℕ) → m ≡ 128 * bit r
+    → set (set (paste (at + 2) (padded longestPath p) s) at (m + length p / 256 % 2)) (at + 1) (length p % 256) ≡ paste at (changeBytes (changeGiven r p)) s
 put-two s at r p h f hp m e =
-    let text = padded 264 p in
-    let lt : length text ≡ 264 = length-padded 264 p hp in
+    let text = padded longestPath p in
+    let lt : length text ≡ longestPath = length-padded longestPath p hp in
     let x = paste (at + 2) text s in
     let l : length x ≡ length s = length-paste (at + 2) text s (rw lt (omega arith)) in
     let one : at + 1 ≡ suc at = omega arith in
@@ -58,7 +59,8 @@ put-two s at r p h f hp m e =
 
 -- ── the transaction's bytes ──
 
-module _ (x : Transaction) (f : TransactionFits x) (few : length (x .changes) < 8) (r : Bool) (p : Octets) (full : isFull p ≡ true) (short : length p ≤ 264) where
+module _ (x : Transaction) (f : TransactionFits x) (few : length (x .changes) < mostChanges)
+    (r : Bool) (p : Octets) (full : isFull p ≡ true) (short : length p ≤ longestPath) where
   longer : length (x .changes ++ changeGiven r p ∷ []) ≡ length (x .changes) + 1
   longer = length-append (x .changes) (changeGiven r p ∷ [])
 
@@ -71,68 +73,76 @@ module _ (x : Transaction) (f : TransactionFits x) (few : length (x .changes) < 
         changes = each-append ChangeFits (x .changes) (changeGiven r p ∷ []) (f .changes) (given-fits r p full short, tt);
       }
 
-  rows-long : length (flatMap changeBytes (x .changes)) ≡ length (x .changes) * 266
-  rows-long = length-encoded changeBytes 266 (x .changes) (each-map ChangeFits _ change-wide (x .changes) (f .changes))
+  rows-long : length (flatMap changeBytes (x .changes)) ≡ length (x .changes) * changeSize
+  rows-long = length-encoded changeBytes changeSize (x .changes) (each-map ChangeFits _ change-wide (x .changes) (f .changes))
 
   changed-bytes : (b : ℕ) → b ≡ 128 + 64 * bit (x .stale) + length (x .changes) + 1
-      → paste 0 (b ∷ []) (paste (3 + length (x .changes) * 266) (changeBytes (changeGiven r p)) (threeOf x ++ padded 2128 (flatMap changeBytes (x .changes))))
+      → paste 0 (b ∷ [])
+      (paste (changesAt + length (x .changes) * changeSize) (changeBytes (changeGiven r p))
+      (threeOf x ++ padded changesSize (flatMap changeBytes (x .changes))))
       ≡ transactionBytes (some (changedBy x r p))
   unfolding changedBy paste
   changed-bytes b e =
       let rows = flatMap changeBytes (x .changes) in
       let c = changeBytes (changeGiven r p) in
-      let wide : length c ≡ 266 = change-wide (changeGiven r p) (given-fits r p full short) in
+      let wide : length c ≡ changeSize = change-wide (changeGiven r p) (given-fits r p full short) in
       let rl = rows-long in
       let n : b ≡ 128 + 64 * bit (x .stale) + length (x .changes ++ changeGiven r p ∷ []) = rw longer (omega arith) in
-      let more = padded-more 2128 rows c (rw (rl, wide) (omega arith)) in
-      ap (paste 0 (b ∷ [])) (paste-past (threeOf x) (padded 2128 rows) c (length (x .changes) * 266))
-      ∙ first-set b (128 + 64 * bit (x .stale) + length (x .changes)) _ _ (paste (length (x .changes) * 266) c (padded 2128 rows))
-      ∙ ap₂ (λ (m : ℕ) (t : Octets). m ∷ (x .holder / 256 % 256) ∷ (x .holder % 256) ∷ t) n (sym (rw rl at more) ∙ ap (padded 2128) (sym (flat-last changeBytes (x .changes) (changeGiven r p))))
+      let more = padded-more changesSize rows c (rw (rl, wide) (omega arith)) in
+      ap (paste 0 (b ∷ [])) (paste-past (threeOf x) (padded changesSize rows) c (length (x .changes) * changeSize))
+      ∙ first-set b (128 + 64 * bit (x .stale) + length (x .changes)) _ _ (paste (length (x .changes) * changeSize) c (padded changesSize rows))
+      ∙ ap₂ (λ (m : ℕ) (t : Octets). m ∷ (x .holder / 256 % 256) ∷ (x .holder % 256) ∷ t) n
+      (sym (rw rl at more) ∙ ap (padded changesSize) (sym (flat-last changeBytes (x .changes) (changeGiven r p))))
       ∙ sym (transaction-parts (changedBy x r p) (f .holder) (changed-fits .few))
     where
       first-set : (b u v w : ℕ) (t : Octets) → paste 0 (b ∷ []) (u ∷ v ∷ w ∷ t) ≡ b ∷ v ∷ w ∷ t
       first-set b u v w t = refl
 
 module _ (s : Octets) (k : ℕ) (p : Octets) (room : Room s k p) (r : Bool) where
+  -- where place k begins
+  abbrev at : ℕ
+  at = k * transactionSize
+
   abbrev x : Transaction
   x = transactionOf s k
 
   fits : TransactionFits x
   fits = open-fits s k (room .place .below) (room .place .used)
 
-  pub room-within : k * 2131 + 3 + length (x .changes) * 266 + 266 ≤ length s
+  pub room-within : at + changesAt + length (x .changes) * changeSize + changeSize ≤ length s
   room-within = omega (arith, room .place .below, room .place .kept .whole, room .few)
 
-  pub first-small : getD s (k * 2131) 0 + 1 < 256
+  pub first-small : getD s at 0 + 1 < 256
   first-small = omega (arith, first-is s k (room .place .below) (room .place .kept) (room .place .used), room .few, bit-small (x .stale))
 
-  pub put-changed : set (paste (k * 2131 + 3 + length (x .changes) * 266) (changeBytes (changeGiven r p)) s) (k * 2131) (getD s (k * 2131) 0 + 1)
+  pub put-changed : set (paste (at + changesAt + length (x .changes) * changeSize) (changeBytes (changeGiven r p)) s) at (getD s at 0 + 1)
       ≡ transactionsBytes (set (transactionsOf s) k (some (changedBy x r p)))
   unfolding transactionsOf transactionsBytes
   put-changed =
-      let at = k * 2131 in
       let b = getD s at 0 + 1 in
       let c = changeBytes (changeGiven r p) in
-      let row = take 2131 (drop at s) in
-      let off = 3 + length (x .changes) * 266 in
+      let row = take transactionSize (drop at s) in
+      let off = changesAt + length (x .changes) * changeSize in
       let within = room-within in
-      let wide : length c ≡ 266 = change-wide (changeGiven r p) (given-fits r p (room .full) (room .short)) in
+      let wide : length c ≡ changeSize = change-wide (changeGiven r p) (given-fits r p (room .full) (room .short)) in
       let few = room .few in
-      let lr : length row ≡ 2131 = length-take-le 2131 (drop at s) (rw length-drop (omega (arith, room .place .kept .whole, room .place .below))) in
+      let lr : length row ≡ transactionSize =
+      length-take-le transactionSize (drop at s) (rw length-drop (omega (arith, room .place .kept .whole, room .place .below))) in
       let R = paste off c row in
-      let lR : length R ≡ 2131 = length-paste off c row (rw (lr, wide) (omega arith)) ∙ lr in
+      let lR : length R ≡ transactionSize = length-paste off c row (rw (lr, wide) (omega arith)) ∙ lr in
       let t = paste at R s in
       let lt : length t ≡ length s = length-paste at R s (rw lR (omega (arith, room .place .kept .whole, room .place .below))) in
-      let inner : paste (at + 3 + length (x .changes) * 266) c s ≡ t =
-      ap (λ (n : ℕ). paste n c s) (add-assoc at 3 (length (x .changes) * 266)) ∙ sym (paste-row s at 2131 off c (omega (arith, room .place .kept .whole, room .place .below)) (rw wide (omega arith))) in
+      let inner : paste (at + changesAt + length (x .changes) * changeSize) c s ≡ t =
+      ap (λ (n : ℕ). paste n c s) (add-assoc at changesAt (length (x .changes) * changeSize))
+      ∙ sym (paste-row s at transactionSize off c (omega (arith, room .place .kept .whole, room .place .below)) (rw wide (omega arith))) in
       let e = ap (λ (n : ℕ). n + 1) (first-is s k (room .place .below) (room .place .kept) (room .place .used)) in
       let bytes : paste 0 (b ∷ []) R ≡ transactionBytes (some (changedBy x r p)) =
       ap (λ (q : Octets). paste 0 (b ∷ []) (paste off c q)) (row-parts s k (room .place .below) (room .place .kept) (room .place .used)) ∙ changed-bytes x fits few r p (room .full) (room .short) b e in
       ap (λ (l : Octets). set l at b) inner
       ∙ set-paste t at b (rw lt (omega arith))
       ∙ ap (λ (n : ℕ). paste n (b ∷ []) t) (sym (add-zero at))
-      ∙ sym (paste-row t at 2131 0 (b ∷ []) (rw lt (omega (arith, room .place .kept .whole, room .place .below))) (lit≤ tt))
-      ∙ ap (λ (q : Octets). paste at (paste 0 (b ∷ []) q) t) (row-pasted s at 2131 R (omega arith) lR)
+      ∙ sym (paste-row t at transactionSize 0 (b ∷ []) (rw lt (omega (arith, room .place .kept .whole, room .place .below))) (lit≤ tt))
+      ∙ ap (λ (q : Octets). paste at (paste 0 (b ∷ []) q) t) (row-pasted s at transactionSize R (omega arith) lR)
       ∙ paste-twice s at R (paste 0 (b ∷ []) R) (omega arith) (length-paste 0 (b ∷ []) R (rw lR (lit≤ tt)))
       ∙ ap (λ (q : Octets). paste at q s) bytes
       ∙ sym (wrote transactionBytes transactionIn transactionSize transaction-wide mostTransactions s (room .place .kept) k (some (changedBy x r p)) (room .place .below) (transaction-width (some (changedBy x r p)) (changed-fits x fits few r p (room .full) (room .short))))

@@ -9,6 +9,7 @@ use native.Mathlib.Omega.{arith}
 use lib.ListN.{length, getD, take, drop, replicate, length-append, length-drop}
 use lib.Seq.{take-add, take-take, take-at, drop-at, drop-drop, length-take-le}
 use lib.Dec.{eqb, lit≤, lit<}
+use Rattle.rules.specs.Size.{changeFieldsSize, changeSize, longestPath}
 use Rattle.rules.specs.Octets.{Octets, same, padded, chunks, field, bitsAt, bit}
 use Rattle.rules.specs.Path.{Given, malformed, absolute, relative, special, given, namesIn, allNames, isFull, pathText}
 use Rattle.rules.specs.Answer.{Change}
@@ -23,7 +24,7 @@ use Rattle.tables.specs.Two.{Bytes}
 use Rattle.tables.specs.Kept.{keptAt}
 use Rattle.tables.specs.WatchKept.{restZero}
 use Rattle.tables.specs.Entries.{changeKept, changesKept}
-use Rattle.tables.proofs.Rows.{same-padded, part-listed, text-part, keptFrom, kept-start, kept-next, kept-end}
+use Rattle.tables.proofs.Rows.{same-padded, partAt, listed-from, text-part, keptFrom, kept-start, kept-next, kept-end}
 use Rattle.tables.proofs.WatchKept.{bit-of}
 use Rattle.tables.proofs.ChangeLaws.{twoOf, change-parts}
 
@@ -40,11 +41,12 @@ pub full-by : (t : Octets) (g : Given) → given t ≡ g → isFull t ≡ fullBy
 unfolding isFull
 full-by t g e = ap fullBy e
 
-names-short : (t : Octets) → length t ≤ 264 → length (pathText (namesIn t)) ≤ 264
+names-short : (t : Octets) → length t ≤ longestPath → length (pathText (namesIn t)) ≤ longestPath
 unfolding namesIn pathText
 names-short t l = go (given t) (means t)
   where
-    go : (g : Given) → Means t g → length (pathText (elim g as (λ g. List Octets) [ malformed ↦ [] | absolute ns ↦ ns | relative ns ↦ [] | special e ↦ [] ])) ≤ 264
+    go : (g : Given) → Means t g
+        → length (pathText (elim g as (λ g. List Octets) [ malformed ↦ [] | absolute ns ↦ ns | relative ns ↦ [] | special e ↦ [] ])) ≤ longestPath
     go malformed m = lit≤ tt
     go (absolute ns) m = omega (arith, ap length (m .text))
     go (relative ns) m = lit≤ tt
@@ -60,19 +62,21 @@ names-all t = go (given t) (means t)
     go (relative ns) m = refl
     go (special e) m = refl
 
-read-short : (r : Octets) → length (pathText (changeIn r .names)) ≤ 264
+read-short : (r : Octets) → length (pathText (changeIn r .names)) ≤ longestPath
 unfolding changeIn
-read-short r = names-short (textAt r 2 264 (bitsAt (field r 0 2) 0 9)) (text-short r 2 264 (bitsAt (field r 0 2) 0 9))
+read-short r =
+    let n = bitsAt (field r 0 changeFieldsSize) 0 9 in
+    names-short (textAt r changeFieldsSize longestPath n) (text-short r changeFieldsSize longestPath n)
 
 read-names : (r : Octets) → allNames (changeIn r .names) ≡ true
 unfolding changeIn
-read-names r = names-all (textAt r 2 264 (bitsAt (field r 0 2) 0 9))
+read-names r = names-all (textAt r changeFieldsSize longestPath (bitsAt (field r 0 changeFieldsSize) 0 9))
 
-pub change-long : (r : Octets) → length (changeBytes (changeIn r)) ≡ 266
+pub change-long : (r : Octets) → length (changeBytes (changeIn r)) ≡ changeSize
 change-long r =
     ap length (change-parts (changeIn r) (read-short r))
-    ∙ length-append (twoOf (changeIn r)) (padded 264 (pathText (changeIn r .names)))
-    ∙ ap (λ (n : ℕ). 2 + n) (length-padded 264 (pathText (changeIn r .names)) (read-short r))
+    ∙ length-append (twoOf (changeIn r)) (padded longestPath (pathText (changeIn r .names)))
+    ∙ ap (λ (n : ℕ). changeFieldsSize + n) (length-padded longestPath (pathText (changeIn r .names)) (read-short r))
 
 -- ── n changes ──
 
@@ -83,7 +87,7 @@ encode (some c) = changeBytes c
 abbrev pub decode : Octets → Option Change
 decode r = some (changeIn r)
 
-pub wide : (r : Octets) → length (encode (decode r)) ≡ 266
+pub wide : (r : Octets) → length (encode (decode r)) ≡ changeSize
 wide r = change-long r
 
 wrapped : (rs : List Octets) → flatMap encode (map decode rs) ≡ flatMap changeBytes (map changeIn rs)
@@ -92,33 +96,36 @@ wrapped [] = refl
 wrapped (r ∷ rs) = ap (λ (t : Octets). changeBytes (changeIn r) ++ t) (wrapped rs)
 
 abbrev pub changesRest : ℕ → Octets → ℕ → Bool
-changesRest n d j = keptFrom encode decode 266 wide n d j
+changesRest n d j = keptFrom encode decode changeSize wide n d j
 
 pub changes-start : (n : ℕ) (d : Octets) → changesKept n d ≡ changesRest n d 0
 unfolding changesKept
-changes-start n d = ap (λ (t : Octets). same t d) (sym (wrapped (chunks n 266 d))) ∙ kept-start encode decode 266 wide n d
+changes-start n d = ap (λ (t : Octets). same t d) (sym (wrapped (chunks n changeSize d))) ∙ kept-start encode decode changeSize wide n d
 
 -- change j of those from `at` on
-pub changes-next : (s : Octets) (at n : ℕ) → at + n * 266 ≤ length s → (j : ℕ) → j < n
-    → let d = take (n * 266) (drop at s) in changesRest n d j ≡ (changeKept (take 266 (drop (at + j * 266) s)) && changesRest n d (j + 1))
+pub changes-next : (s : Octets) (at n : ℕ) → at + n * changeSize ≤ length s → (j : ℕ) → j < n
+    → let d = take (n * changeSize) (drop at s) in changesRest n d j ≡ (changeKept (take changeSize (drop (at + j * changeSize) s)) && changesRest n d (j + 1))
 unfolding changeKept keptAt
 changes-next s at n h j l =
-    let d = take (n * 266) (drop at s) in
-    let whole : length d ≡ n * 266 = length-take-le (n * 266) (drop at s) (rw length-drop (omega arith)) in
-    let row : take 266 (drop (j * 266) d) ≡ take 266 (drop (at + j * 266) s) = take-drop-take 266 (j * 266) (n * 266) (drop at s) (omega arith) ∙ ap (take 266) (drop-drop (j * 266) at s) in
-    kept-next encode decode 266 wide n d whole j l ∙ ap (λ (r : Octets). same (changeBytes (changeIn r)) r && changesRest n d (j + 1)) row
+    let d = take (n * changeSize) (drop at s) in
+    let whole : length d ≡ n * changeSize = length-take-le (n * changeSize) (drop at s) (rw length-drop (omega arith)) in
+    let row : take changeSize (drop (j * changeSize) d) ≡ take changeSize (drop (at + j * changeSize) s) =
+    take-drop-take changeSize (j * changeSize) (n * changeSize) (drop at s) (omega arith) ∙ ap (take changeSize) (drop-drop (j * changeSize) at s) in
+    kept-next encode decode changeSize wide n d whole j l ∙ ap (λ (r : Octets). same (changeBytes (changeIn r)) r && changesRest n d (j + 1)) row
 
-pub changes-end : (s : Octets) (at n : ℕ) → at + n * 266 ≤ length s → (j : ℕ) → n ≤ j → changesRest n (take (n * 266) (drop at s)) j ≡ true
-changes-end s at n h j l = kept-end encode decode 266 wide n (take (n * 266) (drop at s)) (length-take-le (n * 266) (drop at s) (rw length-drop (omega arith))) j l
+pub changes-end : (s : Octets) (at n : ℕ) → at + n * changeSize ≤ length s → (j : ℕ) → n ≤ j → changesRest n (take (n * changeSize) (drop at s)) j ≡ true
+changes-end s at n h j l =
+    kept-end encode decode changeSize wide n (take (n * changeSize) (drop at s))
+    (length-take-le (n * changeSize) (drop at s) (rw length-drop (omega arith))) j l
 
 -- ── the parts of a change ──
 
-number-said : (x y r l : ℕ) → 128 * r + l / 256 ≡ x → l % 256 ≡ y → r < 2 → l ≤ 264 → ((x * 256 + y) / 512 % 64 ≡ 0) × ((x * 256 + y) % 512 ≡ l)
+number-said : (x y r l : ℕ) → 128 * r + l / 256 ≡ x → l % 256 ≡ y → r < 2 → l ≤ longestPath → ((x * 256 + y) / 512 % 64 ≡ 0) × ((x * 256 + y) % 512 ≡ l)
 number-said x y r l hx hy hr hl =
     let n : x * 256 + y ≡ r * 32768 + l = omega (arith, div-add-mod' l 256) in
     number-parts _ r l n hr hl
   where
-    number-parts : (n r l : ℕ) → n ≡ r * 32768 + l → r < 2 → l ≤ 264 → (n / 512 % 64 ≡ 0) × (n % 512 ≡ l)
+    number-parts : (n r l : ℕ) → n ≡ r * 32768 + l → r < 2 → l ≤ longestPath → (n / 512 % 64 ≡ 0) × (n % 512 ≡ l)
     number-parts n r l e hr hl = (omega arith, omega arith)
 
 quotient : (x q r : ℕ) → x ≡ 128 * q + r → r < 2 → x / 128 ≡ q
@@ -141,9 +148,9 @@ two-forward x y hx hy z =
     let g : 128 * (x / 128) + x % 2 ≡ x = even-forward x b in
     (ap (λ (n : ℕ). 128 * (x / 128) + n / 256) a ∙ ap (λ (n : ℕ). 128 * (x / 128) + n) d ∙ g, ap (λ (n : ℕ). n % 256) a ∙ e)
 
-module _ (s : Octets) (at : ℕ) (bytes : Bytes s) (h : at + 266 ≤ length s) where
+module _ (s : Octets) (at : ℕ) (bytes : Bytes s) (h : at + changeSize ≤ length s) where
   abbrev row : Octets
-  row = take 266 (drop at s)
+  row = take changeSize (drop at s)
 
   abbrev c : Change
   c = changeIn row
@@ -151,10 +158,10 @@ module _ (s : Octets) (at : ℕ) (bytes : Bytes s) (h : at + 266 ≤ length s) w
   abbrev number : ℕ
   number = getD s at 0 * 256 + getD s (at + 1) 0
 
-  head-is : field row 0 2 ≡ number
-  head-is = field-part s at 266 0 2 (lit≤ tt) ∙ ap (λ (p : ℕ). field s p 2) (add-zero at) ∙ field-two s at (omega arith)
+  head-is : field row 0 changeFieldsSize ≡ number
+  head-is = field-part s at changeSize 0 changeFieldsSize (lit≤ tt) ∙ ap (λ (p : ℕ). field s p changeFieldsSize) (add-zero at) ∙ field-two s at (omega arith)
 
-  fields : (bitsAt (field row 0 2) 15 1 ≡ getD s at 0 / 128) × (bitsAt (field row 0 2) 0 9 ≡ number % 512)
+  fields : (bitsAt (field row 0 changeFieldsSize) 15 1 ≡ getD s at 0 / 128) × (bitsAt (field row 0 changeFieldsSize) 0 9 ≡ number % 512)
   unfolding bitsAt
   fields =
       let x = bytes at in
@@ -167,19 +174,21 @@ module _ (s : Octets) (at : ℕ) (bytes : Bytes s) (h : at + 266 ≤ length s) w
 
   -- the text, as it stands
   abbrev text : Octets
-  text = textAt row 2 264 (number % 512)
+  text = textAt row changeFieldsSize longestPath (number % 512)
 
   names-are : c .names ≡ namesIn text
   unfolding changeIn
-  names-are = ap (λ (n : ℕ). namesIn (textAt row 2 264 n)) (fields .1)
+  names-are = ap (λ (n : ℕ). namesIn (textAt row changeFieldsSize longestPath n)) (fields .1)
 
-  first-two : take 2 row ≡ getD s at 0 ∷ getD s (at + 1) 0 ∷ []
-  first-two = take-take 2 266 (drop at s) (lit≤ tt) ∙ ap (λ (q : ℕ). take 2 (drop q s)) (sym (add-zero at)) ∙ part-listed s at 0 2 (omega arith) ∙ rw add-zero
+  first-two : take changeFieldsSize row ≡ getD s at 0 ∷ getD s (at + 1) 0 ∷ []
+  first-two = take-take changeFieldsSize changeSize (drop at s) (lit≤ tt) ∙ listed-from s at changeFieldsSize (omega arith) ∙ rw add-zero
 
   -- a change whose bytes are its own
   module _ (own : changeBytes c ≡ row) where
     twos : twoOf c ≡ getD s at 0 ∷ getD s (at + 1) 0 ∷ []
-    twos = sym (take-at (twoOf c) (padded 264 (pathText (c .names))) 2 refl) ∙ ap (take 2) (sym (change-parts c (read-short row)) ∙ own) ∙ first-two
+    twos =
+        sym (take-at (twoOf c) (padded longestPath (pathText (c .names))) changeFieldsSize refl)
+        ∙ ap (take changeFieldsSize) (sym (change-parts c (read-short row)) ∙ own) ∙ first-two
 
     record Said : Type 0 where
       zeros : number / 512 % 64 ≡ 0
@@ -193,7 +202,7 @@ module _ (s : Octets) (at : ℕ) (bytes : Bytes s) (h : at + 266 ≤ length s) w
         let n = number-said _ _ _ _ a b (bit-small (c .removal)) (read-short row) in
         record { zeros = n .0; long = n .1 }
 
-    pub said-long : number % 512 ≤ 264
+    pub said-long : number % 512 ≤ longestPath
     said-long = rw (said .long) (read-short row)
 
     -- its text is the path's
@@ -201,10 +210,11 @@ module _ (s : Octets) (at : ℕ) (bytes : Bytes s) (h : at + 266 ≤ length s) w
     unfolding textAt padded
     said-text =
         let p = pathText (c .names) in
-        let body : drop 2 row ≡ p ++ replicate (264 - length p) 0 = ap (drop 2) (sym own ∙ change-parts c (read-short row)) ∙ drop-at (twoOf c) (padded 264 p) 2 refl in
-        ap₂ (λ (n : ℕ) (r : Octets). take n (take 264 r)) (said .long) body
-        ∙ take-take (length p) 264 (p ++ replicate (264 - length p) 0) (read-short row)
-        ∙ take-at p (replicate (264 - length p) 0) (length p) refl
+        let body : drop changeFieldsSize row ≡ p ++ replicate (longestPath - length p) 0 =
+        ap (drop changeFieldsSize) (sym own ∙ change-parts c (read-short row)) ∙ drop-at (twoOf c) (padded longestPath p) changeFieldsSize refl in
+        ap₂ (λ (n : ℕ) (r : Octets). take n (take longestPath r)) (said .long) body
+        ∙ take-take (length p) longestPath (p ++ replicate (longestPath - length p) 0) (read-short row)
+        ∙ take-at p (replicate (longestPath - length p) 0) (length p) refl
 
     pub said-full : isFull text ≡ true
     said-full = rw said-text (text-full (c .names) (read-names row) (omega (arith, read-short row)))
@@ -216,32 +226,35 @@ module _ (s : Octets) (at : ℕ) (bytes : Bytes s) (h : at + 266 ≤ length s) w
   pub change-marked : (number / 512 % 64 ≡ 0 → ⊥) → changeKept row ≡ false
   change-marked z = not-kept λ own. z (said own .zeros)
 
-  pub change-over : 264 < number % 512 → changeKept row ≡ false
+  pub change-over : longestPath < number % 512 → changeKept row ≡ false
   change-over l = not-kept λ own. omega (arith, said-long own)
 
-  pub change-unfull : number % 512 ≤ 264 → isFull (take (at + 2 + number % 512 - (at + 2)) (drop (at + 2) s)) ≡ false → changeKept row ≡ false
-  change-unfull l f = not-kept λ own. true≢false (sym (said-full own) ∙ ap isFull (sym (text-part s at 266 2 264 (number % 512) l (lit≤ tt))) ∙ f)
+  pub change-unfull : number % 512 ≤ longestPath → isFull (partAt s (at + changeFieldsSize) (number % 512)) ≡ false → changeKept row ≡ false
+  change-unfull l f =
+      not-kept λ own.
+      true≢false (sym (said-full own) ∙ ap isFull (sym (text-part s at changeSize changeFieldsSize longestPath (number % 512) l (lit≤ tt))) ∙ f)
 
-  module _ (z : number / 512 % 64 ≡ 0) (l : number % 512 ≤ 264) (f : isFull (take (at + 2 + number % 512 - (at + 2)) (drop (at + 2) s)) ≡ true) where
+  module _ (z : number / 512 % 64 ≡ 0) (l : number % 512 ≤ longestPath) (f : isFull (partAt s (at + changeFieldsSize) (number % 512)) ≡ true) where
     abbrev part : Octets
-    part = take 264 (drop (at + 2) s)
+    part = take longestPath (drop (at + 2) s)
 
-    part-long : length part ≡ 264
-    part-long = length-take-le 264 (drop (at + 2) s) (rw length-drop (omega arith))
+    part-long : length part ≡ longestPath
+    part-long = length-take-le longestPath (drop (at + 2) s) (rw length-drop (omega arith))
 
     text-is : text ≡ take (number % 512) part
     text-is =
-        sym (text-part s at 266 2 264 (number % 512) l (lit≤ tt))
+        sym (text-part s at changeSize changeFieldsSize longestPath (number % 512) l (lit≤ tt))
         ∙ ap (λ (m : ℕ). take m (drop (at + 2) s)) (add-sub-cancel-left (at + 2) (number % 512))
-        ∙ sym (take-take (number % 512) 264 (drop (at + 2) s) l)
+        ∙ sym (take-take (number % 512) longestPath (drop (at + 2) s) l)
 
     path-is : pathText (c .names) ≡ text
-    path-is = ap pathText names-are ∙ sym (full text (ap isFull (sym (text-part s at 266 2 264 (number % 512) l (lit≤ tt))) ∙ f) .text)
+    path-is = ap pathText names-are
+        ∙ sym (full text (ap isFull (sym (text-part s at changeSize changeFieldsSize longestPath (number % 512) l (lit≤ tt))) ∙ f) .text)
 
     path-long : length (pathText (c .names)) ≡ number % 512
     path-long = ap length (path-is ∙ text-is) ∙ length-take-le (number % 512) part (rw part-long l)
 
-    two-is : twoOf c ≡ take 2 row
+    two-is : twoOf c ≡ take changeFieldsSize row
     two-is =
         let x = getD s at 0 in
         let y = getD s (at + 1) 0 in
@@ -249,13 +262,15 @@ module _ (s : Octets) (at : ℕ) (bytes : Bytes s) (h : at + 266 ≤ length s) w
         let hb = bytes at in
         rw (removal-is, path-long, bit-of (x / 128) (omega arith), n .0, n .1) (sym first-two)
 
-    row-is : row ≡ take 2 row ++ part
-    row-is = take-add 2 264 (drop at s) ∙ ap₂ _++_ (sym (take-take 2 266 (drop at s) (lit≤ tt))) (ap (take 264) (drop-drop 2 at s))
+    row-is : row ≡ take changeFieldsSize row ++ part
+    row-is =
+        take-add changeFieldsSize longestPath (drop at s)
+        ∙ ap₂ _++_ (sym (take-take changeFieldsSize changeSize (drop at s) (lit≤ tt))) (ap (take longestPath) (drop-drop changeFieldsSize at s))
 
-    pub change-rest : changeKept row ≡ restZero s (at + 2) (number % 512) 264
+    pub change-rest : changeKept row ≡ restZero s (at + 2) (number % 512) longestPath
     unfolding changeKept
     change-rest =
         let a = same-padded (number % 512) part in
         ap₂ same (change-parts c (read-short row)) row-is
-        ∙ same-append (twoOf c) (padded 264 (pathText (c .names))) (take 2 row) part (ap length two-is)
-        ∙ ap₂ _&&_ (eq-same two-is) (ap (λ (t : Octets). same (padded 264 t) part) (path-is ∙ text-is) ∙ (rw part-long at a))
+        ∙ same-append (twoOf c) (padded longestPath (pathText (c .names))) (take changeFieldsSize row) part (ap length two-is)
+        ∙ ap₂ _&&_ (eq-same two-is) (ap (λ (t : Octets). same (padded longestPath t) part) (path-is ∙ text-is) ∙ (rw part-long at a))

@@ -9,7 +9,7 @@ use native.Mathlib.Omega.{arith}
 use lib.ListN.{length, getD, take, drop, set, replicate, length-replicate, drop-of-length-le}
 use lib.Dec.{eqb, leb}
 use borrow.Author.Tests.{le-leb, lt-leb, eq-eqb, ne-eqb, leb-true, leb-false, eqb-true}
-use Rattle.rules.specs.Size.{mostDomains, domainSize, domainsSize}
+use Rattle.rules.specs.Size.{mostDomains, domainSize, domainsSize, lastDomain}
 use Rattle.rules.specs.Octets.{Octets, same, allZero, paste, field, bitsAt, bigEndian, pack, packFrom, _bits_}
 use Rattle.rules.specs.Path.{Domain}
 use Rattle.rules.specs.Layout.{Domains, domainIn, domainBytes, domainsBytes, domainsOf}
@@ -25,50 +25,56 @@ use Rattle.tables.specs.Good.{goodDomain}
 use Rattle.tables.proofs.Bytes.{agree, taken-cond, entry-cond}
 use Rattle.tables.proofs.Search.{free-none, taken-some, goods-next, swept}
 use Rattle.rules.proofs.Reencoding.{same-zeros}
-use Rattle.tables.proofs.Rows.{length-table, same-first, part-listed, keptFrom, kept-start, kept-next, kept-end, Writable, wrote, freed, left, dropped-kept}
+use Rattle.tables.proofs.Rows.{length-table, same-first, listed-from, keptFrom, kept-start, kept-next, kept-end}
+use Rattle.tables.proofs.Rows.{Writable, wrote, freed, left, dropped-kept}
 
 pub domain-wide : (m : Option Domain) → length (domainBytes m) ≡ domainSize
 unfolding domainBytes
 domain-wide none = length-replicate {A = ℕ} domainSize 0
-domain-wide (some d) = length-big 3 _
+domain-wide (some d) = length-big domainSize _
 
 pub length-domainsOf : (s : Octets) → length (domainsOf s) ≡ mostDomains
 unfolding domainsOf
 length-domainsOf s = length-table domainBytes domainIn domainSize (λ r. domain-wide (domainIn r)) mostDomains s
 
+-- where place k begins
+abbrev at : ℕ → ℕ
+at k = k * domainSize
+
 module _ (s : Octets) (bytes : Bytes s) (whole : length s ≡ domainsSize) (k : ℕ) (h : k < mostDomains) where
   head : ℕ
-  head = field s (k * 3) 3
+  head = field s (at k) domainSize
 
   place-is : getD (domainsOf s) k none ≡ cond (eqb (bitsAt head 23 1) 1) (some (bitsAt head 0 16)) none
   unfolding domainIn head
-  place-is = domain-at s k h ∙ rw (field-part s (k * 3) 3 0 3 (omega arith), add-zero)
+  place-is = domain-at s k h ∙ rw (field-part s (at k) domainSize 0 domainSize (omega arith), add-zero)
 
-  head-bytes : head ≡ (getD s (k * 3) 0 * 256 + getD s (k * 3 + 1) 0) * 256 + getD s (k * 3 + 2) 0
+  head-bytes : head ≡ (getD s (at k) 0 * 256 + getD s (at k + 1) 0) * 256 + getD s (at k + 2) 0
   unfolding head
-  head-bytes = field-three s (k * 3) (omega arith)
+  head-bytes = field-three s (at k) (omega arith)
 
-  pub used-byte : leb 128 (getD s (k * 3) 0) ≡ taken (getD (domainsOf s) k none)
+  pub used-byte : leb 128 (getD s (at k) 0) ≡ taken (getD (domainsOf s) k none)
   unfolding bitsAt
   used-byte =
-      let a = bytes (k * 3) in
-      let b = bytes (k * 3 + 1) in
-      let d = bytes (k * 3 + 2) in
+      let a = bytes (at k) in
+      let b = bytes (at k + 1) in
+      let d = bytes (at k + 2) in
       rw (place-is, taken-cond)
-      (agree (λ p. eq-eqb (bitsAt head 23 1) 1 (omega (arith, leb-true 128 (getD s (k * 3) 0) p, head-bytes))) (λ p. ne-eqb (bitsAt head 23 1) 1 (λ q. omega (arith, leb-false 128 (getD s (k * 3) 0) p, q, head-bytes))))
+      (agree (λ p. eq-eqb (bitsAt head 23 1) 1 (omega (arith, leb-true 128 (getD s (at k) 0) p, head-bytes)))
+      (λ p. ne-eqb (bitsAt head 23 1) 1 (λ q. omega (arith, leb-false 128 (getD s (at k) 0) p, q, head-bytes))))
 
-  pub domain-bytes : taken (getD (domainsOf s) k none) ≡ true → getD s (k * 3 + 1) 0 * 256 + getD s (k * 3 + 2) 0 ≡ entryOr 0 (getD (domainsOf s) k none)
+  pub domain-bytes : taken (getD (domainsOf s) k none) ≡ true → getD s (at k + 1) 0 * 256 + getD s (at k + 2) 0 ≡ entryOr 0 (getD (domainsOf s) k none)
   unfolding bitsAt
   domain-bytes u =
-      let a = bytes (k * 3) in
-      let b = bytes (k * 3 + 1) in
-      let d = bytes (k * 3 + 2) in
+      let a = bytes (at k) in
+      let b = bytes (at k + 1) in
+      let d = bytes (at k + 2) in
       let e = entry-cond (eqb (bitsAt head 23 1) 1) (bitsAt head 0 16) 0 (sym (taken-cond _ (bitsAt head 0 16)) ∙ ap taken (sym place-is) ∙ u) in
       rw place-is (omega (arith, head-bytes, e))
 
-  pub domain-two : (r : ℕ) → Two s (k * 3 + 1) r → taken (getD (domainsOf s) k none) ≡ true → r ≡ entryOr 0 (getD (domainsOf s) k none)
+  pub domain-two : (r : ℕ) → Two s (at k + 1) r → taken (getD (domainsOf s) k none) ≡ true → r ≡ entryOr 0 (getD (domainsOf s) k none)
   domain-two r w u =
-      let e : k * 3 + 1 + 1 ≡ k * 3 + 2 = omega arith in
+      let e : at k + 1 + 1 ≡ at k + 2 = omega arith in
       (rw e at (w .value)) ∙ domain-bytes u
 
 -- ── whether the bytes are those of what they mean ──
@@ -104,30 +110,30 @@ three-bytes d h =
     rw (a, b, e)
 
 module _ (s : Octets) (bytes : Bytes s) (whole : length s ≡ domainsSize) (k : ℕ) (h : k < mostDomains) where
-  row : take 3 (drop (k * 3) s) ≡ getD s (k * 3) 0 ∷ getD s (k * 3 + 1) 0 ∷ getD s (k * 3 + 2) 0 ∷ []
-  row = ap (λ (p : ℕ). take 3 (drop p s)) (sym (add-zero (k * 3))) ∙ part-listed s (k * 3) 0 3 (omega arith) ∙ rw add-zero
+  row : take domainSize (drop (at k) s) ≡ getD s (at k) 0 ∷ getD s (at k + 1) 0 ∷ getD s (at k + 2) 0 ∷ []
+  row = listed-from s (at k) domainSize (omega arith) ∙ rw add-zero
 
   -- a used place has nothing but its id
-  pub used-kept : 128 ≤ getD s (k * 3) 0 → eqb (getD s (k * 3) 0) 128 ≡ keptAt mostDomains domainSize domainBytes domainIn s k
+  pub used-kept : 128 ≤ getD s (at k) 0 → eqb (getD s (at k) 0) 128 ≡ keptAt mostDomains domainSize domainBytes domainIn s k
   unfolding keptAt
   used-kept u =
-      let x = getD s (k * 3 + 1) 0 in
-      let y = getD s (k * 3 + 2) 0 in
-      let p = bytes (k * 3 + 1) in
-      let q = bytes (k * 3 + 2) in
+      let x = getD s (at k + 1) 0 in
+      let y = getD s (at k + 2) 0 in
+      let p = bytes (at k + 1) in
+      let q = bytes (at k + 2) in
       let t = sym (used-byte s bytes whole k h) ∙ le-leb 128 _ u in
       let e = sym (domain-at s k h) ∙ (taken-some 0 (getD (domainsOf s) k none) t ∙ ap some (sym (domain-bytes s bytes whole k h t))) in
       let b : (x * 256 + y) / 256 % 256 ≡ x = omega arith in
       let d : (x * 256 + y) % 256 ≡ y = omega arith in
-      rw (e, three-bytes (x * 256 + y) (omega arith), row, b, d) (sym (same-first 128 (getD s (k * 3) 0) (x ∷ y ∷ [])))
+      rw (e, three-bytes (x * 256 + y) (omega arith), row, b, d) (sym (same-first 128 (getD s (at k) 0) (x ∷ y ∷ [])))
 
   -- a free place is all zero
-  pub free-kept : getD s (k * 3) 0 < 128 → allZero (take (k * 3 + 3 - k * 3) (drop (k * 3) s)) ≡ keptAt mostDomains domainSize domainBytes domainIn s k
+  pub free-kept : getD s (at k) 0 < 128 → allZero (take (at k + domainSize - at k) (drop (at k) s)) ≡ keptAt mostDomains domainSize domainBytes domainIn s k
   unfolding keptAt domainBytes
   free-kept u =
       let f = sym (used-byte s bytes whole k h) ∙ lt-leb 128 _ u in
       let e = sym (domain-at s k h) ∙ free-none (getD (domainsOf s) k none) f in
-      rw (e, add-sub-cancel-left) (sym (same-zeros 3 (take 3 (drop (k * 3) s)) (ap length row)))
+      rw (e, add-sub-cancel-left) (sym (same-zeros domainSize (take domainSize (drop (at k) s)) (ap length row)))
 
 -- ── what is asked of each ──
 
@@ -156,30 +162,31 @@ module _ (x : Option Domain) (ds : Domains) where
     unfolding goodDomain
     good-zero h = good-is ∙ rw (lt-leb 1 (entryOr 0 x) h)
 
-    pub good-large : 1 ≤ entryOr 0 x → 32751 < entryOr 0 x → goodDomain x ds ≡ false
+    pub good-large : 1 ≤ entryOr 0 x → lastDomain < entryOr 0 x → goodDomain x ds ≡ false
     unfolding goodDomain
-    good-large l h = good-is ∙ rw (le-leb 1 (entryOr 0 x) l, lt-leb (entryOr 0 x) 32751 h)
+    good-large l h = good-is ∙ rw (le-leb 1 (entryOr 0 x) l, lt-leb (entryOr 0 x) lastDomain h)
 
-    pub good-ranged : 1 ≤ entryOr 0 x → entryOr 0 x ≤ 32751 → goodDomain x ds ≡ not (introduced (entryOr 0 x) ds)
+    pub good-ranged : 1 ≤ entryOr 0 x → entryOr 0 x ≤ lastDomain → goodDomain x ds ≡ not (introduced (entryOr 0 x) ds)
     unfolding goodDomain
-    good-ranged l h = good-is ∙ rw (le-leb 1 (entryOr 0 x) l, le-leb (entryOr 0 x) 32751 h)
+    good-ranged l h = good-is ∙ rw (le-leb 1 (entryOr 0 x) l, le-leb (entryOr 0 x) lastDomain h)
 
 -- ── what a written place leaves ──
 
 module _ (s : Octets) (c : KeptDomains s) (k : ℕ) (h : k < mostDomains) where
-  pub put-domain : (d : ℕ) → d < 65536 → set (set (set s (k * 3) 128) (k * 3 + 1) (d / 256 % 256)) (k * 3 + 2) (d % 256) ≡ domainsBytes (set (domainsOf s) k (some d))
+  pub put-domain : (d : ℕ) → d < 65536
+      → set (set (set s (at k) 128) (at k + 1) (d / 256 % 256)) (at k + 2) (d % 256) ≡ domainsBytes (set (domainsOf s) k (some d))
   unfolding domainsOf domainsBytes
   put-domain d l =
       let whole = c .whole in
-      let one : k * 3 + 1 ≡ suc (k * 3) = omega arith in
-      let two : k * 3 + 2 ≡ suc (suc (k * 3)) = omega arith in
+      let one : at k + 1 ≡ suc (at k) = omega arith in
+      let two : at k + 2 ≡ suc (suc (at k)) = omega arith in
       rw (one, two)
-      (paste-sets (k * 3) (128 ∷ (d / 256 % 256) ∷ (d % 256) ∷ []) s (omega arith)
-      ∙ ap (λ (r : Octets). paste (k * 3) r s) (sym (three-bytes d l))
+      (paste-sets (at k) (128 ∷ (d / 256 % 256) ∷ (d % 256) ∷ []) s (omega arith)
+      ∙ ap (λ (r : Octets). paste (at k) r s) (sym (three-bytes d l))
       ∙ sym (wrote domainBytes domainIn domainSize wide mostDomains s c k (some d) h (domain-wide (some d))))
 
   pub freed-domain : (test : Domain → Bool) → passes test (getD (domainsOf s) k none) ≡ true
-      → paste (k * 3) (replicate 3 0) s ≡ domainsBytes (set (domainsOf s) k (droppedIf test (getD (domainsOf s) k none)))
+      → paste (at k) (replicate domainSize 0) s ≡ domainsBytes (set (domainsOf s) k (droppedIf test (getD (domainsOf s) k none)))
   unfolding domainsOf domainsBytes domainBytes
   freed-domain test = freed domainBytes domainIn domainSize wide mostDomains s c k h empty test
 

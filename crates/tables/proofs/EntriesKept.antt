@@ -10,7 +10,7 @@ use lib.ListN.{length, getD, take, drop, replicate, length-append, length-drop, 
 use lib.Seq.{take-add, take-take, take-at, drop-drop, length-take-le}
 use lib.Dec.{eqb, lit≤}
 use borrow.Author.Tests.{le-leb, lt-leb}
-use Rattle.rules.specs.Size.{mostTransactions, transactionSize, transactionsSize}
+use Rattle.rules.specs.Size.{mostTransactions, changesAt, transactionSize, transactionsSize, mostChanges, changeSize, changesSize}
 use Rattle.rules.specs.Octets.{Octets, same, allZero, padded, chunks, field, bitsAt, bit}
 use Rattle.rules.specs.Answer.{Change}
 use Rattle.rules.specs.Layout.{Transaction, changeBytes, changeIn, transactionBytes, transactionIn, transactionAt, transactionsBytes, transactionsOf}
@@ -26,7 +26,7 @@ use Rattle.tables.specs.Transaction.{opened}
 use Rattle.tables.specs.Entries.{changesKept}
 use Rattle.tables.proofs.Search.{free-none, taken-some}
 use Rattle.rules.proofs.Reencoding.{same-zeros, same-append}
-use Rattle.tables.proofs.Rows.{part-listed, keptFrom, kept-start, kept-next, kept-end}
+use Rattle.tables.proofs.Rows.{listed-from, keptFrom, kept-start, kept-next, kept-end}
 use Rattle.octets.proofs.Padding.{drop-take}
 use Rattle.tables.proofs.WatchKept.{bit-of, pair-forward}
 use Rattle.tables.proofs.TransactionLaws.{threeOf, transaction-parts, transaction-wide, read-fits, used-byte, is-read}
@@ -66,11 +66,13 @@ chunks-front (suc n) k s =
     ap₂ _∷_ (rw e (take-take k (k + n * k) s (omega arith)))
     (ap (chunks n k) (ap (λ (m : ℕ). drop k (take m s)) e ∙ drop-take-add k (n * k) s) ∙ chunks-front n k (drop k s))
 
-rows-long : (rs : List Octets) → length (flatMap changeBytes (map changeIn rs)) ≡ length rs * 266
+rows-long : (rs : List Octets) → length (flatMap changeBytes (map changeIn rs)) ≡ length rs * changeSize
 unfolding flatMap
 rows-long [] = refl
 rows-long (r ∷ rs) =
-    length-append (changeBytes (changeIn r)) (flatMap changeBytes (map changeIn rs)) ∙ ap₂ _+_ (change-long r) (rows-long rs) ∙ (let e : 266 + length rs * 266 ≡ suc (length rs) * 266 = omega arith in e)
+    length-append (changeBytes (changeIn r)) (flatMap changeBytes (map changeIn rs))
+    ∙ ap₂ _+_ (change-long r) (rows-long rs)
+    ∙ (let e : changeSize + length rs * changeSize ≡ suc (length rs) * changeSize = omega arith in e)
 
 first-forward : (b : ℕ) → 128 ≤ b → b < 256 → b / 16 % 4 ≡ 0 → 128 + 64 * bit (eqb (b / 64 % 2) 1) + b % 16 ≡ b
 first-forward b l h z = rw (bit-of (b / 64 % 2) (omega arith)) (omega arith)
@@ -83,15 +85,19 @@ three-fields a b d ha hb hd =
     let q : m / 4194304 ≡ a / 64 = omega arith in
     (ap (λ (n : ℕ). n % 2) q, ap (λ (n : ℕ). n % 16) p, omega arith)
 
-marks-back : (b m n : ℕ) → b ≡ 128 + 64 * m + n → m < 2 → n ≤ 8 → (b / 16 % 4 ≡ 0) × (b % 16 ≡ n)
+marks-back : (b m n : ℕ) → b ≡ 128 + 64 * m + n → m < 2 → n ≤ mostChanges → (b / 16 % 4 ≡ 0) × (b % 16 ≡ n)
 marks-back b m n e hm hn = (omega arith, omega arith)
 
 module _ (s : Octets) (k : ℕ) (h : k < mostTransactions) (bytes : Bytes s) (whole : length s ≡ transactionsSize) where
+  -- where place k begins
+  abbrev at : ℕ
+  at = k * transactionSize
+
   abbrev place : Octets
-  place = take 2131 (drop (k * 2131) s)
+  place = take transactionSize (drop at s)
 
   abbrev head : ℕ
-  head = field s (k * 2131) 3
+  head = field s at changesAt
 
   abbrev x : Transaction
   x = transactionAt place head
@@ -100,18 +106,18 @@ module _ (s : Octets) (k : ℕ) (h : k < mostTransactions) (bytes : Bytes s) (wh
   kept = keptAt mostTransactions transactionSize transactionBytes transactionIn s k
 
   abbrev first : ℕ
-  first = getD s (k * 2131) 0
+  first = getD s at 0
 
   -- a closed place is all zero
-  pub free-kept : first < 128 → allZero (take (k * 2131 + 2131 - k * 2131) (drop (k * 2131) s)) ≡ kept
+  pub free-kept : first < 128 → allZero (take (at + transactionSize - at) (drop at s)) ≡ kept
   unfolding keptAt transactionBytes
   free-kept u =
       let f = sym (used-byte s k h bytes whole) ∙ lt-leb 128 _ u in
       let e = sym (transaction-at s k h) ∙ free-none (getD (transactionsOf s) k none) f in
-      rw (e, add-sub-cancel-left) (sym (same-zeros 2131 place (length-take-le 2131 (drop (k * 2131) s) (rw length-drop (omega arith)))))
+      rw (e, add-sub-cancel-left) (sym (same-zeros transactionSize place (length-take-le transactionSize (drop at s) (rw length-drop (omega arith)))))
 
-  first-three : take 3 (drop (k * 2131) s) ≡ first ∷ getD s (k * 2131 + 1) 0 ∷ getD s (k * 2131 + 2) 0 ∷ []
-  first-three = ap (λ (q : ℕ). take 3 (drop q s)) (sym (add-zero (k * 2131))) ∙ part-listed s (k * 2131) 0 3 (omega arith) ∙ rw add-zero
+  first-three : take changesAt (drop at s) ≡ first ∷ getD s (at + 1) 0 ∷ getD s (at + 2) 0 ∷ []
+  first-three = listed-from s at changesAt (omega arith) ∙ rw add-zero
 
   module _ (u : 128 ≤ first) where
     kept-is : kept ≡ same (transactionBytes (some x)) place
@@ -124,16 +130,16 @@ module _ (s : Octets) (k : ℕ) (h : k < mostTransactions) (bytes : Bytes s) (wh
     x-fits : TransactionFits x
     x-fits = read-fits place head
 
-    x-parts : transactionBytes (some x) ≡ threeOf x ++ padded 2128 (flatMap changeBytes (x .changes))
+    x-parts : transactionBytes (some x) ≡ threeOf x ++ padded changesSize (flatMap changeBytes (x .changes))
     x-parts = transaction-parts x (x-fits .holder) (x-fits .few)
 
-    marks-said : transactionBytes (some x) ≡ place → (first / 16 % 4 ≡ 0) × (first % 16 ≤ 8)
+    marks-said : transactionBytes (some x) ≡ place → (first / 16 % 4 ≡ 0) × (first % 16 ≤ mostChanges)
     marks-said own =
-        let e : first ∷ getD s (k * 2131 + 1) 0 ∷ getD s (k * 2131 + 2) 0 ∷ [] ≡ threeOf x =
+        let e : first ∷ getD s (at + 1) 0 ∷ getD s (at + 2) 0 ∷ [] ≡ threeOf x =
         sym first-three
-        ∙ sym (take-take 3 2131 (drop (k * 2131) s) (lit≤ tt))
-        ∙ ap (take 3) (sym own ∙ x-parts)
-        ∙ take-at (threeOf x) (padded 2128 (flatMap changeBytes (x .changes))) 3 refl in
+        ∙ sym (take-take changesAt transactionSize (drop at s) (lit≤ tt))
+        ∙ ap (take changesAt) (sym own ∙ x-parts)
+        ∙ take-at (threeOf x) (padded changesSize (flatMap changeBytes (x .changes))) changesAt refl in
         let b : first ≡ 128 + 64 * bit (x .stale) + length (x .changes) = cc in
         let m = marks-back _ _ _ b (bit-small (x .stale)) (x-fits .few) in
         (m .0, rw (m .1) (x-fits .few))
@@ -144,66 +150,68 @@ module _ (s : Octets) (k : ℕ) (h : k < mostTransactions) (bytes : Bytes s) (wh
     pub kept-marked : (first / 16 % 4 ≡ 0 → ⊥) → kept ≡ false
     kept-marked z = not-own λ own. z (marks-said own .0)
 
-    pub kept-many : 8 < first % 16 → kept ≡ false
+    pub kept-many : mostChanges < first % 16 → kept ≡ false
     kept-many l = not-own λ own. omega (arith, marks-said own .1)
 
-    module _ (z : first / 16 % 4 ≡ 0) (l : first % 16 ≤ 8) where
+    module _ (z : first / 16 % 4 ≡ 0) (l : first % 16 ≤ mostChanges) where
       abbrev n : ℕ
       n = first % 16
 
       abbrev body : Octets
-      body = take 2128 (drop (k * 2131 + 3) s)
+      body = take changesSize (drop (at + changesAt) s)
 
       abbrev front : Octets
-      front = take (n * 266) (drop (k * 2131 + 3) s)
+      front = take (n * changeSize) (drop (at + changesAt) s)
 
-      head-fields : (bitsAt head 22 1 ≡ first / 64 % 2) × (bitsAt head 16 4 ≡ n) × (bitsAt head 0 16 ≡ getD s (k * 2131 + 1) 0 * 256 + getD s (k * 2131 + 2) 0)
+      head-fields : (bitsAt head 22 1 ≡ first / 64 % 2) × (bitsAt head 16 4 ≡ n) × (bitsAt head 0 16 ≡ getD s (at + 1) 0 * 256 + getD s (at + 2) 0)
       unfolding bitsAt
-      head-fields = rw (field-three s (k * 2131) (omega arith)) (three-fields _ _ _ (bytes (k * 2131)) (bytes (k * 2131 + 1)) (bytes (k * 2131 + 2)))
+      head-fields = rw (field-three s at (omega arith)) (three-fields _ _ _ (bytes at) (bytes (at + 1)) (bytes (at + 2)))
 
-      place-body : place ≡ take 3 (drop (k * 2131) s) ++ body
-      place-body = take-add 3 2128 (drop (k * 2131) s) ∙ ap (λ (r : Octets). take 3 (drop (k * 2131) s) ++ take 2128 r) (drop-drop 3 (k * 2131) s)
+      place-body : place ≡ take changesAt (drop at s) ++ body
+      place-body = take-add changesAt changesSize (drop at s) ∙ ap (λ (r : Octets). take changesAt (drop at s) ++ take changesSize r) (drop-drop changesAt at s)
 
-      body-is : drop 3 place ≡ body
-      body-is = drop-take-add 3 2128 (drop (k * 2131) s) ∙ ap (take 2128) (drop-drop 3 (k * 2131) s)
+      body-is : drop changesAt place ≡ body
+      body-is = drop-take-add changesAt changesSize (drop at s) ∙ ap (take changesSize) (drop-drop changesAt at s)
 
-      front-is : take (n * 266) body ≡ front
-      front-is = take-take (n * 266) 2128 (drop (k * 2131 + 3) s) (omega arith)
+      front-is : take (n * changeSize) body ≡ front
+      front-is = take-take (n * changeSize) changesSize (drop (at + changesAt) s) (omega arith)
 
       rows : List Octets
-      rows = chunks n 266 front
+      rows = chunks n changeSize front
 
       changes-are : x .changes ≡ map changeIn rows
       unfolding transactionAt rows
       changes-are =
-          rw (head-fields .1, body-is, chunks-take n 8 266 body l) (ap (map changeIn) (sym (chunks-front n 266 body) ∙ ap (chunks n 266) front-is))
+          rw (head-fields .1, body-is, chunks-take n mostChanges changeSize body l)
+          (ap (map changeIn) (sym (chunks-front n changeSize body) ∙ ap (chunks n changeSize) front-is))
 
       few : length (x .changes) ≡ n
       unfolding rows
-      few = ap length changes-are ∙ length-map (chunks n 266 front) changeIn ∙ length-chunks n 266 front
+      few = ap length changes-are ∙ length-map (chunks n changeSize front) changeIn ∙ length-chunks n changeSize front
 
-      three-is : threeOf x ≡ take 3 (drop (k * 2131) s)
+      three-is : threeOf x ≡ take changesAt (drop at s)
       unfolding transactionAt
       three-is =
-          let p = pair-forward (getD s (k * 2131 + 1) 0) (getD s (k * 2131 + 2) 0) (bytes (k * 2131 + 1)) (bytes (k * 2131 + 2)) in
-          rw (few, head-fields .0, head-fields .2, first-forward first u (bytes (k * 2131)) z, p .0, p .1) (sym first-three)
+          let p = pair-forward (getD s (at + 1) 0) (getD s (at + 2) 0) (bytes (at + 1)) (bytes (at + 2)) in
+          rw (few, head-fields .0, head-fields .2, first-forward first u (bytes at) z, p .0, p .1) (sym first-three)
 
-      front-long : length front ≡ n * 266
-      front-long = length-take-le (n * 266) (drop (k * 2131 + 3) s) (rw length-drop (omega arith))
+      front-long : length front ≡ n * changeSize
+      front-long = length-take-le (n * changeSize) (drop (at + changesAt) s) (rw length-drop (omega arith))
 
-      all-long : length (flatMap changeBytes (map changeIn rows)) ≡ n * 266
+      all-long : length (flatMap changeBytes (map changeIn rows)) ≡ n * changeSize
       unfolding rows
-      all-long = rows-long (chunks n 266 front) ∙ ap (λ (m : ℕ). m * 266) (length-chunks n 266 front)
+      all-long = rows-long (chunks n changeSize front) ∙ ap (λ (m : ℕ). m * changeSize) (length-chunks n changeSize front)
 
-      pub kept-parts : kept ≡ (changesKept n front && restZero s (k * 2131 + 3) (n * 266) 2128)
+      pub kept-parts : kept ≡ (changesKept n front && restZero s (at + changesAt) (n * changeSize) changesSize)
       unfolding changesKept padded rows
       kept-parts =
           let all = flatMap changeBytes (map changeIn rows) in
-          let e : length all ≡ n * 266 = all-long in
-          let bl : length body ≡ 2128 = length-take-le 2128 (drop (k * 2131 + 3) s) (rw length-drop (omega arith)) in
+          let e : length all ≡ n * changeSize = all-long in
+          let bl : length body ≡ changesSize = length-take-le changesSize (drop (at + changesAt) s) (rw length-drop (omega arith)) in
           kept-is
-          ∙ ap₂ same (x-parts ∙ ap (λ (cs : List Change). threeOf x ++ padded 2128 (flatMap changeBytes cs)) changes-are) place-body
-          ∙ same-append (threeOf x) (padded 2128 all) (take 3 (drop (k * 2131) s)) body (ap length three-is)
-          ∙ ap₂ _&&_ (eq-same three-is) (ap (same (padded 2128 all)) (sym (take-append-drop (n * 266) body) ∙ ap (λ (r : Octets). r ++ drop (n * 266) body) front-is))
-          ∙ same-append all (replicate (2128 - length all) 0) front (drop (n * 266) body) (e ∙ sym front-long)
-          ∙ ap (λ (b : Bool). same all front && b) (same-zeros (2128 - length all) (drop (n * 266) body) (rw (length-drop, bl, e)))
+          ∙ ap₂ same (x-parts ∙ ap (λ (cs : List Change). threeOf x ++ padded changesSize (flatMap changeBytes cs)) changes-are) place-body
+          ∙ same-append (threeOf x) (padded changesSize all) (take changesAt (drop at s)) body (ap length three-is)
+          ∙ ap₂ _&&_ (eq-same three-is)
+          (ap (same (padded changesSize all)) (sym (take-append-drop (n * changeSize) body) ∙ ap (λ (r : Octets). r ++ drop (n * changeSize) body) front-is))
+          ∙ same-append all (replicate (changesSize - length all) 0) front (drop (n * changeSize) body) (e ∙ sym front-long)
+          ∙ ap (λ (b : Bool). same all front && b) (same-zeros (changesSize - length all) (drop (n * changeSize) body) (rw (length-drop, bl, e)))

@@ -4,7 +4,7 @@ use mathlib.Core.Bool.{Bool, true, false, _&&_, and-true}
 use mathlib.Core.List.{List, [], _∷_, _++_, map, flatMap}
 use mathlib.Core.Option.{Option, none, some}
 use Prim.Native.Nat.{ℕ, zero, suc, _+_, _*_, _-_, _≤_, _<_, zero-le, suc-le-suc}
-use native.Mathlib.Nat.{suc-mul, zero-mul, sub-zero, add-suc, add-sub-cancel-left, mul-le-mul-right}
+use native.Mathlib.Nat.{add-zero, suc-mul, zero-mul, sub-zero, add-suc, add-sub-cancel-left, mul-le-mul-right}
 use native.Mathlib.Numerals.{add-one}
 use native.Mathlib.Omega.{arith}
 use lib.ListN.{length, getD, take, drop, set, length-map, length-drop, length-set, length-take, take-append-drop, drop-of-length-le, replicate}
@@ -41,14 +41,21 @@ abbrev pub listed : Octets → ℕ → ℕ → ℕ → Octets
 listed s p j zero = []
 listed s p j (suc n) = getD s (p + j) 0 ∷ listed s p (suc j) n
 
-pub part-listed : (s : Octets) (p j n : ℕ) → p + j + n ≤ length s → take n (drop (p + j) s) ≡ listed s p j n
+part-listed : (s : Octets) (p j n : ℕ) → p + j + n ≤ length s → take n (drop (p + j) s) ≡ listed s p j n
 part-listed s p j zero h = refl
 part-listed s p j (suc n) h =
     part-next s (p + j) n (omega arith)
     ∙ ap (λ (l : Octets). getD s (p + j) 0 ∷ l) (ap (λ (q : ℕ). take n (drop q s)) (sym (add-suc p j)) ∙ part-listed s p (suc j) n (rw (add-suc p j) (omega arith)))
 
+pub listed-from : (s : Octets) (p n : ℕ) → p + n ≤ length s → take n (drop p s) ≡ listed s p 0 n
+listed-from s p n h = ap (λ (q : ℕ). take n (drop q s)) (sym (add-zero p)) ∙ part-listed s p 0 n (rw add-zero h)
+
+-- n bytes from p on, as the code takes them
+abbrev pub partAt : Octets → ℕ → ℕ → Octets
+partAt s p n = take (p + n - p) (drop p s)
+
 -- a text of a place of `size` bytes, as the part of the table that the code returns
-pub text-part : (s : Octets) (p size j k n : ℕ) → n ≤ k → j + k ≤ size → take (p + j + n - (p + j)) (drop (p + j) s) ≡ textAt (take size (drop p s)) j k n
+pub text-part : (s : Octets) (p size j k n : ℕ) → n ≤ k → j + k ≤ size → partAt s (p + j) n ≡ textAt (take size (drop p s)) j k n
 unfolding textAt
 text-part s p size j k n hn hk =
     ap (λ (m : ℕ). take m (drop (p + j) s)) (add-sub-cancel-left (p + j) n)

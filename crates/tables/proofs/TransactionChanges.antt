@@ -9,7 +9,7 @@ use native.Mathlib.Omega.{arith}
 use lib.Dec.{lit≤}
 use lib.ListN.{length, getD, set, replicate, length-replicate}
 use lib.Seq.{set-getD}
-use Rattle.rules.specs.Size.{mostTransactions, transactionSize}
+use Rattle.rules.specs.Size.{mostTransactions, changesAt, transactionSize, changesSize}
 use Rattle.rules.specs.Octets.{Octets, paste, padded}
 use Rattle.rules.specs.Entries.{without}
 use Rattle.rules.specs.Layout.{Transaction, Transactions, changeBytes, transactionBytes, transactionIn, transactionsBytes, transactionsOf}
@@ -44,17 +44,17 @@ stale-writable (some x) f = writable (staleOf (some x)) (stale-fits x f)
 
 -- a stale transaction's bytes, but for the first as before
 stale-bytes : (x : Transaction) → TransactionFits x → (b : ℕ) → b ≡ 192 + length (x .changes)
-    → paste 0 (b ∷ []) (threeOf x ++ padded 2128 (flatMap changeBytes (x .changes))) ≡ transactionBytes (staleOf (some x))
+    → paste 0 (b ∷ []) (threeOf x ++ padded changesSize (flatMap changeBytes (x .changes))) ≡ transactionBytes (staleOf (some x))
 unfolding paste staleOf
 stale-bytes x f b e =
-    ap (λ (n : ℕ). n ∷ (x .holder / 256 % 256) ∷ (x .holder % 256) ∷ padded 2128 (flatMap changeBytes (x .changes))) e
+    ap (λ (n : ℕ). n ∷ (x .holder / 256 % 256) ∷ (x .holder % 256) ∷ padded changesSize (flatMap changeBytes (x .changes))) e
     ∙ sym (transaction-parts (record { holder = x .holder; stale = true; changes = x .changes }) (f .holder) (f .few))
 
 opened-fits : (o : ℕ) → o < 65536 → MaybeTransaction (some (opened o))
 unfolding opened
 opened-fits o h = record { holder = h; few = lit≤ tt; changes = tt }
 
-opened-bytes : (o : ℕ) → o < 65536 → transactionBytes (some (opened o)) ≡ (128 ∷ (o / 256 % 256) ∷ (o % 256) ∷ []) ++ replicate 2128 0
+opened-bytes : (o : ℕ) → o < 65536 → transactionBytes (some (opened o)) ≡ (128 ∷ (o / 256 % 256) ∷ (o % 256) ∷ []) ++ replicate changesSize 0
 unfolding opened padded flatMap
 opened-bytes o h = transaction-parts (opened o) h (lit≤ tt)
 
@@ -72,12 +72,16 @@ unfolding transactionsOf transactionsBytes
 kept-transactions s c = c .same
 
 module _ (s : Octets) (c : KeptTransactions s) (k : ℕ) (h : k < mostTransactions) where
-  pub closed : paste (k * 2131) (replicate 2131 0) s ≡ transactionsBytes (set (transactionsOf s) k none)
+  -- where place k begins
+  abbrev at : ℕ
+  at = k * transactionSize
+
+  pub closed : paste at (replicate transactionSize 0) s ≡ transactionsBytes (set (transactionsOf s) k none)
   unfolding transactionsOf transactionsBytes transactionBytes
   closed = sym (wrote transactionBytes transactionIn transactionSize transaction-wide mostTransactions s c k none h (transaction-width none tt))
 
   pub freed-transaction : (test : Transaction → Bool) → passes test (getD (transactionsOf s) k none) ≡ true
-      → paste (k * 2131) (replicate 2131 0) s ≡ transactionsBytes (set (transactionsOf s) k (droppedIf test (getD (transactionsOf s) k none)))
+      → paste at (replicate transactionSize 0) s ≡ transactionsBytes (set (transactionsOf s) k (droppedIf test (getD (transactionsOf s) k none)))
   unfolding transactionsOf transactionsBytes transactionBytes
   freed-transaction test = freed transactionBytes transactionIn transactionSize transaction-wide mostTransactions s c k h (writable none tt) test
 
@@ -100,16 +104,15 @@ module _ (s : Octets) (c : KeptTransactions s) (k : ℕ) (h : k < mostTransactio
   -- ── an open place ──
 
   pub put-open : (o : ℕ) → o < 65536
-      → set (set (set (paste (k * 2131 + 3) (replicate 2128 0) s) (k * 2131) 128) (k * 2131 + 1) (o / 256 % 256)) (k * 2131 + 2) (o % 256)
+      → set (set (set (paste (at + changesAt) (replicate changesSize 0) s) at 128) (at + 1) (o / 256 % 256)) (at + 2) (o % 256)
       ≡ transactionsBytes (set (transactionsOf s) k (some (opened o)))
   unfolding transactionsOf transactionsBytes
   put-open o ho =
-      let at = k * 2131 in
       let whole = c .whole in
-      let zeros : Octets = replicate 2128 0 in
-      let x = paste (at + 3) zeros s in
+      let zeros : Octets = replicate changesSize 0 in
+      let x = paste (at + changesAt) zeros s in
       let head : Octets = 128 ∷ (o / 256 % 256) ∷ (o % 256) ∷ [] in
-      let l : length x ≡ length s = length-paste (at + 3) zeros s (rw length-replicate (omega arith)) in
+      let l : length x ≡ length s = length-paste (at + changesAt) zeros s (rw length-replicate (omega arith)) in
       let one : at + 1 ≡ suc at = omega arith in
       let two : at + 2 ≡ suc (suc at) = omega arith in
       let sets : set (set (set x at 128) (at + 1) (o / 256 % 256)) (at + 2) (o % 256) ≡ paste at head x = rw (one, two) (paste-sets at head x (rw l (omega arith))) in
@@ -127,10 +130,9 @@ module _ (s : Octets) (c : KeptTransactions s) (k : ℕ) (h : k < mostTransactio
       sym (rw (ap staleOf e ∙ sym e, set-getD (transactionsOf s) k none) (kept-transactions s c))
 
   pub put-stale : taken (getD (transactionsOf s) k none) ≡ true
-      → set s (k * 2131) (192 + getD s (k * 2131) 0 % 16) ≡ transactionsBytes (set (transactionsOf s) k (staleOf (getD (transactionsOf s) k none)))
+      → set s at (192 + getD s at 0 % 16) ≡ transactionsBytes (set (transactionsOf s) k (staleOf (getD (transactionsOf s) k none)))
   unfolding transactionsOf transactionsBytes
   put-stale u =
-      let at = k * 2131 in
       let whole = c .whole in
       let b = 192 + getD s at 0 % 16 in
       let x = transactionOf s k in
@@ -138,7 +140,7 @@ module _ (s : Octets) (c : KeptTransactions s) (k : ℕ) (h : k < mostTransactio
       let w = transaction-width (staleOf (some x)) (stale-fits x (open-fits s k h u)) in
       set-paste s at b (omega arith)
       ∙ ap (λ (p : ℕ). paste p (b ∷ []) s) (sym (add-zero at))
-      ∙ sym (paste-row s at 2131 0 (b ∷ []) (omega arith) (lit≤ tt))
+      ∙ sym (paste-row s at transactionSize 0 (b ∷ []) (omega arith) (lit≤ tt))
       ∙ ap (λ (r : Octets). paste at r s) (ap (paste 0 (b ∷ [])) (row-parts s k h c u) ∙ stale-bytes x (open-fits s k h u) b (ap (λ (n : ℕ). 192 + n) (changes-read s k h c u)))
       ∙ sym (wrote transactionBytes transactionIn transactionSize transaction-wide mostTransactions s c k (staleOf (some x)) h w)
       ∙ ap (λ (m : Option Transaction). transactionsBytes (set (transactionsOf s) k (staleOf m))) (sym e)

@@ -10,7 +10,7 @@ use lib.ListN.{length, getD, take, drop}
 use lib.Seq.{take-at, take-take}
 use lib.Dec.{eqb, leb, lit<, lit≤}
 use borrow.Author.Tests.{eq-eqb, ne-eqb, leb-true, leb-false}
-use Rattle.rules.specs.Size.{mostTransactions, transactionSize, transactionsSize}
+use Rattle.rules.specs.Size.{mostTransactions, changesAt, transactionSize, transactionsSize, mostChanges, changesSize}
 use Rattle.rules.specs.Octets.{Octets, field, bitsAt, bigEndian, bit, padded, pack, packFrom, _bits_}
 use Rattle.rules.specs.Layout.{Transaction, changeBytes, transactionBytes, transactionIn, transactionAt, transactionsOf}
 use Rattle.rules.proofs.Fields.{field-part, field-three, bit-small, bit-back}
@@ -23,7 +23,7 @@ use Rattle.tables.specs.Kept.{KeptTransactions}
 use Rattle.tables.specs.Transaction.{opened, transactionOf}
 use Rattle.tables.proofs.Bytes.{agree, taken-cond, entry-cond}
 use Rattle.tables.proofs.Search.{taken-some}
-use Rattle.tables.proofs.Rows.{length-table, part-listed, place-bytes}
+use Rattle.tables.proofs.Rows.{length-table, listed-from, place-bytes}
 
 -- ── the bytes of a transaction ──
 
@@ -31,7 +31,7 @@ use Rattle.tables.proofs.Rows.{length-table, part-listed, place-bytes}
 abbrev pub threeBytes : ℕ → ℕ → ℕ → Octets
 threeBytes m n o = (128 + 64 * m + n) ∷ (o / 256 % 256) ∷ (o % 256) ∷ []
 
-three : (m n o : ℕ) → m < 2 → n < 16 → o < 65536 → bigEndian 3 (pack (1 bits 1 ∷ 1 bits m ∷ 2 bits 0 ∷ 4 bits n ∷ 16 bits o ∷ [])) ≡ threeBytes m n o
+three : (m n o : ℕ) → m < 2 → n < 16 → o < 65536 → bigEndian changesAt (pack (1 bits 1 ∷ 1 bits m ∷ 2 bits 0 ∷ 4 bits n ∷ 16 bits o ∷ [])) ≡ threeBytes m n o
 unfolding bigEndian pack packFrom
 three m n o hm hn ho =
     let p = pack (1 bits 1 ∷ 1 bits m ∷ 2 bits 0 ∷ 4 bits n ∷ 16 bits o ∷ []) in
@@ -43,10 +43,12 @@ three m n o hm hn ho =
 abbrev pub threeOf : Transaction → Octets
 threeOf x = threeBytes (bit (x .stale)) (length (x .changes)) (x .holder)
 
-pub transaction-parts : (x : Transaction) → x .holder < 65536 → length (x .changes) ≤ 8 → transactionBytes (some x) ≡ threeOf x ++ padded 2128 (flatMap changeBytes (x .changes))
+pub transaction-parts : (x : Transaction) → x .holder < 65536 → length (x .changes) ≤ mostChanges
+    → transactionBytes (some x) ≡ threeOf x ++ padded changesSize (flatMap changeBytes (x .changes))
 unfolding transactionBytes
 transaction-parts x ho hn =
-    ap (λ (a : Octets). a ++ padded 2128 (flatMap changeBytes (x .changes))) (three (bit (x .stale)) (length (x .changes)) (x .holder) (bit-small (x .stale)) (omega arith) ho)
+    ap (λ (a : Octets). a ++ padded changesSize (flatMap changeBytes (x .changes)))
+    (three (bit (x .stale)) (length (x .changes)) (x .holder) (bit-small (x .stale)) (omega arith) ho)
 
 pub read-fits : (r : Octets) (head : ℕ) → TransactionFits (transactionAt r head)
 unfolding transactionAt bitsAt
@@ -55,27 +57,32 @@ read-fits r head = let d = transaction-decoded r head in record { holder = mod-l
 pub transaction-wide : (r : Octets) → length (transactionBytes (transactionIn r)) ≡ transactionSize
 unfolding transactionIn
 transaction-wide r =
-    transaction-width _ (cond-case MaybeTransaction (eqb (bitsAt (field r 0 3) 23 1) 1) (some (transactionAt r (field r 0 3))) none (read-fits r (field r 0 3)) tt)
+    let head = field r 0 changesAt in
+    transaction-width _ (cond-case MaybeTransaction (eqb (bitsAt head 23 1) 1) (some (transactionAt r head)) none (read-fits r head) tt)
 
 pub length-transactionsOf : (s : Octets) → length (transactionsOf s) ≡ mostTransactions
 unfolding transactionsOf
 length-transactionsOf s = length-table transactionBytes transactionIn transactionSize transaction-wide mostTransactions s
 
-marks-back : (b m n : ℕ) → b ≡ 128 + 64 * m + n → m < 2 → n ≤ 8 → (b / 64 % 2 ≡ m) × (b % 16 ≡ n)
+marks-back : (b m n : ℕ) → b ≡ 128 + 64 * m + n → m < 2 → n ≤ mostChanges → (b / 64 % 2 ≡ m) × (b % 16 ≡ n)
 marks-back b m n e hm hn = (omega arith, omega arith)
 
 -- ── place k of a table ──
 
 module _ (s : Octets) (k : ℕ) (h : k < mostTransactions) where
+  -- where place k begins
+  abbrev at : ℕ
+  at = k * transactionSize
+
   abbrev row : Octets
-  row = take transactionSize (drop (k * transactionSize) s)
+  row = take transactionSize (drop at s)
 
   abbrev head : ℕ
-  head = field s (k * transactionSize) 3
+  head = field s at changesAt
 
   place-is : getD (transactionsOf s) k none ≡ cond (eqb (bitsAt head 23 1) 1) (some (transactionAt row head)) none
   unfolding transactionIn
-  place-is = transaction-at s k h ∙ rw (field-part s (k * transactionSize) transactionSize 0 3 (omega arith), add-zero)
+  place-is = transaction-at s k h ∙ rw (field-part s at transactionSize 0 changesAt (omega arith), add-zero)
 
   pub is-read : taken (getD (transactionsOf s) k none) ≡ true → transactionOf s k ≡ transactionAt row head
   is-read u =
@@ -91,26 +98,26 @@ module _ (s : Octets) (k : ℕ) (h : k < mostTransactions) where
   open-fits u = rw (is-read u) (read-fits row head)
 
   module _ (bytes : Bytes s) (whole : length s ≡ transactionsSize) where
-    head-bytes : head ≡ (getD s (k * 2131) 0 * 256 + getD s (k * 2131 + 1) 0) * 256 + getD s (k * 2131 + 2) 0
-    head-bytes = field-three s (k * 2131) (omega arith)
+    head-bytes : head ≡ (getD s at 0 * 256 + getD s (at + 1) 0) * 256 + getD s (at + 2) 0
+    head-bytes = field-three s at (omega arith)
 
-    pub used-byte : leb 128 (getD s (k * 2131) 0) ≡ taken (getD (transactionsOf s) k none)
+    pub used-byte : leb 128 (getD s at 0) ≡ taken (getD (transactionsOf s) k none)
     unfolding bitsAt
     used-byte =
-        let b = getD s (k * 2131) 0 in
-        let x = bytes (k * 2131) in
-        let y = bytes (k * 2131 + 1) in
-        let z = bytes (k * 2131 + 2) in
+        let b = getD s at 0 in
+        let x = bytes at in
+        let y = bytes (at + 1) in
+        let z = bytes (at + 2) in
         rw (place-is, taken-cond)
         (agree (λ p. eq-eqb (bitsAt head 23 1) 1 (omega (arith, leb-true 128 b p, head-bytes))) (λ p. ne-eqb (bitsAt head 23 1) 1 (λ q. omega (arith, leb-false 128 b p, q, head-bytes))))
 
-    pub holder-read : taken (getD (transactionsOf s) k none) ≡ true → (r : ℕ) → Two s (k * 2131 + 1) r → r ≡ transactionOf s k .holder
+    pub holder-read : taken (getD (transactionsOf s) k none) ≡ true → (r : ℕ) → Two s (at + 1) r → r ≡ transactionOf s k .holder
     unfolding transactionAt bitsAt
     holder-read u r w =
-        let e : k * 2131 + 1 + 1 ≡ k * 2131 + 2 = omega arith in
+        let e : at + 1 + 1 ≡ at + 2 = omega arith in
         let v = rw e at (w .value) in
-        let y = bytes (k * 2131 + 1) in
-        let z = bytes (k * 2131 + 2) in
+        let y = bytes (at + 1) in
+        let z = bytes (at + 2) in
         let q : r ≡ bitsAt head 0 16 = omega (arith, head-bytes) in
         q ∙ sym (ap Transaction.holder (is-read u))
 
@@ -118,25 +125,25 @@ module _ (s : Octets) (k : ℕ) (h : k < mostTransactions) where
     abbrev x : Transaction
     x = transactionOf s k
 
-    pub row-parts : row ≡ threeOf x ++ padded 2128 (flatMap changeBytes (x .changes))
+    pub row-parts : row ≡ threeOf x ++ padded changesSize (flatMap changeBytes (x .changes))
     row-parts = own-bytes c u ∙ transaction-parts x (open-fits u .holder) (open-fits u .few)
 
-    first-three : getD s (k * 2131) 0 ∷ getD s (k * 2131 + 1) 0 ∷ getD s (k * 2131 + 2) 0 ∷ [] ≡ threeOf x
+    first-three : getD s at 0 ∷ getD s (at + 1) 0 ∷ getD s (at + 2) 0 ∷ [] ≡ threeOf x
     first-three =
         let whole = c .whole in
-        sym (ap (λ (q : ℕ). take 3 (drop q s)) (sym (add-zero (k * 2131))) ∙ part-listed s (k * 2131) 0 3 (omega arith) ∙ rw add-zero)
-        ∙ sym (take-take 3 2131 (drop (k * 2131) s) (lit≤ tt))
-        ∙ ap (take 3) row-parts
-        ∙ take-at (threeOf x) (padded 2128 (flatMap changeBytes (x .changes))) 3 refl
+        sym (listed-from s at changesAt (omega arith) ∙ rw add-zero)
+        ∙ sym (take-take changesAt transactionSize (drop at s) (lit≤ tt))
+        ∙ ap (take changesAt) row-parts
+        ∙ take-at (threeOf x) (padded changesSize (flatMap changeBytes (x .changes))) changesAt refl
 
-    pub first-is : getD s (k * 2131) 0 ≡ 128 + 64 * bit (x .stale) + length (x .changes)
+    pub first-is : getD s at 0 ≡ 128 + 64 * bit (x .stale) + length (x .changes)
     first-is = let e = first-three in cc
 
-    marks : (getD s (k * 2131) 0 / 64 % 2 ≡ bit (x .stale)) × (getD s (k * 2131) 0 % 16 ≡ length (x .changes))
+    marks : (getD s at 0 / 64 % 2 ≡ bit (x .stale)) × (getD s at 0 % 16 ≡ length (x .changes))
     marks = marks-back _ _ _ first-is (bit-small (x .stale)) (open-fits u .few)
 
-    pub stale-read : eqb (getD s (k * 2131) 0 / 64 % 2) 1 ≡ x .stale
+    pub stale-read : eqb (getD s at 0 / 64 % 2) 1 ≡ x .stale
     stale-read = rw (marks .0) (bit-back (x .stale))
 
-    pub changes-read : getD s (k * 2131) 0 % 16 ≡ length (x .changes)
+    pub changes-read : getD s at 0 % 16 ≡ length (x .changes)
     changes-read = marks .1

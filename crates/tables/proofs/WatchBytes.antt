@@ -8,7 +8,7 @@ use native.Mathlib.Nat.{mod-lt, div-add-mod'}
 use native.Mathlib.Omega.{arith}
 use lib.ListN.{length, length-replicate, length-append}
 use lib.Dec.{eqb, lit<}
-use Rattle.rules.specs.Size.{mostWatches, watchSize}
+use Rattle.rules.specs.Size.{mostWatches, watchFieldsSize, tokenAt, watchSize, longestPath, longestToken}
 use Rattle.rules.specs.Octets.{Octets, field, bitsAt, bigEndian, bit, padded, pack, packFrom, _bits_}
 use Rattle.rules.specs.Path.{Given, malformed, absolute, relative, special, given}
 use Rattle.rules.specs.Payload.{Place, path, event}
@@ -67,7 +67,8 @@ abbrev pub sixBytes : ℕ → ℕ → ℕ → ℕ → ℕ → ℕ → Octets
 sixBytes r g d o l t = (128 + 64 * r + 32 * g) ∷ d ∷ (o / 256 % 256) ∷ (o % 256) ∷ (l / 2 % 256) ∷ (l % 2 * 128 + t) ∷ []
 
 six : (r g d o l t : ℕ) → r < 2 → g < 2 → d < 256 → o < 65536 → l < 512 → t < 64
-    → bigEndian 6 (pack (1 bits 1 ∷ 1 bits r ∷ 1 bits g ∷ 5 bits 0 ∷ 8 bits d ∷ 16 bits o ∷ 9 bits l ∷ 1 bits 0 ∷ 6 bits t ∷ [])) ≡ sixBytes r g d o l t
+    → bigEndian watchFieldsSize (pack (1 bits 1 ∷ 1 bits r ∷ 1 bits g ∷ 5 bits 0 ∷ 8 bits d ∷ 16 bits o ∷ 9 bits l ∷ 1 bits 0 ∷ 6 bits t ∷ []))
+    ≡ sixBytes r g d o l t
 unfolding bigEndian pack packFrom
 six r g d o l t hr hg hd ho hl ht =
     let n = pack (1 bits 1 ∷ 1 bits r ∷ 1 bits g ∷ 5 bits 0 ∷ 8 bits d ∷ 16 bits o ∷ 9 bits l ∷ 1 bits 0 ∷ 6 bits t ∷ []) in
@@ -82,26 +83,26 @@ six r g d o l t hr hg hd ho hl ht =
 pub record Narrow (w : Watch) : Type 0 where
   pub owner : w .owner < 65536
   pub depth : entryOr 0 (w .depth) < 256
-  pub path : length (placeText (w .place)) ≤ 264
-  pub token : length (w .token) ≤ 32
+  pub path : length (placeText (w .place)) ≤ longestPath
+  pub token : length (w .token) ≤ longestToken
 
 abbrev pub sixOf : Watch → Octets
 sixOf w = sixBytes (bit (isRelative (w .place))) (bit (taken (w .depth))) (entryOr 0 (w .depth)) (w .owner) (length (placeText (w .place))) (length (w .token))
 
-pub watch-parts : (w : Watch) → Narrow w → watchBytes (some w) ≡ sixOf w ++ (padded 264 (placeText (w .place)) ++ padded 32 (w .token))
+pub watch-parts : (w : Watch) → Narrow w → watchBytes (some w) ≡ sixOf w ++ (padded longestPath (placeText (w .place)) ++ padded longestToken (w .token))
 unfolding watchBytes watchBits
 watch-parts w f =
     rw depth-bits
-    (ap (λ (a : Octets). a ++ (padded 264 (placeText (w .place)) ++ padded 32 (w .token)))
+    (ap (λ (a : Octets). a ++ (padded longestPath (placeText (w .place)) ++ padded longestToken (w .token)))
     (six _ _ _ _ _ _ (bit-small (isRelative (w .place))) (bit-small (taken (w .depth))) (f .depth) (f .owner) (omega (arith, f .path)) (omega (arith, f .token))))
 
 pub narrow-width : (w : Watch) → Narrow w → length (watchBytes (some w)) ≡ watchSize
 narrow-width w f =
-    let p = length-padded 264 (placeText (w .place)) (f .path) in
-    let t = length-padded 32 (w .token) (f .token) in
+    let p = length-padded longestPath (placeText (w .place)) (f .path) in
+    let t = length-padded longestToken (w .token) (f .token) in
     ap length (watch-parts w f)
-    ∙ length-append (sixOf w) (padded 264 (placeText (w .place)) ++ padded 32 (w .token))
-    ∙ ap (λ (n : ℕ). 6 + n) (length-append (padded 264 (placeText (w .place))) (padded 32 (w .token)) ∙ ap₂ _+_ p t)
+    ∙ length-append (sixOf w) (padded longestPath (placeText (w .place)) ++ padded longestToken (w .token))
+    ∙ ap (λ (n : ℕ). watchFieldsSize + n) (length-append (padded longestPath (placeText (w .place))) (padded longestToken (w .token)) ∙ ap₂ _+_ p t)
 
 -- ── a watch that was read ──
 
@@ -111,18 +112,20 @@ DepthBelow m = entryOr 0 m < 256
 pub read-narrow : (r : Octets) (head : ℕ) → Narrow (watchAt r head)
 unfolding watchAt bitsAt entryOr
 read-narrow r head =
+    let text = textAt r watchFieldsSize longestPath (bitsAt head 7 9) in
     record {
       owner = mod-lt _ (lit< tt);
       depth = cond-case DepthBelow (eqb (bitsAt head 45 1) 1) (some (bitsAt head 32 8)) none (mod-lt _ (lit< tt)) (lit< tt);
-      path = omega (arith, place-short (eqb (bitsAt head 46 1) 1) (textAt r 6 264 (bitsAt head 7 9)), text-short r 6 264 (bitsAt head 7 9));
-      token = text-short r 270 32 (bitsAt head 0 6);
+      path = omega (arith, place-short (eqb (bitsAt head 46 1) 1) text, text-short r watchFieldsSize longestPath (bitsAt head 7 9));
+      token = text-short r tokenAt longestToken (bitsAt head 0 6);
     }
 
 pub watch-wide : (r : Octets) → length (watchBytes (watchIn r)) ≡ watchSize
 unfolding watchIn watchBytes
 watch-wide r =
-    cond-case (λ (m : Option Watch). length (watchBytes m) ≡ watchSize) (eqb (bitsAt (field r 0 6) 47 1) 1) (some (watchAt r (field r 0 6))) none
-    (narrow-width _ (read-narrow r (field r 0 6))) none-width
+    let head = field r 0 watchFieldsSize in
+    cond-case (λ (m : Option Watch). length (watchBytes m) ≡ watchSize) (eqb (bitsAt head 47 1) 1) (some (watchAt r head)) none
+    (narrow-width _ (read-narrow r head)) none-width
   where
     none-width : length (watchBytes none) ≡ watchSize
     none-width = length-replicate {A = ℕ} watchSize 0
@@ -134,10 +137,10 @@ length-watchesOf s = length-table watchBytes watchIn watchSize watch-wide mostWa
 pub marks-back : (b r g : ℕ) → b ≡ 128 + 64 * r + 32 * g → r < 2 → g < 2 → (b / 64 % 2 ≡ r) × (b % 32 ≡ 0) × (b / 32 % 2 ≡ g)
 marks-back b r g e hr hg = (omega arith, omega arith, omega arith)
 
-packed-back : (n l t : ℕ) → n ≡ l * 128 + t → t ≤ 32 → (n / 128 ≡ l) × (n % 64 ≡ t)
+packed-back : (n l t : ℕ) → n ≡ l * 128 + t → t ≤ longestToken → (n / 128 ≡ l) × (n % 64 ≡ t)
 packed-back n l t e h = (omega arith, omega arith)
 
-pub lengths-back : (x y l t : ℕ) → x ≡ l / 2 % 256 → y ≡ l % 2 * 128 + t → l ≤ 264 → t ≤ 32
+pub lengths-back : (x y l t : ℕ) → x ≡ l / 2 % 256 → y ≡ l % 2 * 128 + t → l ≤ longestPath → t ≤ longestToken
     → ((x * 256 + y) / 128 ≡ l) × ((x * 256 + y) % 64 ≡ t) × (y / 64 % 2 ≡ 0)
 lengths-back x y l t hx hy hl ht =
     let half : x ≡ l / 2 = omega arith in

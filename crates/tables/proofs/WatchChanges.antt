@@ -8,7 +8,7 @@ use native.Mathlib.Omega.{arith}
 use lib.Dec.{eqb}
 use lib.ListN.{length, getD, set, replicate, length-replicate}
 use borrow.Author.Tests.{eqb-true}
-use Rattle.rules.specs.Size.{longestPath, mostWatches, watchSize, watchesSize}
+use Rattle.rules.specs.Size.{mostWatches, watchFieldsSize, tokenAt, watchSize, watchesSize, longestPath, longestToken}
 use Rattle.rules.specs.Octets.{Octets, same, paste, padded, bit}
 use Rattle.rules.specs.Entries.{without}
 use Rattle.rules.specs.Path.{Connection, absolute, special, namesIn}
@@ -49,7 +49,7 @@ placed r x (named e z) =
     record { text = ap placeText p; mark = ap isRelative p ∙ sym z; fits = λ l. rw p (e, l) }
 
 -- six stores in a row
-pub paste-six : (i a b c d e f : ℕ) (xs : Octets) → i + 6 ≤ length xs →
+pub paste-six : (i a b c d e f : ℕ) (xs : Octets) → i + watchFieldsSize ≤ length xs →
     set (set (set (set (set (set xs i a) (i + 1) b) (i + 2) c) (i + 3) d) (i + 4) e) (i + 5) f ≡ paste i (a ∷ b ∷ c ∷ d ∷ e ∷ f ∷ []) xs
 paste-six i a b c d e f xs h =
     let e₁ : i + 1 ≡ suc i = omega arith in
@@ -76,7 +76,8 @@ module _ (c : Connection) (x : Octets) (r : Bool) (d : Depth) (t : Octets) (f : 
   given-narrow = record { owner = f .owner; depth = below; path = rw (placed r x (f .placed) .text) (f .path); token = f .few }
 
   given-parts : (first depth : ℕ) → first ≡ 128 + 64 * bit r + 32 * bit (taken (depthMeant d)) → depth ≡ entryOr 0 (depthMeant d)
-      → watchBytes (some w) ≡ (first ∷ depth ∷ (c / 256 % 256) ∷ (c % 256) ∷ (length x / 2 % 256) ∷ (length x % 2 * 128 + length t) ∷ []) ++ (padded 264 x ++ padded 32 t)
+      → watchBytes (some w) ≡ (first ∷ depth ∷ (c / 256 % 256) ∷ (c % 256) ∷ (length x / 2 % 256) ∷ (length x % 2 * 128 + length t) ∷ [])
+      ++ (padded longestPath x ++ padded longestToken t)
   unfolding watchGiven
   given-parts first depth p q = watch-parts w given-narrow ∙ rw (placed r x (f .placed) .text, placed r x (f .placed) .mark, p, q)
 
@@ -89,9 +90,13 @@ unfolding watchBytes
 empty = record { width = length-replicate {A = ℕ} watchSize 0; back = watch-read none tt }
 
 module _ (s : Octets) (c : KeptWatches s) (k : ℕ) (h : k < mostWatches) where
+  -- where place k begins
+  abbrev at : ℕ
+  at = k * watchSize
+
   -- a place cleared, or left as it is
   pub freed-watch : (test : Watch → Bool) → passes test (getD (watchesOf s) k none) ≡ true
-      → paste (k * 302) (replicate 302 0) s ≡ watchesBytes (set (watchesOf s) k (droppedIf test (getD (watchesOf s) k none)))
+      → paste at (replicate watchSize 0) s ≡ watchesBytes (set (watchesOf s) k (droppedIf test (getD (watchesOf s) k none)))
   unfolding watchesOf watchesBytes watchBytes
   freed-watch test = freed watchBytes watchIn watchSize watch-wide mostWatches s c k h empty test
 
@@ -109,21 +114,21 @@ module _ (s : Octets) (c : KeptWatches s) (k : ℕ) (h : k < mostWatches) where
   module _ (o : Connection) (x : Octets) (r : Bool) (d : Depth) (t : Octets) (f : FitWatch o x r t) (below : entryOr 0 (depthMeant d) < 256) where
     -- three parts put in, the last first
     pub put-watch : (first depth : ℕ) → first ≡ 128 + 64 * bit r + 32 * bit (taken (depthMeant d)) → depth ≡ entryOr 0 (depthMeant d)
-        → paste (k * 302) (first ∷ depth ∷ (o / 256 % 256) ∷ (o % 256) ∷ (length x / 2 % 256) ∷ (length x % 2 * 128 + length t) ∷ [])
-        (paste (k * 302 + 6) (padded 264 x) (paste (k * 302 + 270) (padded 32 t) s))
+        → paste at (first ∷ depth ∷ (o / 256 % 256) ∷ (o % 256) ∷ (length x / 2 % 256) ∷ (length x % 2 * 128 + length t) ∷ [])
+        (paste (at + watchFieldsSize) (padded longestPath x) (paste (at + tokenAt) (padded longestToken t) s))
         ≡ watchesBytes (set (watchesOf s) k (some (watchGiven o x r d t)))
     unfolding watchesOf watchesBytes
     put-watch first depth p q =
         let six = first ∷ depth ∷ (o / 256 % 256) ∷ (o % 256) ∷ (length x / 2 % 256) ∷ (length x % 2 * 128 + length t) ∷ [] in
         let whole = c .whole in
-        let l = length-padded 264 x (f .path) in
-        let e : k * 302 + 6 + 264 ≡ k * 302 + 270 = omega arith in
-        let inner = paste-append (k * 302 + 6) (padded 264 x) (padded 32 t) s (rw l (omega arith)) in
+        let l = length-padded longestPath x (f .path) in
+        let e : at + watchFieldsSize + longestPath ≡ at + tokenAt = omega arith in
+        let inner = paste-append (at + watchFieldsSize) (padded longestPath x) (padded longestToken t) s (rw l (omega arith)) in
         sym
         (wrote watchBytes watchIn watchSize watch-wide mostWatches s c k (some (watchGiven o x r d t)) h (narrow-width _ (given-narrow o x r d t f below))
-        ∙ ap (λ (b : Octets). paste (k * 302) b s) (given-parts o x r d t f below first depth p q)
-        ∙ paste-append (k * 302) six (padded 264 x ++ padded 32 t) s (omega arith)
-        ∙ ap (paste (k * 302) six) (rw (l, e) at inner))
+        ∙ ap (λ (b : Octets). paste at b s) (given-parts o x r d t f below first depth p q)
+        ∙ paste-append at six (padded longestPath x ++ padded longestToken t) s (omega arith)
+        ∙ ap (paste at six) (rw (l, e) at inner))
 
     -- what the bytes are and mean after a watch is put in
     pub put-kept : (b : Octets) → b ≡ watchesBytes (set (watchesOf s) k (some (watchGiven o x r d t))) → KeptWatches b × (watchesOf b ≡ set (watchesOf s) k (some (watchGiven o x r d t)))

@@ -10,7 +10,7 @@ use lib.ListN.{length, getD, take, drop, length-drop}
 use lib.Seq.{take-add, take-take, drop-drop, length-take-le}
 use lib.Dec.{eqb, leb, lit≤}
 use borrow.Author.Tests.{le-leb, lt-leb, eqb-true, leb-true}
-use Rattle.rules.specs.Size.{mostWatches, watchSize, watchesSize}
+use Rattle.rules.specs.Size.{mostWatches, watchFieldsSize, tokenAt, watchSize, watchesSize, longestPath, longestToken}
 use Rattle.rules.specs.Octets.{Octets, same, allZero, padded, field, bitsAt, bit, text}
 use Rattle.rules.specs.Path.{Names, Given, malformed, absolute, relative, special, given, introduceName, releaseName, namesIn, isFull, split}
 use Rattle.rules.specs.Payload.{Place, event}
@@ -28,7 +28,7 @@ use Rattle.tables.specs.WatchKept.{placeSame, depthSame, fieldsSame, res
 use Rattle.tables.proofs.Search.{free-none, taken-some}
 use Rattle.rules.proofs.Reencoding.{same-zeros, same-append}
 use Rattle.rules.proofs.Slots.{length-padded}
-use Rattle.tables.proofs.Rows.{same-padded, text-part, keptFrom, kept-start, kept-next, kept-end}
+use Rattle.tables.proofs.Rows.{same-padded, partAt, text-part, keptFrom, kept-start, kept-next, kept-end}
 use Rattle.tables.proofs.WatchBytes.{meantBy, place-given, empty-is, watch-wide, sixOf, watch-parts, read-narrow}
 use Rattle.tables.proofs.WatchLaws.{used-byte, is-read, OwnBytes, six-listed, path-within, path-text, relative-said, fields-said, lengths, marks, owner-is}
 
@@ -175,19 +175,23 @@ lengths-forward x y hx hy z =
 pub pair-forward : (x y : ℕ) → x < 256 → y < 256 → ((x * 256 + y) / 256 % 256 ≡ x) × ((x * 256 + y) % 256 ≡ y)
 pair-forward x y hx hy = (omega arith, omega arith)
 
-pub fields-few : (s : Octets) (k : ℕ) → fieldsSame s k ≡ true → tokenLength s k ≤ 32
+pub fields-few : (s : Octets) (k : ℕ) → fieldsSame s k ≡ true → tokenLength s k ≤ longestToken
 unfolding fieldsSame
 fields-few s k fs =
-    let a = both-true (eqb (getD s (k * 302) 0 % 32) 0) _ fs in
-    let b = both-true (eqb (getD s (k * 302 + 5) 0 / 64 % 2) 0) _ (a .1) in
-    leb-true _ _ (both-true (leb (tokenLength s k) 32) (depthSame s k) (b .1) .0)
+    let a = both-true (eqb (getD s (k * watchSize) 0 % 32) 0) _ fs in
+    let b = both-true (eqb (getD s (k * watchSize + 5) 0 / 64 % 2) 0) _ (a .1) in
+    leb-true _ _ (both-true (leb (tokenLength s k) longestToken) (depthSame s k) (b .1) .0)
 
 module _ (s : Octets) (k : ℕ) (h : k < mostWatches) (bytes : Bytes s) (whole : length s ≡ watchesSize) where
+  -- where place k begins
+  abbrev at : ℕ
+  at = k * watchSize
+
   abbrev row : Octets
-  row = take watchSize (drop (k * watchSize) s)
+  row = take watchSize (drop at s)
 
   abbrev head : ℕ
-  head = field s (k * watchSize) 6
+  head = field s at watchFieldsSize
 
   abbrev v : Watch
   v = watchAt row head
@@ -196,14 +200,14 @@ module _ (s : Octets) (k : ℕ) (h : k < mostWatches) (bytes : Bytes s) (whole :
   kept = keptAt mostWatches watchSize watchBytes watchIn s k
 
   -- a free place is all zero
-  pub free-kept : getD s (k * 302) 0 < 128 → allZero (take (k * 302 + 302 - k * 302) (drop (k * 302) s)) ≡ kept
+  pub free-kept : getD s at 0 < 128 → allZero (take (at + watchSize - at) (drop at s)) ≡ kept
   unfolding keptAt watchBytes
   free-kept u =
       let f = sym (used-byte s k h bytes whole) ∙ lt-leb 128 _ u in
       let e = sym (watch-at s k h) ∙ free-none (getD (watchesOf s) k none) f in
-      rw (e, add-sub-cancel-left) (sym (same-zeros 302 row (length-take-le 302 (drop (k * 302) s) (rw length-drop (omega arith)))))
+      rw (e, add-sub-cancel-left) (sym (same-zeros watchSize row (length-take-le watchSize (drop at s) (rw length-drop (omega arith)))))
 
-  module _ (u : 128 ≤ getD s (k * 302) 0) where
+  module _ (u : 128 ≤ getD s at 0) where
     kept-is : kept ≡ same (watchBytes (some v)) row
     unfolding keptAt
     kept-is =
@@ -215,119 +219,126 @@ module _ (s : Octets) (k : ℕ) (h : k < mostWatches) (bytes : Bytes s) (whole :
     not-kept : (OwnBytes s k h → ⊥) → kept ≡ false
     not-kept f = is-false kept λ e. f (sym (same-eq (watchBytes (some v)) row (sym kept-is ∙ e)))
 
-    pub kept-long : 264 < pathLength s k → kept ≡ false
+    pub kept-long : longestPath < pathLength s k → kept ≡ false
     kept-long l = not-kept λ own. omega (arith, path-within s k h bytes whole own)
 
-    pub kept-unplaced : placeSame (eqb (getD s (k * 302) 0 / 64 % 2) 1) (take (k * 302 + 6 + pathLength s k - (k * 302 + 6)) (drop (k * 302 + 6) s)) ≡ false → kept ≡ false
+    pub kept-unplaced : placeSame (eqb (getD s at 0 / 64 % 2) 1) (partAt s (at + watchFieldsSize) (pathLength s k)) ≡ false → kept ≡ false
     unfolding placeSame watchAt pathLength
     kept-unplaced f =
         not-kept λ own.
         let l = path-within s k h bytes whole own in
-        let x : take (k * 302 + 6 + pathLength s k - (k * 302 + 6)) (drop (k * 302 + 6) s) ≡ textAt row 6 264 (pathLength s k) = text-part s (k * 302) 302 6 264 (pathLength s k) l (lit≤ tt) in
+        let x : partAt s (at + watchFieldsSize) (pathLength s k) ≡ textAt row watchFieldsSize longestPath (pathLength s k) =
+        text-part s at watchSize watchFieldsSize longestPath (pathLength s k) l (lit≤ tt) in
         let e = path-text s k h bytes whole own in
         let m = relative-said s k h bytes whole own in
         let r = marks s k h bytes whole .0 in
-        true≢false (sym (rw (x, r) (same-place (v .place) (textAt row 6 264 (bitsAt head 7 9)) (eqb (bitsAt head 46 1) 1) e m)) ∙ f)
+        true≢false (sym (rw (x, r) (same-place (v .place) (textAt row watchFieldsSize longestPath (bitsAt head 7 9)) (eqb (bitsAt head 46 1) 1) e m)) ∙ f)
 
     pub kept-fields : fieldsSame s k ≡ false → kept ≡ false
     kept-fields f = not-kept λ own. true≢false (sym (fields-said s k h bytes whole own) ∙ f)
 
     -- the parts of a place
     abbrev pathPart : Octets
-    pathPart = take 264 (drop (k * 302 + 6) s)
+    pathPart = take longestPath (drop (at + watchFieldsSize) s)
 
     abbrev tokenPart : Octets
-    tokenPart = take 32 (drop (k * 302 + 270) s)
+    tokenPart = take longestToken (drop (at + tokenAt) s)
 
-    row-parts : row ≡ take 6 (drop (k * 302) s) ++ (pathPart ++ tokenPart)
+    row-parts : row ≡ take watchFieldsSize (drop at s) ++ (pathPart ++ tokenPart)
     row-parts =
-        let e : k * 302 + 6 + 264 ≡ k * 302 + 270 = omega arith in
-        take-add 6 296 (drop (k * 302) s)
-        ∙ ap (λ (r : Octets). take 6 (drop (k * 302) s) ++ r)
-        (ap (take 296) (drop-drop 6 (k * 302) s)
-        ∙ take-add 264 32 (drop (k * 302 + 6) s)
-        ∙ ap (λ (r : Octets). pathPart ++ take 32 r) (drop-drop 264 (k * 302 + 6) s ∙ ap (λ (n : ℕ). drop n s) e))
+        let e : at + watchFieldsSize + longestPath ≡ at + tokenAt = omega arith in
+        take-add watchFieldsSize (longestPath + longestToken) (drop at s)
+        ∙ ap (λ (r : Octets). take watchFieldsSize (drop at s) ++ r)
+        (ap (take (longestPath + longestToken)) (drop-drop watchFieldsSize at s)
+        ∙ take-add longestPath longestToken (drop (at + watchFieldsSize) s)
+        ∙ ap (λ (r : Octets). pathPart ++ take longestToken r) (drop-drop longestPath (at + watchFieldsSize) s ∙ ap (λ (n : ℕ). drop n s) e))
 
-    part-long : (p n : ℕ) → p + n ≤ 4832 → length (take n (drop p s)) ≡ n
+    part-long : (p n : ℕ) → p + n ≤ watchesSize → length (take n (drop p s)) ≡ n
     part-long p n l = length-take-le n (drop p s) (rw length-drop (omega arith))
 
     -- a text of the place, taken from its field
-    text-of : (j n size : ℕ) → j + size ≤ 302 → n ≤ size → textAt row j size n ≡ take n (take size (drop (k * 302 + j) s))
+    text-of : (j n size : ℕ) → j + size ≤ watchSize → n ≤ size → textAt row j size n ≡ take n (take size (drop (at + j) s))
     text-of j n size hj hn =
-        sym (text-part s (k * 302) 302 j size n hn hj)
-        ∙ ap (λ (m : ℕ). take m (drop (k * 302 + j) s)) (add-sub-cancel-left (k * 302 + j) n)
-        ∙ sym (take-take n size (drop (k * 302 + j) s) hn)
+        sym (text-part s at watchSize j size n hn hj)
+        ∙ ap (λ (m : ℕ). take m (drop (at + j) s)) (add-sub-cancel-left (at + j) n)
+        ∙ sym (take-take n size (drop (at + j) s) hn)
 
-    module _ (l : pathLength s k ≤ 264)
-        (ps : placeSame (eqb (getD s (k * 302) 0 / 64 % 2) 1) (take (k * 302 + 6 + pathLength s k - (k * 302 + 6)) (drop (k * 302 + 6) s)) ≡ true)
+    module _ (l : pathLength s k ≤ longestPath)
+        (ps : placeSame (eqb (getD s at 0 / 64 % 2) 1) (partAt s (at + watchFieldsSize) (pathLength s k)) ≡ true)
         (fs : fieldsSame s k ≡ true) where
-      placed : (placeText (v .place) ≡ textAt row 6 264 (pathLength s k)) × (isRelative (v .place) ≡ eqb (getD s (k * 302) 0 / 64 % 2) 1)
+      placed : (placeText (v .place) ≡ textAt row watchFieldsSize longestPath (pathLength s k)) × (isRelative (v .place) ≡ eqb (getD s at 0 / 64 % 2) 1)
       unfolding placeSame watchAt pathLength
       placed =
           let r = eqb (bitsAt head 46 1) 1 in
-          let x = textAt row 6 264 (bitsAt head 7 9) in
+          let x = textAt row watchFieldsSize longestPath (bitsAt head 7 9) in
           let m = marks s k h bytes whole .0 in
-          let both = both-true (same (placeText (placeIn r x)) x) (not r || isRelative (placeIn r x)) (rw (text-part s (k * 302) 302 6 264 (bitsAt head 7 9) l (lit≤ tt), m) at ps) in
+          let both =
+          both-true (same (placeText (placeIn r x)) x) (not r || isRelative (placeIn r x))
+          (rw (text-part s at watchSize watchFieldsSize longestPath (bitsAt head 7 9) l (lit≤ tt), m) at ps) in
           (same-eq (placeText (placeIn r x)) x (both .0), mark-of r x (both .1) ∙ ap (λ (n : ℕ). eqb n 1) (sym m))
 
       record Tests : Type 0 where
-        low : getD s (k * 302) 0 % 32 ≡ 0
-        middle : getD s (k * 302 + 5) 0 / 64 % 2 ≡ 0
-        few : tokenLength s k ≤ 32
+        low : getD s at 0 % 32 ≡ 0
+        middle : getD s (at + 5) 0 / 64 % 2 ≡ 0
+        few : tokenLength s k ≤ longestToken
         depth : depthSame s k ≡ true
 
       tests : Tests
       unfolding fieldsSame
       tests =
-          let a = both-true (eqb (getD s (k * 302) 0 % 32) 0) _ fs in
-          let b = both-true (eqb (getD s (k * 302 + 5) 0 / 64 % 2) 0) _ (a .1) in
-          let c = both-true (leb (tokenLength s k) 32) (depthSame s k) (b .1) in
+          let a = both-true (eqb (getD s at 0 % 32) 0) _ fs in
+          let b = both-true (eqb (getD s (at + 5) 0 / 64 % 2) 0) _ (a .1) in
+          let c = both-true (leb (tokenLength s k) longestToken) (depthSame s k) (b .1) in
           record { low = eqb-true _ _ (a .0); middle = eqb-true _ _ (b .0); few = leb-true _ _ (c .0); depth = c .1 }
 
       path-is : placeText (v .place) ≡ take (pathLength s k) pathPart
-      path-is = placed .0 ∙ text-of 6 (pathLength s k) 264 (lit≤ tt) l
+      path-is = placed .0 ∙ text-of watchFieldsSize (pathLength s k) longestPath (lit≤ tt) l
 
       token-is : v .token ≡ take (tokenLength s k) tokenPart
       unfolding watchAt tokenLength
-      token-is = text-of 270 (tokenLength s k) 32 (lit≤ tt) (tests .few)
+      token-is = text-of tokenAt (tokenLength s k) longestToken (lit≤ tt) (tests .few)
 
       path-long : length (placeText (v .place)) ≡ pathLength s k
-      path-long = ap length path-is ∙ length-take-le (pathLength s k) pathPart (rw (part-long (k * 302 + 6) 264 (omega arith)) l)
+      path-long = ap length path-is ∙ length-take-le (pathLength s k) pathPart (rw (part-long (at + watchFieldsSize) longestPath (omega arith)) l)
 
       token-long : length (v .token) ≡ tokenLength s k
-      token-long = ap length token-is ∙ length-take-le (tokenLength s k) tokenPart (rw (part-long (k * 302 + 270) 32 (omega arith)) (tests .few))
+      token-long = ap length token-is ∙ length-take-le (tokenLength s k) tokenPart (rw (part-long (at + tokenAt) longestToken (omega arith)) (tests .few))
 
-      depth-byte : (taken (v .depth) ≡ eqb (getD s (k * 302) 0 / 32 % 2) 1) × (entryOr 0 (v .depth) ≡ getD s (k * 302 + 1) 0)
+      depth-byte : (taken (v .depth) ≡ eqb (getD s at 0 / 32 % 2) 1) × (entryOr 0 (v .depth) ≡ getD s (at + 1) 0)
       unfolding watchAt depthSame taken entryOr
       depth-byte =
           let m = marks s k h bytes whole in
-          rw (← m .1, ← m .2) (go (eqb (getD s (k * 302) 0 / 32 % 2) 1) (tests .depth))
+          rw (← m .1, ← m .2) (go (eqb (getD s at 0 / 32 % 2) 1) (tests .depth))
         where
-          go : (b : Bool) → (b || eqb (getD s (k * 302 + 1) 0) 0) ≡ true
-              → (taken (cond b (some (getD s (k * 302 + 1) 0)) none) ≡ b) × (entryOr 0 (cond b (some (getD s (k * 302 + 1) 0)) none) ≡ getD s (k * 302 + 1) 0)
+          go : (b : Bool) → (b || eqb (getD s (at + 1) 0) 0) ≡ true
+              → (taken (cond b (some (getD s (at + 1) 0)) none) ≡ b) × (entryOr 0 (cond b (some (getD s (at + 1) 0)) none) ≡ getD s (at + 1) 0)
           go true e = (refl, refl)
-          go false e = (refl, sym (eqb-true (getD s (k * 302 + 1) 0) 0 e))
+          go false e = (refl, sym (eqb-true (getD s (at + 1) 0) 0 e))
 
-      six-is : sixOf v ≡ take 6 (drop (k * 302) s)
+      six-is : sixOf v ≡ take watchFieldsSize (drop at s)
       unfolding watchAt
       six-is =
-          let x = getD s (k * 302 + 4) 0 in
-          let y = getD s (k * 302 + 5) 0 in
-          let o = pair-forward (getD s (k * 302 + 2) 0) (getD s (k * 302 + 3) 0) (bytes (k * 302 + 2)) (bytes (k * 302 + 3)) in
-          let n = lengths-forward x y (bytes (k * 302 + 4)) (bytes (k * 302 + 5)) (tests .middle) in
+          let x = getD s (at + 4) 0 in
+          let y = getD s (at + 5) 0 in
+          let o = pair-forward (getD s (at + 2) 0) (getD s (at + 3) 0) (bytes (at + 2)) (bytes (at + 3)) in
+          let n = lengths-forward x y (bytes (at + 4)) (bytes (at + 5)) (tests .middle) in
           let ls = lengths s k h bytes whole in
-          rw (placed .1, depth-byte .0, depth-byte .1, path-long, token-long, first-forward (getD s (k * 302) 0) u (bytes (k * 302)) (tests .low), ← owner-is s k h bytes whole, o .0, o .1, ← ls .0, ← ls .1, n .0, n .1)
-          (sym (six-listed s (k * 302) (omega arith)))
+          let f = first-forward (getD s at 0) u (bytes at) (tests .low) in
+          rw (placed .1, depth-byte .0, depth-byte .1, path-long, token-long, f, ← owner-is s k h bytes whole, o .0, o .1, ← ls .0, ← ls .1, n .0, n .1)
+          (sym (six-listed s at (omega arith)))
 
-      pub kept-rests : kept ≡ (restZero s (k * 302 + 6) (pathLength s k) 264 && restZero s (k * 302 + 270) (tokenLength s k) 32)
+      pub kept-rests : kept ≡ (restZero s (at + watchFieldsSize) (pathLength s k) longestPath && restZero s (at + tokenAt) (tokenLength s k) longestToken)
       kept-rests =
           let n = read-narrow row head in
-          let pl = part-long (k * 302 + 6) 264 (omega arith) in
-          let tl = part-long (k * 302 + 270) 32 (omega arith) in
+          let pl = part-long (at + watchFieldsSize) longestPath (omega arith) in
+          let tl = part-long (at + tokenAt) longestToken (omega arith) in
           let a = same-padded (pathLength s k) pathPart in
           let b = same-padded (tokenLength s k) tokenPart in
           kept-is
           ∙ ap₂ same (watch-parts v n) row-parts
-          ∙ same-append (sixOf v) _ (take 6 (drop (k * 302) s)) (pathPart ++ tokenPart) (ap length six-is)
-          ∙ ap₂ _&&_ (eq-same six-is) (same-append (padded 264 (placeText (v .place))) (padded 32 (v .token)) pathPart tokenPart (length-padded 264 _ (n .path) ∙ sym pl))
-          ∙ ap₂ _&&_ (ap (λ (z : Octets). same (padded 264 z) pathPart) path-is ∙ (rw pl at a)) (ap (λ (z : Octets). same (padded 32 z) tokenPart) token-is ∙ (rw tl at b))
+          ∙ same-append (sixOf v) _ (take watchFieldsSize (drop at s)) (pathPart ++ tokenPart) (ap length six-is)
+          ∙ ap₂ _&&_ (eq-same six-is)
+          (same-append (padded longestPath (placeText (v .place))) (padded longestToken (v .token)) pathPart tokenPart
+          (length-padded longestPath _ (n .path) ∙ sym pl))
+          ∙ ap₂ _&&_ (ap (λ (z : Octets). same (padded longestPath z) pathPart) path-is ∙ (rw pl at a))
+          (ap (λ (z : Octets). same (padded longestToken z) tokenPart) token-is ∙ (rw tl at b))

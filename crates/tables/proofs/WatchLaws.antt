@@ -10,7 +10,7 @@ use lib.ListN.{length, getD, take, drop}
 use lib.Seq.{take-at, take-take}
 use lib.Dec.{eqb, leb, lit≤}
 use borrow.Author.Tests.{le-leb, eq-eqb, ne-eqb, leb-true, leb-false}
-use Rattle.rules.specs.Size.{mostWatches, watchSize, watchesSize}
+use Rattle.rules.specs.Size.{mostWatches, watchFieldsSize, tokenAt, watchSize, watchesSize, longestPath, longestToken}
 use Rattle.rules.specs.Octets.{Octets, same, field, bitsAt, bit, padded}
 use Rattle.rules.specs.Path.{Connection, relative, given}
 use Rattle.rules.specs.Payload.{path}
@@ -27,26 +27,30 @@ use Rattle.tables.specs.Watch.{nobody, ownedBy, watchOf, pathLength, tok
 use Rattle.tables.specs.WatchKept.{depthSame, fieldsSame}
 use Rattle.tables.proofs.Bytes.{agree, taken-cond, entry-cond}
 use Rattle.tables.proofs.Search.{taken-some}
-use Rattle.tables.proofs.Rows.{part-listed, text-part, place-bytes}
+use Rattle.tables.proofs.Rows.{listed-from, partAt, text-part, place-bytes}
 use Rattle.tables.proofs.WatchBytes.{place-short, place-whole, marks-back, lengths-back}
 use Rattle.tables.proofs.WatchBytes.{sixOf, watch-parts, read-narrow, watch-wide}
 
 -- ── place k of a table ──
 
-pub six-listed : (s : Octets) (p : ℕ) → p + 6 ≤ length s
-    → take 6 (drop p s) ≡ getD s p 0 ∷ getD s (p + 1) 0 ∷ getD s (p + 2) 0 ∷ getD s (p + 3) 0 ∷ getD s (p + 4) 0 ∷ getD s (p + 5) 0 ∷ []
-six-listed s p h = ap (λ (q : ℕ). take 6 (drop q s)) (sym (add-zero p)) ∙ part-listed s p 0 6 (omega arith) ∙ rw add-zero
+pub six-listed : (s : Octets) (p : ℕ) → p + watchFieldsSize ≤ length s
+    → take watchFieldsSize (drop p s) ≡ getD s p 0 ∷ getD s (p + 1) 0 ∷ getD s (p + 2) 0 ∷ getD s (p + 3) 0 ∷ getD s (p + 4) 0 ∷ getD s (p + 5) 0 ∷ []
+six-listed s p h = listed-from s p watchFieldsSize (omega arith) ∙ rw add-zero
 
 module _ (s : Octets) (k : ℕ) (h : k < mostWatches) where
+  -- where place k begins
+  abbrev at : ℕ
+  at = k * watchSize
+
   abbrev row : Octets
-  row = take watchSize (drop (k * watchSize) s)
+  row = take watchSize (drop at s)
 
   abbrev head : ℕ
-  head = field s (k * watchSize) 6
+  head = field s at watchFieldsSize
 
   place-is : getD (watchesOf s) k none ≡ cond (eqb (bitsAt head 47 1) 1) (some (watchAt row head)) none
   unfolding watchIn
-  place-is = watch-at s k h ∙ rw (field-part s (k * watchSize) watchSize 0 6 (omega arith), add-zero)
+  place-is = watch-at s k h ∙ rw (field-part s at watchSize 0 watchFieldsSize (omega arith), add-zero)
 
   pub is-read : taken (getD (watchesOf s) k none) ≡ true → watchOf s k ≡ watchAt row head
   is-read u =
@@ -54,17 +58,17 @@ module _ (s : Octets) (k : ℕ) (h : k < mostWatches) where
 
   module _ (bytes : Bytes s) (whole : length s ≡ watchesSize) where
     record HeadBytes : Type 0 where
-      first : getD s (k * 302) 0 < 256
-      second : getD s (k * 302 + 1) 0 < 256
-      third : getD s (k * 302 + 2) 0 < 256
-      fourth : getD s (k * 302 + 3) 0 < 256
-      fifth : getD s (k * 302 + 4) 0 < 256
-      sixth : getD s (k * 302 + 5) 0 < 256
-      sum : head ≡ ((getD s (k * 302) 0 * 256 + getD s (k * 302 + 1) 0) * 256 + getD s (k * 302 + 2) 0) * 16777216 + ((getD s (k * 302 + 3) 0 * 256 + getD s (k * 302 + 4) 0) * 256 + getD s (k * 302 + 5) 0)
+      first : getD s at 0 < 256
+      second : getD s (at + 1) 0 < 256
+      third : getD s (at + 2) 0 < 256
+      fourth : getD s (at + 3) 0 < 256
+      fifth : getD s (at + 4) 0 < 256
+      sixth : getD s (at + 5) 0 < 256
+      sum : head ≡ ((getD s at 0 * 256 + getD s (at + 1) 0) * 256 + getD s (at + 2) 0) * 16777216
+          + ((getD s (at + 3) 0 * 256 + getD s (at + 4) 0) * 256 + getD s (at + 5) 0)
 
     head-bytes : HeadBytes
     head-bytes =
-        let at = k * 302 in
         let four : at + 3 + 1 ≡ at + 4 = omega arith in
         let five : at + 3 + 2 ≡ at + 5 = omega arith in
         let low = field-three s (at + 3) (omega arith) in
@@ -78,45 +82,46 @@ module _ (s : Octets) (k : ℕ) (h : k < mostWatches) where
           sum = field-split s at 3 3 (omega arith) ∙ ap₂ (λ (a b : ℕ). a * 16777216 + b) (field-three s at (omega arith)) (rw (four, five) at low);
         }
 
-    pub used-byte : leb 128 (getD s (k * 302) 0) ≡ taken (getD (watchesOf s) k none)
+    pub used-byte : leb 128 (getD s at 0) ≡ taken (getD (watchesOf s) k none)
     unfolding bitsAt
     used-byte =
-        let b = getD s (k * 302) 0 in
+        let b = getD s at 0 in
         let f = head-bytes in
         rw (place-is, taken-cond)
         (agree (λ p. eq-eqb (bitsAt head 47 1) 1 (omega (arith, leb-true 128 b p))) (λ p. ne-eqb (bitsAt head 47 1) 1 (λ q. omega (arith, leb-false 128 b p, q))))
 
-    pub owner-is : getD s (k * 302 + 2) 0 * 256 + getD s (k * 302 + 3) 0 ≡ bitsAt head 16 16
+    pub owner-is : getD s (at + 2) 0 * 256 + getD s (at + 3) 0 ≡ bitsAt head 16 16
     unfolding bitsAt
     owner-is = omega (arith, head-bytes)
 
-    pub owner-two : (r : ℕ) → Two s (k * 302 + 2) r → r ≡ bitsAt head 16 16
+    pub owner-two : (r : ℕ) → Two s (at + 2) r → r ≡ bitsAt head 16 16
     unfolding bitsAt
     owner-two r w =
-        let e : k * 302 + 2 + 1 ≡ k * 302 + 3 = omega arith in
+        let e : at + 2 + 1 ≡ at + 3 = omega arith in
         let v = rw e at (w .value) in
         omega (arith, head-bytes)
 
-    pub lengths : ((getD s (k * 302 + 4) 0 * 256 + getD s (k * 302 + 5) 0) / 128 ≡ pathLength s k) × ((getD s (k * 302 + 4) 0 * 256 + getD s (k * 302 + 5) 0) % 64 ≡ tokenLength s k)
+    pub lengths : ((getD s (at + 4) 0 * 256 + getD s (at + 5) 0) / 128 ≡ pathLength s k)
+        × ((getD s (at + 4) 0 * 256 + getD s (at + 5) 0) % 64 ≡ tokenLength s k)
     unfolding bitsAt pathLength tokenLength
     lengths = let f = head-bytes in (omega arith, omega arith)
 
-    pub lengths-two : (r : ℕ) → Two s (k * 302 + 4) r → (r / 128 ≡ pathLength s k) × (r % 64 ≡ tokenLength s k)
+    pub lengths-two : (r : ℕ) → Two s (at + 4) r → (r / 128 ≡ pathLength s k) × (r % 64 ≡ tokenLength s k)
     lengths-two r w =
-        let e : k * 302 + 4 + 1 ≡ k * 302 + 5 = omega arith in
+        let e : at + 4 + 1 ≡ at + 5 = omega arith in
         let v = rw e at (w .value) in
         rw v lengths
 
     -- the marks and the depth
-    pub marks : (getD s (k * 302) 0 / 64 % 2 ≡ bitsAt head 46 1) × (getD s (k * 302) 0 / 32 % 2 ≡ bitsAt head 45 1) × (getD s (k * 302 + 1) 0 ≡ bitsAt head 32 8)
+    pub marks : (getD s at 0 / 64 % 2 ≡ bitsAt head 46 1) × (getD s at 0 / 32 % 2 ≡ bitsAt head 45 1) × (getD s (at + 1) 0 ≡ bitsAt head 32 8)
     unfolding bitsAt
     marks = let f = head-bytes in (omega arith, omega arith, omega arith)
 
-    pub owner-read : taken (getD (watchesOf s) k none) ≡ true → (r : ℕ) → Two s (k * 302 + 2) r → r ≡ watchOf s k .owner
+    pub owner-read : taken (getD (watchesOf s) k none) ≡ true → (r : ℕ) → Two s (at + 2) r → r ≡ watchOf s k .owner
     unfolding watchAt
     owner-read u r w = owner-two r w ∙ sym (ap Watch.owner (is-read u))
 
-    pub depth-read : taken (getD (watchesOf s) k none) ≡ true → watchOf s k .depth ≡ cond (eqb (getD s (k * 302) 0 / 32 % 2) 1) (some (getD s (k * 302 + 1) 0)) none
+    pub depth-read : taken (getD (watchesOf s) k none) ≡ true → watchOf s k .depth ≡ cond (eqb (getD s at 0 / 32 % 2) 1) (some (getD s (at + 1) 0)) none
     unfolding watchAt
     depth-read u = ap Watch.depth (is-read u) ∙ rw (marks .1, marks .2)
 
@@ -134,28 +139,28 @@ module _ (s : Octets) (k : ℕ) (h : k < mostWatches) where
     abbrev v : Watch
     v = watchAt row head
 
-    first-six : getD s (k * 302) 0 ∷ getD s (k * 302 + 1) 0 ∷ getD s (k * 302 + 2) 0 ∷ getD s (k * 302 + 3) 0 ∷ getD s (k * 302 + 4) 0 ∷ getD s (k * 302 + 5) 0 ∷ [] ≡ sixOf v
+    first-six : getD s at 0 ∷ getD s (at + 1) 0 ∷ getD s (at + 2) 0 ∷ getD s (at + 3) 0 ∷ getD s (at + 4) 0 ∷ getD s (at + 5) 0 ∷ [] ≡ sixOf v
     first-six =
-        sym (six-listed s (k * 302) (omega arith))
-        ∙ sym (take-take 6 watchSize (drop (k * 302) s) (lit≤ tt))
-        ∙ ap (take 6) (own ∙ watch-parts v (read-narrow row head))
-        ∙ take-at (sixOf v) (padded 264 (placeText (v .place)) ++ padded 32 (v .token)) 6 refl
+        sym (six-listed s at (omega arith))
+        ∙ sym (take-take watchFieldsSize watchSize (drop at s) (lit≤ tt))
+        ∙ ap (take watchFieldsSize) (own ∙ watch-parts v (read-narrow row head))
+        ∙ take-at (sixOf v) (padded longestPath (placeText (v .place)) ++ padded longestToken (v .token)) watchFieldsSize refl
 
     record Said : Type 0 where
       path : pathLength s k ≡ length (placeText (v .place))
       token : tokenLength s k ≡ length (v .token)
       relative : bitsAt head 46 1 ≡ bit (isRelative (v .place))
-      zeros : (getD s (k * 302) 0 % 32 ≡ 0) × (getD s (k * 302 + 5) 0 / 64 % 2 ≡ 0)
-      depth : getD s (k * 302 + 1) 0 ≡ entryOr 0 (v .depth)
-      given : getD s (k * 302) 0 / 32 % 2 ≡ bit (taken (v .depth))
+      zeros : (getD s at 0 % 32 ≡ 0) × (getD s (at + 5) 0 / 64 % 2 ≡ 0)
+      depth : getD s (at + 1) 0 ≡ entryOr 0 (v .depth)
+      given : getD s at 0 / 32 % 2 ≡ bit (taken (v .depth))
 
     said : Said
     said =
         let e = first-six in
-        let b0 : getD s (k * 302) 0 ≡ 128 + 64 * bit (isRelative (v .place)) + 32 * bit (taken (v .depth)) = cc in
-        let b1 : getD s (k * 302 + 1) 0 ≡ entryOr 0 (v .depth) = cc in
-        let b4 : getD s (k * 302 + 4) 0 ≡ length (placeText (v .place)) / 2 % 256 = cc in
-        let b5 : getD s (k * 302 + 5) 0 ≡ length (placeText (v .place)) % 2 * 128 + length (v .token) = cc in
+        let b0 : getD s at 0 ≡ 128 + 64 * bit (isRelative (v .place)) + 32 * bit (taken (v .depth)) = cc in
+        let b1 : getD s (at + 1) 0 ≡ entryOr 0 (v .depth) = cc in
+        let b4 : getD s (at + 4) 0 ≡ length (placeText (v .place)) / 2 % 256 = cc in
+        let b5 : getD s (at + 5) 0 ≡ length (placeText (v .place)) % 2 * 128 + length (v .token) = cc in
         let n = read-narrow row head in
         let m = marks-back _ _ _ b0 (bit-small (isRelative (v .place))) (bit-small (taken (v .depth))) in
         let l = lengths-back _ _ _ _ b4 b5 (n .path) (n .token) in
@@ -164,26 +169,28 @@ module _ (s : Octets) (k : ℕ) (h : k < mostWatches) where
 
     pub fields-said : fieldsSame s k ≡ true
     unfolding fieldsSame depthSame taken entryOr
-    fields-said = rw (said .zeros .0, said .zeros .1, le-leb (tokenLength s k) 32 (rw (said .token) (read-narrow row head .token))) (go (v .depth) (said .given) (said .depth))
+    fields-said =
+        rw (said .zeros .0, said .zeros .1, le-leb (tokenLength s k) longestToken (rw (said .token) (read-narrow row head .token)))
+        (go (v .depth) (said .given) (said .depth))
       where
-        go : (m : Option ℕ) → getD s (k * 302) 0 / 32 % 2 ≡ bit (taken m) → getD s (k * 302 + 1) 0 ≡ entryOr 0 m
-            → (eqb (getD s (k * 302) 0 / 32 % 2) 1 || eqb (getD s (k * 302 + 1) 0) 0) ≡ true
+        go : (m : Option ℕ) → getD s at 0 / 32 % 2 ≡ bit (taken m) → getD s (at + 1) 0 ≡ entryOr 0 m
+            → (eqb (getD s at 0 / 32 % 2) 1 || eqb (getD s (at + 1) 0) 0) ≡ true
         go none p q = rw (p, q)
         go (some d) p q = rw p
 
-    pub path-within : pathLength s k ≤ 264
+    pub path-within : pathLength s k ≤ longestPath
     path-within = rw (said .path) (read-narrow row head .path)
 
-    pub token-within : tokenLength s k ≤ 32
+    pub token-within : tokenLength s k ≤ longestToken
     token-within = rw (said .token) (read-narrow row head .token)
 
-    pub path-text : placeText (v .place) ≡ textAt row 6 264 (pathLength s k)
+    pub path-text : placeText (v .place) ≡ textAt row watchFieldsSize longestPath (pathLength s k)
     unfolding watchAt pathLength
     path-text =
-        let x = textAt row 6 264 (bitsAt head 7 9) in
+        let x = textAt row watchFieldsSize longestPath (bitsAt head 7 9) in
         let r = eqb (bitsAt head 46 1) 1 in
         let q : bitsAt head 7 9 ≡ length (placeText (placeIn r x)) = said .path in
-        place-whole r x (omega (arith, place-short r x, text-few row 6 264 (bitsAt head 7 9)))
+        place-whole r x (omega (arith, place-short r x, text-few row watchFieldsSize longestPath (bitsAt head 7 9)))
 
     pub relative-said : eqb (bitsAt head 46 1) 1 ≡ isRelative (v .place)
     relative-said = rw (said .relative) (bit-back (isRelative (v .place)))
@@ -192,13 +199,13 @@ module _ (s : Octets) (k : ℕ) (h : k < mostWatches) where
     own : OwnBytes
     own = own-bytes c u
 
-    pub path-length-within : pathLength s k ≤ 264
+    pub path-length-within : pathLength s k ≤ longestPath
     path-length-within = path-within bytes (c .whole) own
 
-    pub token-length-within : tokenLength s k ≤ 32
+    pub token-length-within : tokenLength s k ≤ longestToken
     token-length-within = token-within bytes (c .whole) own
 
-    pub relative-read : eqb (getD s (k * 302) 0 / 64 % 2) 1 ≡ isRelative (watchOf s k .place)
+    pub relative-read : eqb (getD s at 0 / 64 % 2) 1 ≡ isRelative (watchOf s k .place)
     relative-read = rw (is-read u, marks bytes (c .whole) .0) (relative-said bytes (c .whole) own)
 
     -- the place that its own text and mark mean
@@ -206,12 +213,14 @@ module _ (s : Octets) (k : ℕ) (h : k < mostWatches) where
     unfolding watchAt pathLength
     place-again = rw (is-read u, ← relative-said bytes (c .whole) own, path-text bytes (c .whole) own)
 
-    pub path-part : take (k * 302 + 6 + pathLength s k - (k * 302 + 6)) (drop (k * 302 + 6) s) ≡ placeText (watchOf s k .place)
-    path-part = text-part s (k * 302) 302 6 264 (pathLength s k) path-length-within (lit≤ tt) ∙ sym (rw (is-read u) (path-text bytes (c .whole) own))
+    pub path-part : partAt s (at + watchFieldsSize) (pathLength s k) ≡ placeText (watchOf s k .place)
+    path-part =
+        text-part s at watchSize watchFieldsSize longestPath (pathLength s k) path-length-within (lit≤ tt)
+        ∙ sym (rw (is-read u) (path-text bytes (c .whole) own))
 
-    pub token-part : take (k * 302 + 270 + tokenLength s k - (k * 302 + 270)) (drop (k * 302 + 270) s) ≡ watchOf s k .token
+    pub token-part : partAt s (at + tokenAt) (tokenLength s k) ≡ watchOf s k .token
     unfolding watchAt tokenLength
-    token-part = text-part s (k * 302) 302 270 32 (tokenLength s k) token-length-within (lit≤ tt) ∙ sym (ap Watch.token (is-read u))
+    token-part = text-part s at watchSize tokenAt longestToken (tokenLength s k) token-length-within (lit≤ tt) ∙ sym (ap Watch.token (is-read u))
 
 -- ── finding ──
 

@@ -6,7 +6,7 @@ use mathlib.Core.Option.{Option, none, some}
 use Prim.Native.Nat.{ℕ, _*_, _<_, _≤_}
 use lib.Dec.{eqb}
 use lib.ListN.{length, getD}
-use Rattle.rules.specs.Size.{mostWatches, watchSize, longestPath, longestToken}
+use Rattle.rules.specs.Size.{mostWatches, watchFieldsSize, watchSize, longestPath, longestToken}
 use Rattle.rules.specs.Octets.{Octets, field, bitsAt}
 use Rattle.rules.specs.Path.{Connection, special, given, isFull}
 use Rattle.rules.specs.Payload.{event}
@@ -34,10 +34,10 @@ ownedBy c w = eqb c (w .owner)
 
 -- the lengths as the fields have them
 unfoldable pub pathLength : Octets → ℕ → ℕ
-pathLength s k = bitsAt (field s (k * watchSize) 6) 7 9
+pathLength s k = bitsAt (field s (k * watchSize) watchFieldsSize) 7 9
 
 unfoldable pub tokenLength : Octets → ℕ → ℕ
-tokenLength s k = bitsAt (field s (k * watchSize) 6) 0 6
+tokenLength s k = bitsAt (field s (k * watchSize) watchFieldsSize) 0 6
 
 -- place k is taken, in a table whose bytes are those of what they mean
 pub record TakenWatch (s : Octets) (k : ℕ) : Type 0 where

@@ -16,12 +16,10 @@ ghost use Rattle.tables.specs.Kept.{keptAt, KeptDomains};
 use crate::numbers::two;
 use octets::compare::all_zero;
 use octets::parts::clear;
-
-pub const DOMAINS: usize = 8;
-
-const DOMAIN_SIZE: usize = 3;
-
-const LAST_DOMAIN: u32 = 32751;
+use octets::sizes::DOMAIN_SIZE;
+use octets::sizes::DOMAINS;
+use octets::sizes::DOMAINS_SIZE;
+use octets::sizes::LAST_DOMAIN;
 
 // Whether place k is taken.
 pub fn used(s: &[u8], k: usize) -> bool
@@ -162,7 +160,7 @@ fn good(s: &[u8]) -> bool
 pub fn sound_domains(s: &[u8]) -> bool
     ensures { λ r. ⌜ r ≡ soundDomains (now (s .entry)) ⌝ }
 {
-    if s.len() != DOMAINS * DOMAIN_SIZE {
+    if s.len() != DOMAINS_SIZE {
         return false;
     }
     if !kept(s) {

@@ -14,17 +14,17 @@ ghost use Rattle.tables.specs.Entry.{droppedIf};
 ghost use Rattle.tables.specs.Kept.{KeptTransactions};
 ghost use Rattle.tables.specs.Transaction.{opened, transactionOf, heldBy, staleOf, changeGiven, changedBy, Room};
 use crate::texts::put_text;
-use crate::transactions::CHANGE_SIZE;
-use crate::transactions::CHANGES_AT;
-use crate::transactions::PATH_AT;
-use crate::transactions::TRANSACTION_SIZE;
-use crate::transactions::TRANSACTIONS;
 use crate::transactions::changes;
 use crate::transactions::held;
 use crate::transactions::is_open;
 use octets::parts::clear;
-
-const LONGEST_PATH: usize = 264;
+use octets::sizes::CHANGE_FIELDS_SIZE;
+use octets::sizes::CHANGE_SIZE;
+use octets::sizes::CHANGES_AT;
+use octets::sizes::CHANGES_SIZE;
+use octets::sizes::LONGEST_PATH;
+use octets::sizes::TRANSACTION_SIZE;
+use octets::sizes::TRANSACTIONS;
 
 // Opens place k for connection c: not stale, and with no changes.
 pub fn open(s: &mut [u8], k: usize, c: u32)
@@ -32,7 +32,7 @@ pub fn open(s: &mut [u8], k: usize, c: u32)
     ensures { λ _. ⌜ now (s .exit) ≡ transactionsBytes (set (transactionsOf (now (s .entry))) k (some (opened c))) ⌝ }
 {
     let at = k * TRANSACTION_SIZE;
-    clear(s, at + CHANGES_AT, TRANSACTION_SIZE - CHANGES_AT);
+    clear(s, at + CHANGES_AT, CHANGES_SIZE);
     s[at] = 128;
     s[at + 1] = (c / 256 % 256) as u8;
     s[at + 2] = (c % 256) as u8;
@@ -61,7 +61,7 @@ fn put_change(s: &mut [u8], at: usize, removed: bool, path: &[u8])
     requires { ⌜ (at + changeSize ≤ length (now s)) × (isFull (now path) ≡ true) × (length (now path) ≤ longestPath) ⌝ }
     ensures { λ _. ⌜ now (s .exit) ≡ paste at (changeBytes (changeGiven removed (now (path .entry)))) (now (s .entry)) ⌝ }
 {
-    put_text(s, at + PATH_AT, path, LONGEST_PATH);
+    put_text(s, at + CHANGE_FIELDS_SIZE, path, LONGEST_PATH);
     let n = path.len();
     s[at] = removal_mark(removed) + (n / 256 % 2) as u8;
     s[at + 1] = (n % 256) as u8;

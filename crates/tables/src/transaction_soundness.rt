@@ -14,11 +14,6 @@ ghost use Rattle.tables.specs.Transaction.{transactionOf, changeOf, Open
 ghost use Rattle.tables.specs.Entries.{changeKept, changesKept, goodOpen, allOpenGood, soundEntries};
 use crate::domains::known;
 use crate::numbers::two;
-use crate::transactions::CHANGE_SIZE;
-use crate::transactions::CHANGES_AT;
-use crate::transactions::PATH_AT;
-use crate::transactions::TRANSACTION_SIZE;
-use crate::transactions::TRANSACTIONS;
 use crate::transactions::changes;
 use crate::transactions::holder;
 use crate::transactions::is_open;
@@ -26,14 +21,19 @@ use crate::transactions::path;
 use crate::transactions::removed;
 use octets::compare::all_zero;
 use octets::compare::rest_zero;
+use octets::sizes::CHANGE_FIELDS_SIZE;
+use octets::sizes::CHANGE_SIZE;
+use octets::sizes::CHANGES_AT;
+use octets::sizes::CHANGES_SIZE;
+use octets::sizes::LONGEST_PATH;
+use octets::sizes::MOST_CHANGES;
+use octets::sizes::TRANSACTION_SIZE;
+use octets::sizes::TRANSACTIONS;
+use octets::sizes::TRANSACTIONS_SIZE;
 use paths::answer::Form;
 use paths::form::form;
 use paths::names::depth;
 use paths::names::fits;
-
-const LONGEST_PATH: usize = 264;
-
-const MOST_CHANGES: usize = 8;
 
 // ── bytes that are those of what they mean ──
 
@@ -61,7 +61,7 @@ fn change_kept(s: &[u8], at: usize) -> bool
     if LONGEST_PATH < n {
         return false;
     }
-    let from = at + PATH_AT;
+    let from = at + CHANGE_FIELDS_SIZE;
     if !is_full(&s[from..from + n]) {
         return false;
     }
@@ -102,12 +102,7 @@ fn place_kept(s: &[u8], k: usize) -> bool
     if !changes_kept(s, at + CHANGES_AT, n) {
         return false;
     }
-    rest_zero(
-        s,
-        at + CHANGES_AT,
-        n * CHANGE_SIZE,
-        MOST_CHANGES * CHANGE_SIZE,
-    )
+    rest_zero(s, at + CHANGES_AT, n * CHANGE_SIZE, CHANGES_SIZE)
 }
 
 // Whether the bytes are those of what they mean.
@@ -190,7 +185,7 @@ pub fn sound_entries(s: &[u8], domains: &[u8]) -> bool
     requires { ⌜ length (now domains) ≡ domainsSize ⌝ }
     ensures { λ r. ⌜ r ≡ soundEntries (domainsOf (now (domains .entry))) (now (s .entry)) ⌝ }
 {
-    if s.len() != TRANSACTIONS * TRANSACTION_SIZE {
+    if s.len() != TRANSACTIONS_SIZE {
         return false;
     }
     if !kept(s) {

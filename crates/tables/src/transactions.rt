@@ -11,18 +11,11 @@ ghost use Rattle.tables.specs.Entry.{taken, passes};
 ghost use Rattle.tables.specs.Kept.{KeptTransactions};
 ghost use Rattle.tables.specs.Transaction.{transactionOf, changeOf, OpenTransaction, HasChange, heldBy};
 use crate::numbers::two;
-
-pub const TRANSACTIONS: usize = 3;
-
-pub const TRANSACTION_SIZE: usize = 2131;
-
-// Where the changes begin, and how many bytes each has.
-pub const CHANGES_AT: usize = 3;
-
-pub const CHANGE_SIZE: usize = 266;
-
-// Where a change's path begins.
-pub const PATH_AT: usize = 2;
+use octets::sizes::CHANGE_FIELDS_SIZE;
+use octets::sizes::CHANGE_SIZE;
+use octets::sizes::CHANGES_AT;
+use octets::sizes::TRANSACTION_SIZE;
+use octets::sizes::TRANSACTIONS;
 
 // Whether place k is open.
 pub fn is_open(s: &[u8], k: usize) -> bool
@@ -69,7 +62,7 @@ pub fn path(s: &[u8], k: usize, j: usize) -> &[u8]
 {
     let at = k * TRANSACTION_SIZE + CHANGES_AT + j * CHANGE_SIZE;
     let n = (two(s, at) % 512) as usize;
-    let from = at + PATH_AT;
+    let from = at + CHANGE_FIELDS_SIZE;
     &s[from..from + n]
 }
 

@@ -5,7 +5,7 @@ ghost use mathlib.Core.Option.{none, some};
 ghost use Prim.Native.Nat.{_+_, _*_, _/_, _%_, _<_, _≤_};
 ghost use lib.Dec.{eqb};
 ghost use lib.ListN.{length, getD, set};
-ghost use Rattle.rules.specs.Size.{mostWatches, longestToken};
+ghost use Rattle.rules.specs.Size.{mostWatches, watchFieldsSize, longestToken};
 ghost use Rattle.rules.specs.Octets.{paste, bit};
 ghost use Rattle.rules.specs.Entries.{without};
 ghost use Rattle.rules.specs.Layout.{watchesBytes, watchesOf};
@@ -16,17 +16,15 @@ ghost use Rattle.tables.specs.Kept.{KeptWatches};
 ghost use Rattle.tables.specs.Watch.{depthMeant, ownedBy, FitWatch, watchGiven};
 use crate::Depth;
 use crate::texts::put_text;
-use crate::watches::PATH_AT;
-use crate::watches::TOKEN_AT;
-use crate::watches::WATCH_SIZE;
-use crate::watches::WATCHES;
 use crate::watches::is_twin;
 use crate::watches::owned;
 use octets::parts::clear;
-
-const LONGEST_PATH: usize = 264;
-
-const LONGEST_TOKEN: usize = 32;
+use octets::sizes::LONGEST_PATH;
+use octets::sizes::LONGEST_TOKEN;
+use octets::sizes::TOKEN_AT;
+use octets::sizes::WATCH_FIELDS_SIZE;
+use octets::sizes::WATCH_SIZE;
+use octets::sizes::WATCHES;
 
 // The first byte of a watch: it is used, whether its path was given relative, and whether a depth was given.
 fn marks(relative: bool, depth: Depth) -> u8
@@ -50,7 +48,7 @@ fn levels(depth: Depth) -> u8
 
 // Puts the fields of a watch into the six bytes from `at` on.
 fn put_fields(s: &mut [u8], at: usize, first: u8, depth: u8, c: u32, path: usize, token: usize)
-    requires { ⌜ (at + 6 ≤ length (now s)) × (token ≤ longestToken) ⌝ }
+    requires { ⌜ (at + watchFieldsSize ≤ length (now s)) × (token ≤ longestToken) ⌝ }
     ensures { λ _. ⌜ now (s .exit) ≡ paste at (first ∷ depth ∷ (c / 256 % 256) ∷ (c % 256) ∷ (path / 2 % 256) ∷ (path % 2 * 128 + token) ∷ []) (now (s .entry)) ⌝ }
 {
     s[at] = first;
@@ -68,7 +66,7 @@ pub fn add(s: &mut [u8], k: usize, c: u32, path: &[u8], relative: bool, depth: D
 {
     let at = k * WATCH_SIZE;
     put_text(s, at + TOKEN_AT, token, LONGEST_TOKEN);
-    put_text(s, at + PATH_AT, path, LONGEST_PATH);
+    put_text(s, at + WATCH_FIELDS_SIZE, path, LONGEST_PATH);
     put_fields(
         s,
         at,

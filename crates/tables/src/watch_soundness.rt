@@ -15,10 +15,6 @@ ghost use Rattle.tables.specs.Watch.{depthMeant};
 ghost use Rattle.tables.specs.WatchKept.{placeSame, depthSame, fieldsSame};
 use crate::Depth;
 use crate::domains::known;
-use crate::watches::PATH_AT;
-use crate::watches::TOKEN_AT;
-use crate::watches::WATCH_SIZE;
-use crate::watches::WATCHES;
 use crate::watches::depth;
 use crate::watches::owner;
 use crate::watches::path;
@@ -31,14 +27,17 @@ use crate::watches::watched_from;
 use octets::compare::all_zero;
 use octets::compare::begins;
 use octets::compare::rest_zero;
+use octets::sizes::LONGEST_PATH;
+use octets::sizes::LONGEST_TOKEN;
+use octets::sizes::TOKEN_AT;
+use octets::sizes::WATCH_FIELDS_SIZE;
+use octets::sizes::WATCH_SIZE;
+use octets::sizes::WATCHES;
+use octets::sizes::WATCHES_SIZE;
 use paths::answer::Form;
 use paths::form::form;
 use paths::full::full;
 use paths::names::fits;
-
-const LONGEST_PATH: usize = 264;
-
-const LONGEST_TOKEN: usize = 32;
 
 // ── bytes that are those of what they mean ──
 
@@ -102,7 +101,7 @@ fn place_kept(s: &[u8], k: usize) -> bool
     if LONGEST_PATH < n {
         return false;
     }
-    let from = at + PATH_AT;
+    let from = at + WATCH_FIELDS_SIZE;
     if !place_same(s[at] / 64 % 2 == 1, &s[from..from + n]) {
         return false;
     }
@@ -223,7 +222,7 @@ pub fn sound_watches(s: &[u8], domains: &[u8]) -> bool
     requires { ⌜ length (now domains) ≡ domainsSize ⌝ }
     ensures { λ r. ⌜ r ≡ soundWatches (domainsOf (now (domains .entry))) (now (s .entry)) ⌝ }
 {
-    if s.len() != WATCHES * WATCH_SIZE {
+    if s.len() != WATCHES_SIZE {
         return false;
     }
     if !kept(s) {

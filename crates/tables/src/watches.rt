@@ -15,15 +15,10 @@ ghost use Rattle.tables.specs.Watch.{depthMeant, watchOf, pathLength, to
 use crate::Depth;
 use crate::numbers::two;
 use octets::compare::same;
-
-pub const WATCHES: usize = 16;
-
-pub const WATCH_SIZE: usize = 302;
-
-// Where a watch's path and token begin.
-pub const PATH_AT: usize = 6;
-
-pub const TOKEN_AT: usize = 270;
+use octets::sizes::TOKEN_AT;
+use octets::sizes::WATCH_FIELDS_SIZE;
+use octets::sizes::WATCH_SIZE;
+use octets::sizes::WATCHES;
 
 // Whether place k is taken.
 pub fn used(s: &[u8], k: usize) -> bool
@@ -80,7 +75,7 @@ pub fn path(s: &[u8], k: usize) -> &[u8]
     ensures { λ r. ⌜ now r ≡ placeText (watchOf (now (s .entry)) k .place) ⌝ }
 {
     let n = path_length(s, k);
-    let from = k * WATCH_SIZE + PATH_AT;
+    let from = k * WATCH_SIZE + WATCH_FIELDS_SIZE;
     &s[from..from + n]
 }
 

@@ -3,6 +3,7 @@ use Prim.Native.Nat.{_≤_, _-_}
 use native.Mathlib.Omega.{arith}
 use lib.ListN.{drop}
 use borrow.Author.Tests.{not-true, not-false}
+use Rattle.rules.specs.Size.{mostDomains}
 use Rattle.rules.specs.Layout.{domainsOf}
 use Rattle.rules.specs.Sound.{goodDomains}
 use Rattle.tables.proofs.Bytes.{and-first, and-rest}
@@ -11,10 +12,10 @@ use Rattle.tables.proofs.domains.good.Statement.{statement}
 use Rattle.tables.proofs.domains.good.Tie as tie
 
 abbrev Inv-loop : tie.InvT-loop
-Inv-loop s i₀ i = (i ≤ 8) × (goodDomains (domainsOf s) ≡ goodDomains (drop i (domainsOf s)))
+Inv-loop s i₀ i = (i ≤ mostDomains) × (goodDomains (domainsOf s) ≡ goodDomains (drop i (domainsOf s)))
 
 abbrev μ-loop : tie.MeasureT-loop
-μ-loop s i₀ i = 8 - i
+μ-loop s i₀ i = mostDomains - i
 
 loop-holds : tie.Need-loop-holds Inv-loop μ-loop
 loop-holds c = (omega arith, refl)

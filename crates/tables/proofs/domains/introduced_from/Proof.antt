@@ -3,6 +3,7 @@ use Prim.Native.Nat.{_≤_, _-_}
 use native.Mathlib.Omega.{arith}
 use lib.Dec.{eqb}
 use lib.ListN.{drop}
+use Rattle.rules.specs.Size.{mostDomains}
 use Rattle.rules.specs.Entries.{has}
 use Rattle.rules.specs.Layout.{domainsOf}
 use Rattle.tables.proofs.Search.{has-here, has-further, has-over}
@@ -11,10 +12,10 @@ use Rattle.tables.proofs.domains.introduced_from.Statement.{statement}
 use Rattle.tables.proofs.domains.introduced_from.Tie as tie
 
 abbrev Inv-loop : tie.InvT-loop
-Inv-loop s from d i₀ i = (i ≤ 8) × (has (eqb d) (drop from (domainsOf s)) ≡ has (eqb d) (drop i (domainsOf s)))
+Inv-loop s from d i₀ i = (i ≤ mostDomains) × (has (eqb d) (drop from (domainsOf s)) ≡ has (eqb d) (drop i (domainsOf s)))
 
 abbrev μ-loop : tie.MeasureT-loop
-μ-loop s from d i₀ i = 8 - i
+μ-loop s from d i₀ i = mostDomains - i
 
 loop-holds : tie.Need-loop-holds Inv-loop μ-loop
 loop-holds c = (omega arith, refl)

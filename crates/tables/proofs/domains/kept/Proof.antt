@@ -2,6 +2,7 @@ use mathlib.Core.Path.{_≡_, sym, _∙_}
 use Prim.Native.Nat.{_≤_, _-_}
 use native.Mathlib.Omega.{arith}
 use borrow.Author.Tests.{not-true, not-false}
+use Rattle.rules.specs.Size.{mostDomains}
 use Rattle.rules.specs.Octets.{same}
 use Rattle.rules.specs.Layout.{domainsBytes, domainsOf}
 use Rattle.tables.proofs.Bytes.{and-first, and-rest}
@@ -10,10 +11,10 @@ use Rattle.tables.proofs.domains.kept.Statement.{statement}
 use Rattle.tables.proofs.domains.kept.Tie as tie
 
 abbrev Inv-loop : tie.InvT-loop
-Inv-loop s i₀ i = (i ≤ 8) × (same (domainsBytes (domainsOf s)) s ≡ keptRest s i)
+Inv-loop s i₀ i = (i ≤ mostDomains) × (same (domainsBytes (domainsOf s)) s ≡ keptRest s i)
 
 abbrev μ-loop : tie.MeasureT-loop
-μ-loop s i₀ i = 8 - i
+μ-loop s i₀ i = mostDomains - i
 
 loop-holds : tie.Need-loop-holds Inv-loop μ-loop
 loop-holds c = (omega arith, rest-start (c .before .args .s .now))

@@ -4,6 +4,7 @@ use native.Mathlib.Nat.{zero-add}
 use native.Mathlib.Omega.{arith}
 use lib.ListN.{drop}
 use borrow.Author.Tests.{not-true, not-false}
+use Rattle.rules.specs.Size.{mostDomains}
 use Rattle.rules.specs.Entries.{lowest}
 use Rattle.rules.specs.Layout.{domainsOf}
 use Rattle.tables.proofs.Search.{lowest-here, lowest-further, lowest-over}
@@ -12,10 +13,10 @@ use Rattle.tables.proofs.domains.lowest_free.Statement.{statement}
 use Rattle.tables.proofs.domains.lowest_free.Tie as tie
 
 abbrev Inv-loop : tie.InvT-loop
-Inv-loop s i₀ i = (i ≤ 8) × (lowest (domainsOf s) ≡ i + lowest (drop i (domainsOf s)))
+Inv-loop s i₀ i = (i ≤ mostDomains) × (lowest (domainsOf s) ≡ i + lowest (drop i (domainsOf s)))
 
 abbrev μ-loop : tie.MeasureT-loop
-μ-loop s i₀ i = 8 - i
+μ-loop s i₀ i = mostDomains - i
 
 loop-holds : tie.Need-loop-holds Inv-loop μ-loop
 loop-holds c = (omega arith, sym (zero-add _))

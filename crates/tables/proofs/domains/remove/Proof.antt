@@ -2,6 +2,7 @@ use mathlib.Core.Path.{_≡_, refl, sym, ap, _∙_}
 use Prim.Native.Nat.{_≤_, _-_}
 use native.Mathlib.Omega.{arith}
 use lib.Dec.{eqb}
+use Rattle.rules.specs.Size.{mostDomains}
 use Rattle.rules.specs.Layout.{domainsOf, domainsBytes}
 use Rattle.tables.specs.Entry.{droppedIf}
 use Rattle.tables.specs.Kept.{KeptDomains}
@@ -11,10 +12,10 @@ use Rattle.tables.proofs.domains.remove.Statement.{statement}
 use Rattle.tables.proofs.domains.remove.Tie as tie
 
 abbrev Inv-loop : tie.InvT-loop
-Inv-loop s₀ d i₀ s i = (i ≤ 8) × KeptDomains s × (domainsOf s ≡ swept (droppedIf (eqb d)) i (domainsOf s₀))
+Inv-loop s₀ d i₀ s i = (i ≤ mostDomains) × KeptDomains s × (domainsOf s ≡ swept (droppedIf (eqb d)) i (domainsOf s₀))
 
 abbrev μ-loop : tie.MeasureT-loop
-μ-loop s₀ d i₀ s i = 8 - i
+μ-loop s₀ d i₀ s i = mostDomains - i
 
 loop-holds : tie.Need-loop-holds Inv-loop μ-loop
 loop-holds c = (omega arith, c .before .pre, refl)

@@ -5,9 +5,6 @@ use Rattle.rules.specs.Sound.{soundDomains}
 use Rattle.tables.proofs.domains.sound_domains.Statement.{statement}
 use Rattle.tables.proofs.domains.sound_domains.Tie as tie
 
-mul-if1 : tie.Need-mul-if1
-mul-if1 c = search needs
-
 returns : tie.Need-returns
 unfolding soundDomains
 returns c = sym (rw (ne-eqb _ _ (c .if1 .taken)))
@@ -28,4 +25,4 @@ returns-3 c = c .good2 .ensures ∙ sym (rw (eq-eqb _ _ (c .before .before .befo
 
 pub sound-domains-spec : {M : Type 1} → statement M
 sound-domains-spec =
-    tie.close (tie.spec mul-if1 returns kept-requires returns-2 good-requires returns-3)
+    tie.close (tie.spec returns kept-requires returns-2 good-requires returns-3)

@@ -2,6 +2,7 @@ use mathlib.Core.Path.{ap, _∙_}
 use Prim.Native.Nat.{ℕ, _+_, _*_}
 use native.Mathlib.Omega.{arith}
 use lib.ListN.{getD, set, length-set}
+use Rattle.rules.specs.Size.{changesAt, transactionSize, changeSize}
 use Rattle.rules.specs.Octets.{Octets, paste}
 use Rattle.rules.specs.Layout.{changeBytes}
 use Rattle.tables.specs.Transaction.{changeGiven}
@@ -42,9 +43,11 @@ same-length c = simp length-set (omega arith)
 returns : tie.Need-returns
 returns c =
     let b = c .before .before .before .before .before .before .before .before .before in
-    let at = b .args .k * 2131 in
+    let at = b .args .k * transactionSize in
     let e = c .before .before .put-change .ensures in
-    ap (λ (l : Octets). set l at (getD (b .args .s .now) at 0 + 1)) (e ∙ ap (λ (n : ℕ). paste (at + 3 + n * 266) (changeBytes (changeGiven (b .args .removed) (b .args .path .now))) (b .args .s .now)) (c .before .before .before .before .changes .ensures .0))
+    ap (λ (l : Octets). set l at (getD (b .args .s .now) at 0 + 1))
+    (e ∙ ap (λ (n : ℕ). paste (at + changesAt + n * changeSize) (changeBytes (changeGiven (b .args .removed) (b .args .path .now))) (b .args .s .now))
+    (c .before .before .before .before .changes .ensures .0))
     ∙ put-changed (b .args .s .now) (b .args .k) (b .args .path .now) (b .pre) (b .args .removed)
 
 pub add-change-spec : {M : Type 1} → statement M

@@ -3,6 +3,7 @@ use Prim.Native.Nat.{_+_, _*_, _/_, _%_}
 use native.Mathlib.Omega.{arith}
 use lib.ListN.{set, length-set}
 use borrow.Author.Needs.{needs}
+use Rattle.rules.specs.Size.{transactionSize}
 use Rattle.rules.specs.Octets.{Octets}
 use Rattle.tables.proofs.TransactionChanges.{put-open}
 use Rattle.tables.proofs.transaction_changes.open.Statement.{statement}
@@ -13,9 +14,6 @@ mul-at c = search needs
 
 add-clear : tie.Need-add-clear
 add-clear c = search needs
-
-sub-clear : tie.Need-sub-clear
-sub-clear c = search needs
 
 clear-requires : tie.Need-clear-requires
 clear-requires c κs = let b = c .before .before in omega (arith, b .pre .0, b .pre .2 .whole)
@@ -47,7 +45,7 @@ same-length c = simp length-set (omega arith)
 returns : tie.Need-returns
 returns c =
     let b = c .before .before .before .before .before in
-    let at = b .args .k * 2131 in
+    let at = b .args .k * transactionSize in
     let o = b .args .c in
     ap (λ (l : Octets). set (set (set l at 128) (at + 1) (o / 256 % 256)) (at + 2) (o % 256)) (c .before .before .clear .ensures) ∙ put-open (b .args .s .now) (b .pre .2) (b .args .k) (b .pre .0) o (b .pre .1)
 
@@ -57,7 +55,6 @@ open-spec =
     (tie.spec
     mul-at
     add-clear
-    sub-clear
     clear-requires
     slice-write-s
     cast-s

@@ -1,6 +1,7 @@
 use mathlib.Core.Path.{_≡_, refl, sym, ap, _∙_}
 use Prim.Native.Nat.{_≤_, _-_}
 use native.Mathlib.Omega.{arith}
+use Rattle.rules.specs.Size.{mostTransactions}
 use Rattle.rules.specs.Layout.{transactionsOf, transactionsBytes}
 use Rattle.rules.specs.World.{withoutTransactions}
 use Rattle.tables.specs.Entry.{droppedIf}
@@ -13,10 +14,10 @@ use Rattle.tables.proofs.transaction_changes.remove_of.Statement.{state
 use Rattle.tables.proofs.transaction_changes.remove_of.Tie as tie
 
 abbrev Inv-loop : tie.InvT-loop
-Inv-loop s₀ c i₀ s i = (i ≤ 3) × KeptTransactions s × (transactionsOf s ≡ swept (droppedIf (heldBy c)) i (transactionsOf s₀))
+Inv-loop s₀ c i₀ s i = (i ≤ mostTransactions) × KeptTransactions s × (transactionsOf s ≡ swept (droppedIf (heldBy c)) i (transactionsOf s₀))
 
 abbrev μ-loop : tie.MeasureT-loop
-μ-loop s₀ c i₀ s i = 3 - i
+μ-loop s₀ c i₀ s i = mostTransactions - i
 
 loop-holds : tie.Need-loop-holds Inv-loop μ-loop
 loop-holds c = (omega arith, c .before .pre, refl)

@@ -3,6 +3,7 @@ use Prim.Native.Nat.{_≤_, _-_, _*_}
 use native.Mathlib.Omega.{arith}
 use lib.ListN.{take, drop}
 use borrow.Author.Tests.{not-true, not-false}
+use Rattle.rules.specs.Size.{changeSize}
 use Rattle.tables.specs.Entries.{changesKept}
 use Rattle.tables.proofs.Bytes.{and-first, and-rest}
 use Rattle.tables.proofs.ChangesKept.{changesRest, changes-start, changes-next, changes-end}
@@ -10,7 +11,7 @@ use Rattle.tables.proofs.transaction_soundness.changes_kept.Statement.{
 use Rattle.tables.proofs.transaction_soundness.changes_kept.Tie as tie
 
 abbrev Inv-loop : tie.InvT-loop
-Inv-loop s at n j₀ j = (j ≤ n) × (changesKept n (take (n * 266) (drop at s)) ≡ changesRest n (take (n * 266) (drop at s)) j)
+Inv-loop s at n j₀ j = (j ≤ n) × (changesKept n (take (n * changeSize) (drop at s)) ≡ changesRest n (take (n * changeSize) (drop at s)) j)
 
 abbrev μ-loop : tie.MeasureT-loop
 μ-loop s at n j₀ j = n - j

@@ -3,6 +3,7 @@ use Prim.Native.Nat.{_≤_, _-_}
 use native.Mathlib.Omega.{arith}
 use lib.ListN.{drop}
 use borrow.Author.Tests.{not-true, not-false}
+use Rattle.rules.specs.Size.{mostTransactions}
 use Rattle.rules.specs.Layout.{domainsOf, transactionsOf}
 use Rattle.tables.specs.Entries.{allOpenGood}
 use Rattle.tables.proofs.Bytes.{and-first, and-rest}
@@ -12,10 +13,11 @@ use Rattle.tables.proofs.transaction_soundness.good.Statement.{statemen
 use Rattle.tables.proofs.transaction_soundness.good.Tie as tie
 
 abbrev Inv-loop : tie.InvT-loop
-Inv-loop s domains i₀ i = (i ≤ 3) × (allOpenGood (domainsOf domains) (transactionsOf s) ≡ allOpenGood (domainsOf domains) (drop i (transactionsOf s)))
+Inv-loop s domains i₀ i =
+    (i ≤ mostTransactions) × (allOpenGood (domainsOf domains) (transactionsOf s) ≡ allOpenGood (domainsOf domains) (drop i (transactionsOf s)))
 
 abbrev μ-loop : tie.MeasureT-loop
-μ-loop s domains i₀ i = 3 - i
+μ-loop s domains i₀ i = mostTransactions - i
 
 loop-holds : tie.Need-loop-holds Inv-loop μ-loop
 loop-holds c = (omega arith, refl)

@@ -61,9 +61,6 @@ add-rest-zero c = let b = c .before .before .before .before .before .before .bef
 mul-rest-zero : tie.Need-mul-rest-zero
 mul-rest-zero c = omega (arith, c .before .before .if3 .left)
 
-mul-rest-zero-2 : tie.Need-mul-rest-zero-2
-mul-rest-zero-2 c = search needs
-
 rest-zero-requires : tie.Need-rest-zero-requires
 rest-zero-requires c κs = let b = c .before .before .before .before .before .before .before .before .before in (omega (arith, c .before .before .if3 .left), omega (arith, b .pre .0, b .pre .1))
 
@@ -92,6 +89,5 @@ place-kept-spec =
     returns-4
     add-rest-zero
     mul-rest-zero
-    mul-rest-zero-2
     rest-zero-requires
     returns-5)

@@ -4,6 +4,7 @@ use native.Mathlib.Nat.{zero-add}
 use native.Mathlib.Omega.{arith}
 use lib.ListN.{drop}
 use borrow.Author.Tests.{not-true, not-false}
+use Rattle.rules.specs.Size.{mostTransactions}
 use Rattle.rules.specs.Entries.{lowest}
 use Rattle.rules.specs.Layout.{transactionsOf}
 use Rattle.tables.specs.Transaction.{opened}
@@ -13,10 +14,10 @@ use Rattle.tables.proofs.transactions.lowest_free.Statement.{statement}
 use Rattle.tables.proofs.transactions.lowest_free.Tie as tie
 
 abbrev Inv-loop : tie.InvT-loop
-Inv-loop s i₀ i = (i ≤ 3) × (lowest (transactionsOf s) ≡ i + lowest (drop i (transactionsOf s)))
+Inv-loop s i₀ i = (i ≤ mostTransactions) × (lowest (transactionsOf s) ≡ i + lowest (drop i (transactionsOf s)))
 
 abbrev μ-loop : tie.MeasureT-loop
-μ-loop s i₀ i = 3 - i
+μ-loop s i₀ i = mostTransactions - i
 
 loop-holds : tie.Need-loop-holds Inv-loop μ-loop
 loop-holds c = (omega arith, sym (zero-add _))

@@ -2,6 +2,7 @@ use mathlib.Core.Path.{ap, _∙_}
 use Prim.Native.Nat.{_+_, _*_}
 use native.Mathlib.Omega.{arith}
 use borrow.Author.Needs.{needs}
+use Rattle.rules.specs.Size.{watchFieldsSize, watchSize}
 use Rattle.rules.specs.Octets.{paste}
 use Rattle.tables.proofs.WatchChanges.{put-watch}
 use Rattle.tables.proofs.watch_changes.add.Statement.{statement}
@@ -38,8 +39,11 @@ returns : tie.Need-returns
 returns c =
     let b = c .before .before .before .before .before .before .before .before .before .before .before .before .before .before .before .before .before in
     let l = c .before .before .before .levels .ensures in
+    let at = b .args .k * watchSize in
+    let p = c .before .before .before .before .before .before .before .before .put-text2 .ensures in
+    let t = c .before .before .before .before .before .before .before .before .before .before .before .before .put-text .ensures in
     c .before .before .put-fields .ensures
-    ∙ ap (paste (b .args .k * 302) _) (c .before .before .before .before .before .before .before .before .put-text2 .ensures ∙ ap (paste (b .args .k * 302 + 6) _) (c .before .before .before .before .before .before .before .before .before .before .before .before .put-text .ensures))
+    ∙ ap (paste at _) (p ∙ ap (paste (at + watchFieldsSize) _) t)
     ∙ put-watch (b .args .s .now) (b .pre .1) (b .args .k) (b .pre .0) (b .args .c) (b .args .path .now) (b .args .relative) (b .args .depth) (b .args .token .now) (b .pre .2) (rw (← l .0) (l .1)) _ _ (c .before .before .before .before .marks .ensures) (l .0)
 
 pub add-spec : {M : Type 1} → statement M

@@ -3,6 +3,7 @@ use Prim.Native.Nat.{_≤_, _-_}
 use native.Mathlib.Omega.{arith}
 use lib.ListN.{drop}
 use borrow.Author.Tests.{not-true, not-false}
+use Rattle.rules.specs.Size.{mostWatches}
 use Rattle.rules.specs.Layout.{domainsOf, watchesOf}
 use Rattle.rules.specs.Sound.{goodWatches}
 use Rattle.tables.proofs.Bytes.{and-first, and-rest}
@@ -12,10 +13,10 @@ use Rattle.tables.proofs.watch_soundness.good.Statement.{statement}
 use Rattle.tables.proofs.watch_soundness.good.Tie as tie
 
 abbrev Inv-loop : tie.InvT-loop
-Inv-loop s domains i₀ i = (i ≤ 16) × (goodWatches (domainsOf domains) (watchesOf s) ≡ goodWatches (domainsOf domains) (drop i (watchesOf s)))
+Inv-loop s domains i₀ i = (i ≤ mostWatches) × (goodWatches (domainsOf domains) (watchesOf s) ≡ goodWatches (domainsOf domains) (drop i (watchesOf s)))
 
 abbrev μ-loop : tie.MeasureT-loop
-μ-loop s domains i₀ i = 16 - i
+μ-loop s domains i₀ i = mostWatches - i
 
 loop-holds : tie.Need-loop-holds Inv-loop μ-loop
 loop-holds c = (omega arith, refl)

@@ -4,6 +4,7 @@ use native.Mathlib.Nat.{zero-add}
 use native.Mathlib.Omega.{arith}
 use lib.ListN.{drop}
 use borrow.Author.Tests.{not-true, not-false}
+use Rattle.rules.specs.Size.{mostWatches}
 use Rattle.rules.specs.Entries.{lowest}
 use Rattle.rules.specs.Layout.{watchesOf}
 use Rattle.tables.specs.Watch.{nobody}
@@ -13,10 +14,10 @@ use Rattle.tables.proofs.watches.lowest_free.Statement.{statement}
 use Rattle.tables.proofs.watches.lowest_free.Tie as tie
 
 abbrev Inv-loop : tie.InvT-loop
-Inv-loop s i₀ i = (i ≤ 16) × (lowest (watchesOf s) ≡ i + lowest (drop i (watchesOf s)))
+Inv-loop s i₀ i = (i ≤ mostWatches) × (lowest (watchesOf s) ≡ i + lowest (drop i (watchesOf s)))
 
 abbrev μ-loop : tie.MeasureT-loop
-μ-loop s i₀ i = 16 - i
+μ-loop s i₀ i = mostWatches - i
 
 loop-holds : tie.Need-loop-holds Inv-loop μ-loop
 loop-holds c = (omega arith, sym (zero-add _))

@@ -2,6 +2,7 @@ use mathlib.Core.Path.{_≡_, refl, sym, _∙_}
 use Prim.Native.Nat.{_≤_, _-_}
 use native.Mathlib.Omega.{arith}
 use lib.ListN.{drop}
+use Rattle.rules.specs.Size.{mostWatches}
 use Rattle.rules.specs.Layout.{watchesOf}
 use Rattle.rules.specs.Sound.{twin, watched}
 use Rattle.tables.proofs.Search.{has-here, has-further, has-over}
@@ -10,10 +11,10 @@ use Rattle.tables.proofs.watches.watched_from.Statement.{statement}
 use Rattle.tables.proofs.watches.watched_from.Tie as tie
 
 abbrev Inv-loop : tie.InvT-loop
-Inv-loop s from c p t i₀ i = (i ≤ 16) × (watched c p t (drop from (watchesOf s)) ≡ watched c p t (drop i (watchesOf s)))
+Inv-loop s from c p t i₀ i = (i ≤ mostWatches) × (watched c p t (drop from (watchesOf s)) ≡ watched c p t (drop i (watchesOf s)))
 
 abbrev μ-loop : tie.MeasureT-loop
-μ-loop s from c p t i₀ i = 16 - i
+μ-loop s from c p t i₀ i = mostWatches - i
 
 loop-holds : tie.Need-loop-holds Inv-loop μ-loop
 loop-holds c = (omega arith, refl)
