@@ -18,7 +18,7 @@ ghost use Rattle.events.specs.Records.{Mask};
 ghost use Rattle.events.specs.Stores.{Store, eventName};
 use crate::hearing::hears;
 use octets::compare::same;
-use tables::watches::WATCHES;
+use octets::sizes::WATCHES;
 use tables::watches::path;
 use tables::watches::used;
 

@@ -16,16 +16,17 @@ use octets::numbers::number32;
 use octets::sizes::EVENTS_SIZE;
 use octets::sizes::HEADER_SIZE;
 use octets::sizes::LEN_AT;
-use octets::sizes::LONGEST_PAYLOAD;
 use octets::sizes::REPLY_SIZE;
 use octets::sizes::TABLE_SIZE;
+use octets::sizes::TRANSACTIONS;
 use soundness::table::sound;
 use tables::domains::known;
 use tables::domains::sound_domains;
 use tables::transaction_soundness::sound_entries;
-use tables::transactions::TRANSACTIONS;
 use tables::transactions::is_open;
 use tables::watch_soundness::sound_watches;
+
+const LONGEST_PAYLOAD: u32 = octets::sizes::LONGEST_PAYLOAD as u32;
 
 // Whether transaction k is closed or its copy a sound node table.
 fn sound_copy(copies: &[u8], transactions: &[u8], k: usize) -> bool
@@ -91,7 +92,7 @@ fn frame(message: &[u8]) -> u32
         return 4;
     }
     let len = number32(message, LEN_AT);
-    if (LONGEST_PAYLOAD as u32) < len {
+    if LONGEST_PAYLOAD < len {
         return 5;
     }
     if n == HEADER_SIZE + len as usize {

@@ -20,6 +20,7 @@ use events::others::first;
 use nodes::kinds::Errno;
 use nodes::kinds::Reply;
 use octets::sizes::LONGEST_TOKEN;
+use octets::sizes::WATCHES;
 use paths::names::fits;
 use replies::kinds::Outcome;
 use replies::kinds::okay;
@@ -29,7 +30,6 @@ use tables::transaction_changes::remove_of as end_all_of;
 use tables::watch_changes::add;
 use tables::watch_changes::remove_of;
 use tables::watch_changes::remove_twin;
-use tables::watches::WATCHES;
 use tables::watches::lowest_free;
 use tables::watches::watched;
 

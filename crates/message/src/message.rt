@@ -20,12 +20,14 @@ use octets::parts::copy;
 use octets::sizes::HEADER_SIZE;
 use octets::sizes::LEN_AT;
 use octets::sizes::LONGEST_PATH;
-use octets::sizes::RECORDS;
 use octets::sizes::REQ_AT;
 use octets::sizes::TX_AT;
-use octets::sizes::WATCHES;
 use tables::watches::token;
 use tables::watches::used;
+
+const RECORDS: u32 = octets::sizes::RECORDS as u32;
+
+const WATCHES: u32 = octets::sizes::WATCHES as u32;
 
 // Puts the header of an event message with n bytes of payload.
 fn put_header(into: &mut [u8], n: u32)
@@ -98,10 +100,10 @@ pub fn message<'a>(
     if count <= record {
         return Sent::Nothing;
     }
-    if RECORDS as u32 <= record {
+    if RECORDS <= record {
         return Sent::Nothing;
     }
-    if WATCHES as u32 <= watch {
+    if WATCHES <= watch {
         return Sent::Nothing;
     }
     let i = record as usize;

@@ -8,7 +8,6 @@ use octets::Number;
 use octets::compare::begins;
 use octets::compare::same;
 use octets::decimals::number_in;
-use octets::sizes::LAST_DOMAIN;
 use octets::written::digits;
 use paths::relation::is_below;
 use tables::Depth;
@@ -16,6 +15,8 @@ use tables::watches::depth;
 use tables::watches::owner;
 use tables::watches::path;
 use tables::watches::relative;
+
+const LAST_DOMAIN: u64 = octets::sizes::LAST_DOMAIN as u64;
 
 // Whether a text is a slash and a domain id.
 fn is_domain_path(p: &[u8]) -> bool
@@ -27,7 +28,7 @@ fn is_domain_path(p: &[u8]) -> bool
     if p[0] != b'/' {
         return false;
     }
-    match number_in(&p[1..], 0, LAST_DOMAIN as u64) {
+    match number_in(&p[1..], 0, LAST_DOMAIN) {
         Number::Is(_) => true,
         Number::Not => false,
     }
