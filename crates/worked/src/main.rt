@@ -1,5 +1,5 @@
-// Runs the worked lines of document 01 through the exported calls, each from the fresh store, and prints what was asked and
-// what came. A step is sender, type, tx_id and payload, with `|` for a nul; `slot K` shows how slot K begins, and
+// Runs the worked lines of document 01, and some more on full tables and on events, through the exported calls, each from the
+// fresh store, and prints what was asked and what came. A step is sender, type, tx_id and payload, with `|` for a nul; `slot K` shows how slot K begins, and
 // `children A B` makes the children of the root from A to before B.
 mod call;
 mod children;
@@ -105,9 +105,53 @@ fn rights_and_watches() {
     );
 }
 
+fn full_and_deep() {
+    worked(
+        b"127 nodes below the root fill the table; two levels want two free slots.",
+        b"children 0 127\n\
+          0 MKDIR 0 /x|\n\
+          0 RM 0 /abcdefghijklmnopqrstuvwxyzABC126|\n\
+          0 MKDIR 0 /x/y|\n\
+          0 MKDIR 0 /x|",
+    );
+    worked(
+        b"RM takes all below.",
+        b"0 WRITE 0 /1/2/3/4/5/6/7/8|1\n\
+          0 GET_PERMS 0 /1/2/3/4/5/6/7/8|\n\
+          0 RM 0 /1|\n\
+          0 READ 0 /1/2/3/4/5/6/7/8|",
+    );
+}
+
+fn heard() {
+    worked(
+        b"Who may not read a path does not hear of it; a removal is heard below it by who could read there.",
+        b"0 INTRODUCE 0 5|1|1|\n\
+          0 WRITE 0 /guest/x|1\n\
+          0 SET_PERMS 0 /guest/x|n5|\n\
+          0 WATCH 0 /a|all|\n\
+          5 WATCH 0 /a|five|\n\
+          5 WATCH 0 /guest/x|mine|\n\
+          0 WRITE 0 /a|1\n\
+          0 WRITE 0 /a/b|1\n\
+          0 WRITE 0 /ab|1\n\
+          0 RM 0 /guest|",
+    );
+    worked(
+        b"An `@` watch with depth 1 reports the domain, one without depth its own path.",
+        b"0 WATCH 0 @introduceDomain|name|\n\
+          0 WATCH 0 @introduceDomain|which|1|\n\
+          0 WATCH 0 @releaseDomain|gone|1|\n\
+          0 INTRODUCE 0 7|1|1|\n\
+          0 RELEASE 0 7|",
+    );
+}
+
 fn main() {
     looks();
     sizes();
     transactions();
     rights_and_watches();
+    full_and_deep();
+    heard();
 }
