@@ -262,7 +262,7 @@ released-gone w d s l =
         watches = has-not theirs _ (λ i v q. at-without theirs (w .watches) i v q .1);
         domains = has-not (eqb d) _ (λ i e q. at-without (eqb d) (w .domains) i e q .1);
         transactions = has-not held _ (λ k y q.
-            let u = unstaled (not (isEmpty (ownedBy (w .nodes) d))) (without held (w .transactions)) k y q in
+            let u = unstaled (not (isEmpty (map (removalOf w) (ownedBy (w .nodes) d)))) (without held (w .transactions)) k y q in
             rw (u .2) (at-without held (w .transactions) k (u .0) (u .1) .1));
         nodes = nodes-gone (w .nodes) d (s .nodes .good) l;
       },

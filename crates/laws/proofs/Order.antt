@@ -1,7 +1,7 @@
 -- One order: what each request adds, and that it keeps the open transactions' logs in step with their copies.
-use mathlib.Core.Path.{_≡_, refl, sym, _∙_}
+use mathlib.Core.Path.{_≡_, refl, sym, _∙_, subst}
 use mathlib.Core.Bool.{Bool, true, false, cond, not, _&&_, false≢true, true≢false, and-false}
-use mathlib.Core.List.{List, [], _∷_, _++_}
+use mathlib.Core.List.{List, [], _∷_, _++_, map}
 use mathlib.Core.Option.{Option, none, some}
 use Prim.Native.Nat.{ℕ, zero, suc, _-_, _<_}
 use native.Mathlib.Omega.{arith}
@@ -19,7 +19,7 @@ use Rattle.rules.specs.Answer.{EINVAL, ENOSYS, EACCES, EEXIST, ENOENT, ENOSPC, 
 use Rattle.rules.specs.Layout.{Transaction, tableBytes, tableOf}
 use Rattle.rules.specs.Sound.{introduced, watched}
 use Rattle.rules.specs.Event.{placeText}
-use Rattle.rules.specs.World.{World, Outcome, freshWorld, staledIf, withoutTransactions, left, to, plainly, transactionOf, inside, copyOf, asked, placeFits, watching, unwatching, starting, closing, committing, ending, introducing, releasing, resetting, forControl, forPlace, handle}
+use Rattle.rules.specs.World.{World, Outcome, freshWorld, staledIf, withoutTransactions, left, to, plainly, transactionOf, inside, copyOf, asked, placeFits, watching, unwatching, starting, closing, committing, ending, introducing, removalOf, releasing, resetting, forControl, forPlace, handle}
 use Rattle.rules.proofs.Cases.{cond-case, cond-known}
 use Rattle.rules.proofs.Fitting.{AskFits, decoded-fits, answer-fits, withoutAll-fits, fresh-fits}
 use Rattle.laws.specs.History.{Call, History, requestOf, served, after, run, succeeds}
@@ -28,14 +28,14 @@ use Rattle.rules.proofs.Places.{nothing, at-below, none-at}
 use Rattle.laws.proofs.Step.{named}
 use Rattle.laws.proofs.Calls.{served-is, served-known, request-good}
 use Rattle.rules.proofs.GoodRequests.{RequestGood, ParsedGood}
-use Rattle.laws.proofs.Ordered.{replay-append, agrees-append, keeps, extended, OrderedAt, Turn, fewer-all, fewer-without, fewer-closed, changed-to, with-log, with-copy, with-domains, small-set, small-without, small-known}
+use Rattle.laws.proofs.Ordered.{Running, replay-append, agrees-append, keeps, extended, OrderedAt, Turn, fewer-all, fewer-without, fewer-closed, changed-to, with-log, with-copy, with-domains, small-set, small-without, small-known}
 
 -- ── requests on the world w ──
 
-nothing-owned : (t : Table) (is : List ℕ) → not (isEmpty is) ≡ false → t ≡ withoutAll t is
+nothing-owned : (f : ℕ → Change) (t : Table) (is : List ℕ) → not (isEmpty (map f is)) ≡ false → t ≡ withoutAll t is
 unfolding isEmpty withoutAll
-nothing-owned t [] e = refl
-nothing-owned t (i ∷ is) e = absurd (true≢false e)
+nothing-owned f t [] e = refl
+nothing-owned f t (i ∷ is) e = absurd (true≢false e)
 
 module _ (w : World) (ls : Logs) (o : OrderedAt w ls) where
   left-turn : (r : Reply) → Turn w [] ls (left w r)
@@ -53,7 +53,7 @@ module _ (w : World) (ls : Logs) (o : OrderedAt w ls) where
   -- a node request outside transactions
   plainly-turn : (d : Domain) (a : Ask) (ns : Names) → d < 65536 → AskFits a
       → Turn w (node d a ns (plainly w (answer d a ns (w .nodes)) .reply) ∷ []) ls (plainly w (answer d a ns (w .nodes)))
-  unfolding plainly left to replay then staledIf
+  unfolding plainly left to replay then staledIf isEmpty
   plainly-turn d a ns h f = go (answer d a ns (w .nodes) .change) refl
     where
       x : Answer
@@ -75,9 +75,10 @@ module _ (w : World) (ls : Logs) (o : OrderedAt w ls) where
   committing-turn k x e s =
       let r = o .running k x e s in
       record {
-        after = changed-to (not (isEmpty (x .changes))) (tableOf (getD (w .copies) k [])) _ o (decoded-fits _) (fewer-closed (w .transactions) k) (λ p. sym (r .same (not-false _ p)));
-        table = r .table;
-        answers = r .answers;
+        after = changed-to (not (isEmpty (x .changes))) (tableOf (getD (w .copies) k [])) _ o (decoded-fits _) (fewer-closed (w .transactions) k)
+            (λ p. sym (r .same (not-false _ p) ∙ r .unmoved));
+        table = subst (λ (u : Table). replay u (getD ls k []) ≡ tableOf (getD (w .copies) k [])) (r .unmoved) (r .table);
+        answers = subst (λ (u : Table). Agrees u (getD ls k [])) (r .unmoved) (r .answers);
       }
 
   -- a release
@@ -87,7 +88,7 @@ module _ (w : World) (ls : Logs) (o : OrderedAt w ls) where
       cond-case (λ y. Turn w (cond (succeeds (y .reply)) (released d ∷ []) []) ls y) (introduced d (w .domains)) _ _
       (record {
         after = with-domains _ (small-without (eqb d) (w .domains) (o .domains))
-            (changed-to (not (isEmpty (ownedBy (w .nodes) d))) _ _ o (withoutAll-fits _ _ (o .main)) (fewer-without _ (w .transactions)) (nothing-owned (w .nodes) (ownedBy (w .nodes) d)));
+            (changed-to (not (isEmpty (map (removalOf w) (ownedBy (w .nodes) d)))) _ _ o (withoutAll-fits _ _ (o .main)) (fewer-without _ (w .transactions)) (nothing-owned (removalOf w) (w .nodes) (ownedBy (w .nodes) d)));
         table = refl;
         answers = (tt, tt);
       })
@@ -121,7 +122,7 @@ module _ (w : World) (ls : Logs) (o : OrderedAt w ls) where
   starting-turn c =
       cond-known (λ y. Turn w [] (cond (succeeds (y .reply)) (set ls (lowest (w .transactions)) []) ls) y) (ltb (lowest (w .transactions)) (length (w .transactions))) _ _
       (λ h. record {
-        after = with-copy (lowest (w .transactions)) _ (w .nodes) [] o (ltb-true _ _ h) (o .main) (λ e. record { table = refl; answers = tt; same = λ e. refl });
+        after = with-copy (lowest (w .transactions)) _ (w .nodes) [] o (ltb-true _ _ h) (o .main) (λ e. record { start = w .nodes; unmoved = refl; table = refl; answers = tt; same = λ e. refl });
         table = refl;
         answers = tt;
       })
@@ -145,8 +146,11 @@ module _ (w : World) (ls : Logs) (o : OrderedAt w ls) where
       log : Reply → List Single
       log r = getD ls k [] ++ (node (domainOf c) a ns r ∷ [])
 
-      more : x .stale ≡ false → (replay (w .nodes) (log (z .reply)) ≡ z .table) × Agrees (w .nodes) (log (z .reply))
-      more s = extended (w .nodes) copy (getD ls k []) (domainOf c) a ns (o .running k x e s .table) (o .running k x e s .answers)
+      running : x .stale ≡ false → Running (w .nodes) copy (getD ls k []) x
+      running s = o .running k x e s
+
+      more : (s : x .stale ≡ false) → (replay (running s .start) (log (z .reply)) ≡ z .table) × Agrees (running s .start) (log (z .reply))
+      more s = extended (running s .start) copy (getD ls k []) (domainOf c) a ns (running s .table) (running s .answers)
 
       written : Change → Outcome
       written ch =
@@ -168,7 +172,13 @@ module _ (w : World) (ls : Logs) (o : OrderedAt w ls) where
       room ch true =
           record {
             after = with-copy k _ (z .table) (log (z .reply)) o (at-below (w .transactions) k x e) (answer-fits (domainOf c) a ns copy h f (decoded-fits _))
-                (λ s. record { table = more s .0; answers = more s .1; same = λ q. absurd (not-empty (x .changes) ch q) });
+                (λ s. record {
+                  start = running s .start;
+                  unmoved = running s .unmoved;
+                  table = more s .0;
+                  answers = more s .1;
+                  same = λ q. absurd (not-empty (x .changes) ch q);
+                });
             table = refl;
             answers = tt;
           }
@@ -179,7 +189,13 @@ module _ (w : World) (ls : Logs) (o : OrderedAt w ls) where
       go none p =
           record {
             after = with-log k x (log (z .reply)) o e (at-below (w .transactions) k x e)
-                (λ s. record { table = more s .0 ∙ keeps (domainOf c) a ns copy p; answers = more s .1; same = o .running k x e s .same });
+                (λ s. record {
+                  start = running s .start;
+                  unmoved = running s .unmoved;
+                  table = more s .0 ∙ keeps (domainOf c) a ns copy p;
+                  answers = more s .1;
+                  same = running s .same;
+                });
             table = refl;
             answers = tt;
           }

@@ -57,11 +57,13 @@ extended t copy log d a ns e h =
 
 -- ── what holds between calls ──
 
--- a transaction that is not stale: its log, run from the main table, gives its copy and its replies
+-- a transaction that is not stale: its log, run from the table at its START, gives its copy and its replies, and the main table is still that one
 pub record Running (t copy : Table) (log : List Single) (x : Transaction) : Type 0 where
-  pub table : replay t log ≡ copy
-  pub answers : Agrees t log
-  pub same : isEmpty (x .changes) ≡ true → copy ≡ t
+  pub start : Table
+  pub unmoved : start ≡ t
+  pub table : replay start log ≡ copy
+  pub answers : Agrees start log
+  pub same : isEmpty (x .changes) ≡ true → copy ≡ start
 
 abbrev pub Small : Domains → Type 0
 Small ds = (i : ℕ) (d : Domain) → getD ds i none ≡ some d → d < 65536

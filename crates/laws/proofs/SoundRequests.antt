@@ -1,7 +1,7 @@
 -- Every request keeps a sound world sound.
 use mathlib.Core.Path.{_≡_, refl, _∙_}
 use mathlib.Core.Bool.{Bool, true, false, cond, not, _&&_, and-eq-true-iff}
-use mathlib.Core.List.{[], _∷_}
+use mathlib.Core.List.{[], _∷_, map}
 use mathlib.Core.Option.{Option, none, some}
 use Prim.Native.Nat.{ℕ, _-_, _≤_}
 use native.Mathlib.Omega.{arith}
@@ -18,7 +18,7 @@ use Rattle.rules.specs.Answer.{EINVAL, ENOSYS, EACCES, EEXIST, ENOENT, ENOSPC, 
 use Rattle.rules.specs.Event.{Watch, placeText}
 use Rattle.rules.specs.Layout.{Transaction, tableOf}
 use Rattle.rules.specs.Sound.{introduced, known, twin, watched}
-use Rattle.rules.specs.World.{World, Outcome, staledIf, withoutTransactions, withoutWatches, speaksFor, left, to, plainly, transactionOf, inside, copyOf, asked, placeFits, watching, unwatching, starting, closing, committing, ending, introducing, releasing, resetting, forControl, forPlace, handle}
+use Rattle.rules.specs.World.{World, Outcome, staledIf, withoutTransactions, withoutWatches, speaksFor, left, to, plainly, transactionOf, inside, copyOf, asked, placeFits, watching, unwatching, starting, closing, committing, ending, introducing, removalOf, releasing, resetting, forControl, forPlace, handle}
 use Rattle.rules.specs.Call.{outcomeOf}
 use Rattle.rules.proofs.Cases.{cond-case, cond-known}
 use Rattle.rules.proofs.Tables.{each-append}
@@ -73,7 +73,7 @@ module _ (w : World) (s : SoundWorld w) where
       }
 
   plainly-keeps : (d : Domain) (a : Ask) (ns : Names) → d ≤ lastDomain → AskedGood a ns → Keeps (plainly w (answer d a ns (w .nodes)))
-  unfolding plainly to staledIf
+  unfolding plainly to staledIf isEmpty
   plainly-keeps d a ns h f = go (answer d a ns (w .nodes) .change)
     where
       x : Answer
@@ -226,8 +226,8 @@ module _ (w : World) (s : SoundWorld w) where
             let p = at-without (λ (v : Watch). eqb d (domainOf (v .owner))) (w .watches) i v q in
             (p .0, known-shrunk (w .domains) _ d (s .watches .each i v (p .0) .known) (p .1)));
         transactions = transactions-left _ _ (s .transactions)
-            (length-staledIf (not (isEmpty (ownedBy (w .nodes) d))) _ ∙ length-without (λ (x : Transaction). eqb d (domainOf (x .holder))) (w .transactions)) (λ k y q.
-            let r = unstaled (not (isEmpty (ownedBy (w .nodes) d))) _ k y q in
+            (length-staledIf (not (isEmpty (map (removalOf w) (ownedBy (w .nodes) d)))) _ ∙ length-without (λ (x : Transaction). eqb d (domainOf (x .holder))) (w .transactions)) (λ k y q.
+            let r = unstaled (not (isEmpty (map (removalOf w) (ownedBy (w .nodes) d)))) _ k y q in
             let p = at-without (λ (x : Transaction). eqb d (domainOf (x .holder))) (w .transactions) k (r .0) (r .1) in
             (r .0, p .0, r .3, rw (r .2) (known-shrunk (w .domains) _ d (s .transactions .each k (r .0) (p .0) .known) (p .1))));
       })

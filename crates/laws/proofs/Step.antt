@@ -1,7 +1,7 @@
 -- One request, whatever it is: what it leaves of the open transactions, and what a refusal leaves of the world.
 use mathlib.Core.Path.{_≡_, refl, sym, _∙_, ap}
 use mathlib.Core.Bool.{Bool, true, false, cond, not, _&&_, _||_, or-false, or-true, and-false, true≢false, false≢true}
-use mathlib.Core.List.{List, [], _∷_, _++_}
+use mathlib.Core.List.{List, [], _∷_, _++_, map}
 use mathlib.Core.Option.{Option, none, some}
 use Prim.Native.Nat.{ℕ, zero, suc, _-_}
 use native.Mathlib.Numerals.{sub-one}
@@ -19,7 +19,7 @@ use Rattle.rules.specs.Answer.{Errno, EINVAL, EACCES, EEXIST, ENOENT, ENOSPC, E
 use Rattle.rules.specs.Layout.{Transaction}
 use Rattle.rules.specs.Sound.{introduced, watched}
 use Rattle.rules.specs.Event.{placeText}
-use Rattle.rules.specs.World.{World, Outcome, staledIf, withoutTransactions, left, to, plainly, transactionOf, inside, copyOf, asked, placeFits, watching, unwatching, starting, closing, committing, ending, introducing, releasing, resetting, forControl, forPlace, handle}
+use Rattle.rules.specs.World.{World, Outcome, staledIf, withoutTransactions, left, to, plainly, transactionOf, inside, copyOf, asked, placeFits, watching, unwatching, starting, closing, committing, ending, introducing, removalOf, releasing, resetting, forControl, forPlace, handle}
 use Rattle.rules.specs.Call.{outcomeOf}
 use Rattle.rules.proofs.Cases.{cond-case}
 use Rattle.laws.specs.History.{succeeds, alters, recorded, changedBy, changedAs, alteredBy, alteredAs}
@@ -52,6 +52,11 @@ named w (suc k) c x e = rw sub-one (go (getD (w .transactions) k none) e)
     go : (m : Option Transaction) → (elim m [ none ↦ none | some y ↦ cond (eqb c (y .holder)) (some y) none ]) ≡ some x → (m ≡ some x) × (c ≡ x .holder)
     go none q = absurd (nothing q)
     go (some y) q = held (eqb c (y .holder)) y refl q
+
+empty-mapped : {A B : Type 0} (f : A → B) (xs : List A) → isEmpty (map f xs) ≡ isEmpty xs
+unfolding isEmpty
+empty-mapped f [] = refl
+empty-mapped f (x ∷ xs) = refl
 
 -- a refused request changes no table
 alters-refused : (t : Table) (ns : Names) (e : Errno) (a : Ask) → alters t ns (refused e) a ≡ false
@@ -107,7 +112,7 @@ module _ (w : World) (tx : ℕ) where
       go (some c) = refl
 
   plainly-step : {d : ℕ} {ns : Names} {b : Bool} {a : Answer} → Shape d ns (w .nodes) b a → Step (changing b) (plainly w a)
-  unfolding plainly unchanged changed to OK staledIf
+  unfolding plainly unchanged changed to OK staledIf isEmpty
   plainly-step (stays r e) = left-step r e
   plainly-step (alters-to removal after) = record { kept = kept-staledIf true _ _ (kept-all _); sent = tt }
 
@@ -229,7 +234,7 @@ module _ (w : World) (tx : ℕ) where
   unfolding releasing to OK succeeds left withoutTransactions
   releasing-step d =
       cond-case (λ o. Step (changing (succeeds (o .reply) && not (isEmpty (ownedBy (w .nodes) d)))) o) (introduced d (w .domains)) _ _
-      (record { kept = kept-staledIf _ _ _ (kept-without _ _); sent = tt })
+      (rw (← empty-mapped (removalOf w) (ownedBy (w .nodes) d)) (record { kept = kept-staledIf _ _ _ (kept-without _ _); sent = tt }))
       (left-step (refused ENOENT) refl)
 
   resetting-step : (c : Connection) → Step quiet (resetting w c)

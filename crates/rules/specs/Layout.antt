@@ -1,5 +1,5 @@
 -- The tables as bytes: what each entry's bytes are, and what bytes mean.
-use mathlib.Core.Bool.{Bool, false, cond}
+use mathlib.Core.Bool.{Bool, true, false, cond}
 use mathlib.Core.List.{List, [], _∷_, _++_, map, flatMap}
 use mathlib.Core.Option.{Option, none, some}
 use Prim.Native.Nat.{ℕ, zero, suc, _+_, _*_, _-_}
@@ -136,6 +136,16 @@ pub record Transaction : Type 0 where
 
 abbrev pub Transactions : Type 0
 Transactions = List (Option Transaction)
+
+-- one that its holder has just started
+abbrev pub opened : Connection → Transaction
+opened c = record { holder = c; stale = false; changes = [] }
+
+abbrev pub asStale : Transaction → Transaction
+asStale x = record { holder = x .holder; stale = true; changes = x .changes }
+
+abbrev pub withChange : Transaction → Change → Transaction
+withChange x c = record { holder = x .holder; stale = x .stale; changes = x .changes ++ (c ∷ []) }
 
 unfoldable pub changeBytes : Change → Octets
 changeBytes c =

@@ -88,15 +88,17 @@ made (n ∷ ns) p d v t = made ns (lowest t) d v (set t (lowest t) (some (newNod
 
 -- ── writing a slot ──
 
+abbrev pub valued : Node → Octets → Node
+valued n v = record { parent = n .parent; name = n .name; value = v; owner = n .owner; others = n .others }
+
+abbrev pub entitled : Node → Entry → List Entry → Node
+entitled n o es = record { parent = n .parent; name = n .name; value = n .value; owner = o; others = es }
+
 unfoldable pub withValue : Table → ℕ → Octets → Table
-withValue t i v =
-    let n = nodeAt t i in
-    set t i (some (record { parent = n .parent; name = n .name; value = v; owner = n .owner; others = n .others }))
+withValue t i v = set t i (some (valued (nodeAt t i) v))
 
 unfoldable pub withEntries : Table → ℕ → Entry → List Entry → Table
-withEntries t i o es =
-    let n = nodeAt t i in
-    set t i (some (record { parent = n .parent; name = n .name; value = n .value; owner = o; others = es }))
+withEntries t i o es = set t i (some (entitled (nodeAt t i) o es))
 
 -- ── removing ──
 

@@ -14,7 +14,7 @@ use Rattle.rules.specs.Node.{Table, freshTable, ownedBy, withoutAll, pat
 use Rattle.rules.specs.Payload.{Ask, Place, path, event, Request, ask, watch, unwatch, start, end, introduce, release, domainPath, isIntroduced, reset}
 use Rattle.rules.specs.Answer.{EACCES, EEXIST, ENOENT, ENOSPC, EAGAIN, Reply, done, refused, OK, Change, Answer, answer}
 use Rattle.rules.specs.Event.{Watch, Watches, Record, placeText, heard, heardOf, firstHeard}
-use Rattle.rules.specs.Layout.{tableBytes, tableOf, Domains, Transaction, Transactions}
+use Rattle.rules.specs.Layout.{tableBytes, tableOf, Domains, Transaction, Transactions, opened, asStale, withChange}
 use Rattle.rules.specs.Sound.{introduced, known, twin, watched}
 
 -- a copy is kept as bytes, since that of a closed transaction may hold anything
@@ -32,6 +32,24 @@ pub record Outcome : Type 0 where
   pub page : ℕ
   pub channel : ℕ
 
+-- ── the tables with one of them changed ──
+
+abbrev pub withNodes : World → Table → World
+withNodes w t = record { nodes = t; copies = w .copies; watches = w .watches; transactions = w .transactions; domains = w .domains }
+
+abbrev pub withCopy : World → ℕ → Table → World
+withCopy w k t =
+    record { nodes = w .nodes; copies = set (w .copies) k (tableBytes t); watches = w .watches; transactions = w .transactions; domains = w .domains }
+
+abbrev pub withWatches : World → Watches → World
+withWatches w ws = record { nodes = w .nodes; copies = w .copies; watches = ws; transactions = w .transactions; domains = w .domains }
+
+abbrev pub withTransactions : World → Transactions → World
+withTransactions w xs = record { nodes = w .nodes; copies = w .copies; watches = w .watches; transactions = xs; domains = w .domains }
+
+abbrev pub withDomains : World → Domains → World
+withDomains w ds = record { nodes = w .nodes; copies = w .copies; watches = w .watches; transactions = w .transactions; domains = ds }
+
 -- "Fresh: the root only, empty value, permission `n0`, other tables empty."
 unfoldable pub freshWorld : World
 freshWorld =
@@ -48,10 +66,14 @@ freshWorld =
 unfoldable pub staled : Transactions → Transactions
 staled [] = []
 staled (none ∷ xs) = none ∷ staled xs
-staled (some x ∷ xs) = some (record { holder = x .holder; stale = true; changes = x .changes }) ∷ staled xs
+staled (some x ∷ xs) = some (asStale x) ∷ staled xs
 
 unfoldable pub staledIf : Bool → Transactions → Transactions
 staledIf b xs = cond b (staled xs) xs
+
+-- the open transactions, told of what changed the main table: a plain change, another one's commit, a RELEASE
+abbrev pub told : List Change → Transactions → Transactions
+told cs xs = staledIf (not (isEmpty cs)) xs
 
 unfoldable pub withoutTransactions : (Connection → Bool) → Transactions → Transactions
 withoutTransactions theirs xs = without (λ (x : Transaction). theirs (x .holder)) xs
@@ -79,7 +101,7 @@ module _ (w : World) where
       elim (a .change) [
         | none ↦ left (a .reply)
         | some c ↦ to (a .reply)
-            (record { nodes = a .table; copies = w .copies; watches = w .watches; transactions = staled (w .transactions); domains = w .domains })
+            (withTransactions (withNodes w (a .table)) (told (c ∷ []) (w .transactions)))
             (heard (w .nodes) (a .table) (w .watches) (c ∷ []))
       ]
 
@@ -94,15 +116,7 @@ module _ (w : World) where
       elim (a .change) [
         | none ↦ left (a .reply)
         | some c ↦ cond (ltb (length (x .changes)) mostChanges)
-            (to (a .reply)
-            (record {
-              nodes = w .nodes;
-              copies = set (w .copies) k (tableBytes (a .table));
-              watches = w .watches;
-              transactions = set (w .transactions) k (some (record { holder = x .holder; stale = x .stale; changes = x .changes ++ (c ∷ []) }));
-              domains = w .domains;
-            })
-            [])
+            (to (a .reply) (withTransactions (withCopy w k (a .table)) (set (w .transactions) k (some (withChange x c)))) [])
             (left (refused ENOSPC))
       ]
 
@@ -128,22 +142,14 @@ module _ (w : World) where
       let ws = set (w .watches) k (some (record { owner = c; place = p; depth = depth; token = t })) in
       cond (watched c (placeText p) t (w .watches)) (left (refused EEXIST))
       (cond (placeFits p && (leb (length t) longestToken && ltb k (length (w .watches))))
-      (to OK (record { nodes = w .nodes; copies = w .copies; watches = ws; transactions = w .transactions; domains = w .domains }) (firstHeard k p ws))
+      (to OK (withWatches w ws) (firstHeard k p ws))
       (left (refused ENOSPC)))
 
   -- "an unknown UNWATCH (by owner, full path and token): ENOENT"
   unfoldable pub unwatching : Connection → Place → Octets → Outcome
   unwatching c p t =
       cond (watched c (placeText p) t (w .watches))
-      (to OK
-      (record {
-        nodes = w .nodes;
-        copies = w .copies;
-        watches = without (twin c (placeText p) t) (w .watches);
-        transactions = w .transactions;
-        domains = w .domains;
-      })
-      [])
+      (to OK (withWatches w (without (twin c (placeText p) t) (w .watches))) [])
       (left (refused ENOENT))
 
   -- "START answers the smallest of 1, 2, 3 that isn't open" and "copies the table's bytes"
@@ -151,35 +157,18 @@ module _ (w : World) where
   starting c =
       let k = lowest (w .transactions) in
       cond (ltb k (length (w .transactions)))
-      (to (done (decimal (suc k) ++ nul))
-      (record {
-        nodes = w .nodes;
-        copies = set (w .copies) k (tableBytes (w .nodes));
-        watches = w .watches;
-        transactions = set (w .transactions) k (some (record { holder = c; stale = false; changes = [] }));
-        domains = w .domains;
-      })
-      [])
+      (to (done (decimal (suc k) ++ nul)) (withTransactions (withCopy w k (w .nodes)) (set (w .transactions) k (some (opened c)))) [])
       (left (refused ENOSPC))
 
   -- "a closed copy is kept as it is"
   unfoldable pub closing : ℕ → Reply → Outcome
-  closing k r =
-      to r
-      (record { nodes = w .nodes; copies = w .copies; watches = w .watches; transactions = set (w .transactions) k none; domains = w .domains })
-      []
+  closing k r = to r (withTransactions w (set (w .transactions) k none)) []
 
   -- "commit copies them back"; with a change it makes all other open transactions stale
   unfoldable pub committing : ℕ → Transaction → Outcome
   committing k x =
       to OK
-      (record {
-        nodes = copyOf k;
-        copies = w .copies;
-        watches = w .watches;
-        transactions = staledIf (not (isEmpty (x .changes))) (set (w .transactions) k none);
-        domains = w .domains;
-      })
+      (withTransactions (withNodes w (copyOf k)) (told (x .changes) (set (w .transactions) k none)))
       (heard (w .nodes) (copyOf k) (w .watches) (x .changes))
 
   -- "END with T is EAGAIN exactly if stale. Both END forms close."
@@ -198,7 +187,7 @@ module _ (w : World) where
       (cond (ltb k (length (w .domains)))
       (record {
         reply = OK;
-        world = record { nodes = w .nodes; copies = w .copies; watches = w .watches; transactions = w .transactions; domains = set (w .domains) k (some d) };
+        world = withDomains w (set (w .domains) k (some d));
         records = heardOf introduceName d (w .watches);
         page = page;
         channel = channel;
@@ -214,30 +203,18 @@ module _ (w : World) where
       let owned = ownedBy (w .nodes) d in
       let after = withoutAll (w .nodes) owned in
       let ws = withoutWatches (speaksFor d) (w .watches) in
+      let changes = map removalOf owned in
       cond (introduced d (w .domains))
       (to OK
-      (record {
-        nodes = after;
-        copies = w .copies;
-        watches = ws;
-        transactions = staledIf (not (isEmpty owned)) (withoutTransactions (speaksFor d) (w .transactions));
-        domains = without (eqb d) (w .domains);
-      })
-      (heard (w .nodes) after ws (map removalOf owned) ++ heardOf releaseName d ws))
+      (withDomains (withTransactions (withWatches (withNodes w after) ws) (told changes (withoutTransactions (speaksFor d) (w .transactions))))
+      (without (eqb d) (w .domains)))
+      (heard (w .nodes) after ws changes ++ heardOf releaseName d ws))
       (left (refused ENOENT))
 
   -- "RESET_WATCHES drops the sender's watches and transactions."
   unfoldable pub resetting : Connection → Outcome
   resetting c =
-      to OK
-      (record {
-        nodes = w .nodes;
-        copies = w .copies;
-        watches = withoutWatches (eqb c) (w .watches);
-        transactions = withoutTransactions (eqb c) (w .transactions);
-        domains = w .domains;
-      })
-      []
+      to OK (withTransactions (withWatches w (withoutWatches (eqb c) (w .watches))) (withoutTransactions (eqb c) (w .transactions))) []
 
   -- step 3: "INTRODUCE, RELEASE, or WATCH or UNWATCH on an `@` path, from a sender other than 0: EACCES"
   unfoldable pub forControl : Connection → Outcome → Outcome
