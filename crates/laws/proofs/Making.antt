@@ -21,7 +21,7 @@ use Rattle.rules.specs.Answer.{Answer, answer, answered, created, changed, unch
 use Rattle.rules.proofs.Cases.{cond-case, cond-known}
 use Rattle.rules.proofs.Compare.{both-true}
 use Rattle.rules.proofs.Places.{At, nothing, lowest-free}
-use Rattle.rules.proofs.Fitting.{lowest-below, free-fewer, reach-below}
+use Rattle.rules.proofs.Fitting.{roomy, lowest-below, free-fewer, reach-below}
 use Rattle.rules.proofs.GoodTables.{Good, good-of, nodeAt-is, child-some, child-back}
 use Rattle.rules.proofs.GoodAnswers.{answer-good}
 use Rattle.rules.proofs.GoodRequests.{proper-open}
@@ -111,13 +111,12 @@ module _ (d : Domain) (ns : Names) (t : Table) (v : Octets) where
   There a = Good (a .table) → succeeds (a .reply) ≡ true → End (a .table) ns 0 v
 
   created-there : (name : Name) (rest : Names) (i : ℕ) → reach t ns ≡ record { slot = i; left = name ∷ rest } → There (created d ns t (record { slot = i; left = name ∷ rest }) v)
-  unfolding created changed unchanged room succeeds
+  unfolding created changed unchanged succeeds
   created-there name rest i e =
       cond-case There (mayWrite d (nodeAt t i)) _ _
       (cond-known There (room d ns t (name ∷ rest) v) _ _
       (λ h g s.
-      let free : suc (length rest) ≤ freeCount t = leb-true _ _ (both-true (fits ns) (leb (suc (length rest)) (freeCount t)) (both-true (leb (length v) longestValue) _ h .1) .1) in
-      on-from (made (name ∷ rest) i d v t) (name ∷ rest) i g (λ j n a. (n, made-keeps (name ∷ rest) i d v t j n a, refl, refl)) e (made-there rest name i d v t free g))
+      on-from (made (name ∷ rest) i d v t) (name ∷ rest) i g (λ j n a. (n, made-keeps (name ∷ rest) i d v t j n a, refl, refl)) e (made-there rest name i d v t (roomy d ns t (name ∷ rest) v h .2) g))
       (λ h g s. absurd (false≢true s)))
       (λ g s. absurd (false≢true s))
 

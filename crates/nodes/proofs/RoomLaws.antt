@@ -12,7 +12,7 @@ use Rattle.rules.specs.Octets.{Octets}
 use Rattle.rules.specs.Entries.{freeCount}
 use Rattle.rules.specs.Path.{Domain, Names, split, glued, shortNames, fits, namesIn}
 use Rattle.rules.specs.Node.{Table, reach}
-use Rattle.rules.specs.Answer.{room}
+use Rattle.rules.specs.Answer.{sized, stocked, room}
 use Rattle.rules.specs.Layout.{tableOf}
 use Rattle.rules.proofs.Compare.{both-true}
 use Rattle.rules.proofs.Fitting.{short-left}
@@ -47,24 +47,16 @@ name-last s i h = rw (drop-of-length-le s h)
 
 module _ (d : Domain) (ns : Names) (t : Table) (left : Names) (v : Octets) where
   pub value-long : longestValue < length v → false ≡ room d ns t left v
-  unfolding room
+  unfolding room sized stocked
   value-long h = rw (lt-leb (length v) longestValue h)
 
   pub path-unfit : length v ≤ longestValue → fits ns ≡ false → false ≡ room d ns t left v
-  unfolding room
+  unfolding room sized stocked
   path-unfit h f = rw (le-leb (length v) longestValue h, f)
 
   pub slots-decide : length v ≤ longestValue → fits ns ≡ true → (n m : ℕ) → n ≡ length left → m ≡ freeCount t → leb n m ≡ room d ns t left v
-  unfolding room
+  unfolding room sized stocked
   slots-decide h f n m en em = rw (le-leb (length v) longestValue h, f) (ap₂ leb en em)
-
-  -- what room is
-  pub roomy : room d ns t left v ≡ true → (length v ≤ longestValue) × (fits ns ≡ true) × (length left ≤ freeCount t)
-  unfolding room
-  roomy h =
-      let a = both-true (leb (length v) longestValue) (fits ns && leb (length left) (freeCount t)) h in
-      let b = both-true (fits ns) (leb (length left) (freeCount t)) (a .1) in
-      (leb-true (length v) longestValue (a .0), b .0, leb-true (length left) (freeCount t) (b .1))
 
 pub left-short : (t p : Octets) (i at : ℕ) → Reaches t p i at → fits (namesIn p) ≡ true → shortNames (leftAt p at) ≡ true
 unfolding fits reach

@@ -16,7 +16,7 @@ use Rattle.rules.specs.Path.{Domain, Name, Names, isControl, shortNames,
 use Rattle.rules.specs.Node.{Entry, Node, Table, Reached, root, freshTable, nodeAt, isChild, childFrom, child, reachFrom, reach, heir, newNode, lastValue, made, withValue, withEntries, within, clearedFrom, removed, withoutAll}
 use Rattle.rules.specs.Rights.{mayWrite}
 use Rattle.rules.specs.Payload.{Ask, directory, read, getPerms, write, mkdir, rm, setPerms}
-use Rattle.rules.specs.Answer.{Answer, unchanged, changed, looked, room, created, written, directoryMade, taken, maySet, permitted, answered, answer}
+use Rattle.rules.specs.Answer.{Answer, unchanged, changed, looked, sized, stocked, room, created, written, directoryMade, taken, maySet, permitted, answered, answer}
 use Rattle.rules.specs.Layout.{textAt, entryAt, nodeOf, slotOf, tableOf}
 use Rattle.rules.proofs.Cases.{cond-case, cond-known}
 use Rattle.rules.proofs.Tables.{Each, each-set}
@@ -214,20 +214,28 @@ AskFits mkdir = Unit {0}
 AskFits rm = Unit {0}
 AskFits (setPerms o es) = EntryFits o × Each EntryFits es
 
+-- what can be made passes no size and has its free slots
+pub roomy : (d : Domain) (ns : Names) (t : Table) (left : Names) (v : Octets) → room d ns t left v ≡ true
+    → (length v ≤ longestValue) × (fits ns ≡ true) × (length left ≤ freeCount t)
+unfolding room sized stocked
+roomy d ns t left v h =
+    let s = and-eq-true-iff (sized d ns t v) (stocked d ns t left) .0 h in
+    let u = and-eq-true-iff (leb (length v) longestValue) (fits ns) .0 (s .0) in
+    (leb-true _ _ (u .0), u .1, leb-true _ _ (s .1))
+
 module _ (d : Domain) (ns : Names) (t : Table) (hd : d < 65536) (f : Fitting t) where
   -- an answer whose table fits
   abbrev Fine : Answer → Type 0
   Fine a = Fitting (a .table)
 
   created-fits : (v : Octets) → Fine (created d ns t (reach t ns) v)
-  unfolding created changed unchanged room reach fits
+  unfolding created changed unchanged reach fits
   created-fits v =
       cond-case Fine (mayWrite d (nodeAt t (reach t ns .slot))) _ _
       (cond-known Fine (room d ns t (reach t ns .left) v) _ _ (λ h.
-      let s = and-eq-true-iff (leb (length v) longestValue) (fits ns && leb (length (reach t ns .left)) (freeCount t)) .0 h in
-      let u = and-eq-true-iff (fits ns) (leb (length (reach t ns .left)) (freeCount t)) .0 (s .1) in
-      made-fits (reach t ns .left) (reach t ns .slot) d v t hd (leb-true _ _ (s .0)) (rw (f .long) at (reach-below ns t 0 (rw (f .long) (lit< tt))))
-      (short-left ns t 0 (and-eq-true-iff (leb (length ns) deepest) (shortNames ns) .0 (u .0) .1)) (leb-true _ _ (u .1)) f) (λ h. f))
+      let s = roomy d ns t (reach t ns .left) v h in
+      made-fits (reach t ns .left) (reach t ns .slot) d v t hd (s .0) (rw (f .long) at (reach-below ns t 0 (rw (f .long) (lit< tt))))
+      (short-left ns t 0 (and-eq-true-iff (leb (length ns) deepest) (shortNames ns) .0 (s .1) .1)) (s .2) f) (λ h. f))
       f
 
   answered-fits : (a : Ask) → AskFits a → (l : Names) (i : ℕ) → record { slot = i; left = l } ≡ reach t ns → Fine (answered d ns t a (record { slot = i; left = l }))

@@ -20,7 +20,7 @@ use Rattle.rules.specs.Sound.{goodEntries, reachesRoot, goodChange}
 use Rattle.rules.proofs.Cases.{cond-case, cond-known}
 use Rattle.rules.proofs.Places.{nothing, some-is, At}
 use Rattle.rules.proofs.Slots.{SlotFits}
-use Rattle.rules.proofs.Fitting.{Fitting, slotAt-fits}
+use Rattle.rules.proofs.Fitting.{Fitting, roomy, slotAt-fits}
 use Rattle.rules.proofs.GoodTables.{Good, nodeAt-is, IsChild, child-some, child-none}
 use Rattle.rules.proofs.RootWays.{reaches-node, node-reaches, root-reaches, reaches-zero}
 use Rattle.rules.proofs.GoodNodes.{rewritten, NoChild, made-good, removed-good}
@@ -107,15 +107,14 @@ module _ (d : Domain) (ns : Names) (t : Table) (hd : d ≤ lastDomain) (g : Good
   here = found t g ns 0 0 (g .root) (g .used) (root-reaches 0 t 0 refl) names
 
   created-good : (v : Octets) → Fine (created d ns t (reach t ns) v)
-  unfolding created changed unchanged room fits
+  unfolding created changed unchanged fits
   created-good v =
       cond-case Fine (mayWrite d (nodeAt t (reach t ns .slot))) _ _
       (cond-known Fine (room d ns t (reach t ns .left) v) _ _ (λ h.
-      let s = and-eq-true-iff (leb (length v) longestValue) (fits ns && leb (length (reach t ns .left)) (freeCount t)) .0 h in
-      let u = and-eq-true-iff (fits ns) (leb (length (reach t ns .left)) (freeCount t)) .0 (s .1) in
-      let deep : length ns ≤ deepest = leb-true _ _ (and-eq-true-iff (leb (length ns) deepest) (shortNames ns) .0 (u .0) .0) in
+      let s = roomy d ns t (reach t ns .left) v h in
+      let deep : length ns ≤ deepest = leb-true _ _ (and-eq-true-iff (leb (length ns) deepest) (shortNames ns) .0 (s .1) .0) in
       made-good (reach t ns .left) (reach t ns .slot) (here .steps) d v t (here .node) g hd (here .used) (here .reaches) (omega (arith, here .count)) (here .names)
-      (leb-true _ _ (u .1)) (here .stops)) (λ h. g))
+      (s .2) (here .stops)) (λ h. g))
       g
 
   -- the slot's own node, with another value or other entries
@@ -229,12 +228,10 @@ module _ (d : Domain) (ns : Names) (t : Table) (g : Good t) (f : Fitting t) (nam
       go true (n ∷ ns) z = rw eqb·suc-zero
 
   created-told : (r : Reached) (v : Octets) → Told (created d ns t r v)
-  unfolding created room
+  unfolding created
   created-told r v =
       cond-case Told (mayWrite d (nodeAt t (r .slot))) _ _
-      (cond-known Told (room d ns t (r .left) v) _ _ (λ h.
-      let s = and-eq-true-iff (leb (length v) longestValue) (fits ns && leb (length (r .left)) (freeCount t)) .0 h in
-      told false _ (and-eq-true-iff (fits ns) (leb (length (r .left)) (freeCount t)) .0 (s .1) .0) (λ b. absurd (false≢true b))) (λ h. untold _))
+      (cond-known Told (room d ns t (r .left) v) _ _ (λ h. told false _ (roomy d ns t (r .left) v h .1) (λ b. absurd (false≢true b))) (λ h. untold _))
       (untold _)
 
   answered-told : (a : Ask) → proper a ns ≡ true → (l : Names) (i : ℕ) → reach t ns ≡ record { slot = i; left = l } → Told (answered d ns t a (record { slot = i; left = l }))

@@ -90,9 +90,17 @@ module _ (d : Domain) (ns : Names) (t : Table) where
         | n ∷ rest ↦ unchanged (refused (absent (r .slot)))
       ]
 
+  -- no size is passed by the value v or the path
+  unfoldable pub sized : Octets → Bool
+  sized v = leb (length v) longestValue && fits ns
+
+  -- the table has what is wanted: a free slot for each name that is left
+  unfoldable pub stocked : Names → Bool
+  stocked left = leb (length left) (freeCount t)
+
   -- what is left of the path can be made, with the value v
   unfoldable pub room : Names → Octets → Bool
-  room left v = leb (length v) longestValue && (fits ns && leb (length left) (freeCount t))
+  room left v = sized v && stocked left
 
   -- "Creating needs write on that ancestor instead."
   unfoldable pub created : Reached → Octets → Answer

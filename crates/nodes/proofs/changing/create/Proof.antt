@@ -3,7 +3,8 @@ use Rattle.slots.proofs.Canonical.{sound-canonical}
 use borrow.Author.Tests.{not-true, not-false}
 use Rattle.nodes.proofs.Outcomes.{refused-so, changed-so}
 use Rattle.nodes.proofs.ChangingLaws.{created-denied, created-full, created-done}
-use Rattle.nodes.proofs.RoomLaws.{roomy, left-short}
+use Rattle.rules.proofs.Fitting.{roomy}
+use Rattle.nodes.proofs.RoomLaws.{left-short}
 use borrow.Author.Needs.{needs}
 use Rattle.nodes.proofs.changing.create.Statement.{statement}
 use Rattle.nodes.proofs.changing.create.Tie as tie
