@@ -22,8 +22,8 @@ use Rattle.rules.specs.World.{World, left, to, staled, staledIf, speaksFor, wit
 use Rattle.rules.proofs.GoodNodes.{withoutAll-good}
 use Rattle.rules.proofs.Fitting.{withoutAll-fits}
 use Rattle.rules.proofs.Slots.{table-read}
-use Rattle.laws.proofs.SoundWorld.{TableSound, table-encoded, table-decoded}
-use Rattle.laws.proofs.SoundEntries.{owned-fine}
+use Rattle.rules.proofs.SoundWorld.{TableSound, table-encoded, table-decoded}
+use Rattle.rules.proofs.SoundEntries.{owned-fine}
 use Rattle.lookup.specs.Children.{AllAsked}
 use Rattle.walk.specs.Walk.{Owned}
 use Rattle.tables.specs.Kept.{KeptWatches, KeptTransactions}

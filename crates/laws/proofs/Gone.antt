@@ -30,8 +30,8 @@ use Rattle.rules.proofs.GoodNodes.{stayed, removed-good}
 use Rattle.rules.proofs.RootWays.{reaches-cases, reaches-zero, parent-used}
 use Rattle.rules.proofs.Compare.{same-refl}
 use Rattle.laws.specs.Gone.{Gone, Hears, GoneIsGone}
-use Rattle.laws.proofs.SoundWorld.{SoundWorld}
-use Rattle.laws.proofs.SoundEntries.{NotRoot, owned-fine, unstaled}
+use Rattle.rules.proofs.SoundWorld.{SoundWorld}
+use Rattle.rules.proofs.SoundEntries.{NotRoot, owned-fine, unstaled}
 use Rattle.laws.specs.History.{run}
 use Rattle.laws.proofs.Calls.{served-is, request-good}
 use Rattle.laws.proofs.SoundCalls.{fresh-sound, run-keeps}

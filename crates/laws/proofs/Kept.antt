@@ -9,16 +9,7 @@ use Rattle.rules.specs.Entries.{isEmpty, lowest, without}
 use Rattle.rules.specs.Layout.{Transaction, Transactions}
 use Rattle.rules.specs.World.{staled, staledIf}
 use Rattle.rules.proofs.Places.{nothing, some-is, At, set-cases, lowest-free, at-without}
-
--- an entry that is stale after `staled` was there
-pub getD-staled : (xs : Transactions) (k : ℕ) (y : Transaction) → At (staled xs) k y
-    → (x : Transaction) × At xs k x × (y .holder ≡ x .holder) × (y .stale ≡ true) × (y .changes ≡ x .changes)
-unfolding staled
-getD-staled [] k y e = absurd (nothing e)
-getD-staled (none ∷ xs) zero y e = absurd (nothing e)
-getD-staled (none ∷ xs) (suc k) y e = getD-staled xs k y e
-getD-staled (some x ∷ xs) zero y e = (x, refl, ap Transaction.holder (sym (some-is e)), ap Transaction.stale (sym (some-is e)), ap Transaction.changes (sym (some-is e)))
-getD-staled (some x ∷ xs) (suc k) y e = getD-staled xs k y e
+use Rattle.rules.proofs.OpenTransactions.{getD-staled}
 
 -- ── one request's effect on the open transactions ──
 

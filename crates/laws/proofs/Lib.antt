@@ -7,11 +7,7 @@ pub mod Eagain
 pub mod Refusals
 pub mod Order
 pub mod Ordered
-pub mod SoundWorld
-pub mod SoundEntries
 pub mod SoundRequests
-pub mod Soundness
-pub mod SoundTables
 pub mod SoundCalls
 pub mod Parents
 pub mod Making

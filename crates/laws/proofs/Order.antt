@@ -25,9 +25,9 @@ use Rattle.rules.proofs.Fitting.{AskFits, decoded-fits, answer-fits, withoutAll
 use Rattle.laws.specs.History.{Call, History, requestOf, served, after, run, succeeds}
 use Rattle.laws.specs.Order.{Single, node, released, then, replay, Agrees, Logs, isNinth, addedBy, noted, loggedBy, addedAs, loggedAs, added, logged, orderFrom, order, OneOrder}
 use Rattle.rules.proofs.Places.{nothing, at-below, none-at}
-use Rattle.laws.proofs.Step.{named}
 use Rattle.laws.proofs.Calls.{served-is, served-known, request-good}
 use Rattle.rules.proofs.GoodRequests.{RequestGood, ParsedGood}
+use Rattle.rules.proofs.OpenTransactions.{named}
 use Rattle.laws.proofs.Ordered.{Running, replay-append, agrees-append, keeps, extended, OrderedAt, Turn, fewer-all, fewer-without, fewer-closed, changed-to, with-log, with-copy, with-domains, small-set, small-without, small-known}
 
 -- ── requests on the world w ──

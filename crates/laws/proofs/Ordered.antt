@@ -24,7 +24,7 @@ use Rattle.rules.proofs.Fitting.{Fitting}
 use Rattle.laws.specs.History.{after}
 use Rattle.laws.specs.Order.{Single, node, then, replay, Agrees, Logs, added}
 use Rattle.rules.proofs.Places.{nothing, some-is, at-set, set-cases, at-without, length-without, has-at}
-use Rattle.laws.proofs.Kept.{getD-staled}
+use Rattle.rules.proofs.OpenTransactions.{getD-staled, length-staledIf}
 use Rattle.laws.proofs.Answers.{Shape, stays, alters-to, answer-shape}
 
 -- ── singles one after the other ──
@@ -85,17 +85,6 @@ pub record Turn (w : World) (added : List Single) (ls : Logs) (o : Outcome) : Ty
   pub answers : Agrees (w .nodes) added
 
 -- ── transactions that close or become stale ──
-
-length-staled : (xs : Transactions) → length (staled xs) ≡ length xs
-unfolding staled
-length-staled [] = refl
-length-staled (none ∷ xs) = ap suc (length-staled xs)
-length-staled (some x ∷ xs) = ap suc (length-staled xs)
-
-pub length-staledIf : (b : Bool) (xs : Transactions) → length (staledIf b xs) ≡ length xs
-unfolding staledIf
-length-staledIf false xs = refl
-length-staledIf true xs = length-staled xs
 
 -- the transactions that are open and not stale after it were so before it
 abbrev Fewer : Transactions → Transactions → Type 0

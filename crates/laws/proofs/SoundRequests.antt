@@ -27,10 +27,9 @@ use Rattle.rules.proofs.Fitting.{withoutAll-fits}
 use Rattle.rules.proofs.GoodAnswers.{change-good}
 use Rattle.rules.proofs.GoodNodes.{withoutAll-good}
 use Rattle.rules.proofs.GoodRequests.{AskedGood, WatchedGood, RequestGood, ParsedGood}
-use Rattle.laws.proofs.Ordered.{length-staledIf}
-use Rattle.laws.proofs.Step.{named}
-use Rattle.laws.proofs.SoundWorld.{TransactionSound, TableSound, SoundWorld, table-decoded, asked-sound, known-grown, known-shrunk, known-range, domains-grown, domains-shrunk}
-use Rattle.laws.proofs.SoundEntries.{watches-left, watches-grown, transactions-left, transactions-written, unstaled, transactions-staled, closed-before, owned-fine, Controlled, depth-fits, place-good, place-fits, change-fits}
+use Rattle.rules.proofs.SoundWorld.{TransactionSound, TableSound, SoundWorld, table-decoded, asked-sound, known-grown, known-shrunk, known-range, domains-grown, domains-shrunk}
+use Rattle.rules.proofs.SoundEntries.{watches-left, watches-grown, transactions-left, transactions-written, unstaled, transactions-staled, closed-before, owned-fine, Controlled, depth-fits, place-good, place-fits, change-fits}
+use Rattle.rules.proofs.OpenTransactions.{length-staledIf, named}
 
 -- ── requests on the sound world w ──
 

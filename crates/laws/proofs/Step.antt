@@ -24,6 +24,7 @@ use Rattle.rules.specs.Call.{outcomeOf}
 use Rattle.rules.proofs.Cases.{cond-case}
 use Rattle.laws.specs.History.{succeeds, alters, recorded, changedBy, changedAs, alteredBy, alteredAs}
 use Rattle.rules.proofs.Places.{nothing, some-is, At}
+use Rattle.rules.proofs.OpenTransactions.{named, empty-mapped}
 use Rattle.laws.proofs.Kept.{Effect, quiet, opening, changing, hasChange, Continues, Kept, kept-as, kept-all, kept-without, kept-set, kept-closed, kept-opened, kept-staledIf}
 use Rattle.laws.proofs.Answers.{isEAGAIN, Shape, stays, alters-to, answer-shape}
 
@@ -38,25 +39,6 @@ Sent w tx o (refused ENOSPC) = o ≡ left w (refused ENOSPC)
 Sent w tx o (refused E2BIG) = o ≡ left w (refused E2BIG)
 Sent w tx o (refused EAGAIN) = o ≡ closing w (tx - 1) (refused EAGAIN)
 Sent w tx o (refused ENOSYS) = o ≡ left w (refused ENOSYS)
-
--- the transaction that a request names
-pub named : (w : World) (tx : ℕ) (c : Connection) (x : Transaction) → transactionOf w c tx ≡ some x → (getD (w .transactions) (tx - 1) none ≡ some x) × (c ≡ x .holder)
-unfolding transactionOf
-named w zero c x e = absurd (nothing e)
-named w (suc k) c x e = rw sub-one (go (getD (w .transactions) k none) e)
-  where
-    held : (b : Bool) (y : Transaction) → eqb c (y .holder) ≡ b → cond b (some y) none ≡ some x → (some y ≡ some x) × (c ≡ x .holder)
-    held true y p q = (q, eqb-true _ _ p ∙ ap Transaction.holder (some-is q))
-    held false y p q = absurd (nothing q)
-
-    go : (m : Option Transaction) → (elim m [ none ↦ none | some y ↦ cond (eqb c (y .holder)) (some y) none ]) ≡ some x → (m ≡ some x) × (c ≡ x .holder)
-    go none q = absurd (nothing q)
-    go (some y) q = held (eqb c (y .holder)) y refl q
-
-empty-mapped : {A B : Type 0} (f : A → B) (xs : List A) → isEmpty (map f xs) ≡ isEmpty xs
-unfolding isEmpty
-empty-mapped f [] = refl
-empty-mapped f (x ∷ xs) = refl
 
 -- a refused request changes no table
 alters-refused : (t : Table) (ns : Names) (e : Errno) (a : Ask) → alters t ns (refused e) a ≡ false

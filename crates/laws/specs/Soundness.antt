@@ -10,13 +10,8 @@ use Rattle.rules.specs.Octets.{Octets}
 use Rattle.rules.specs.Path.{Connection, domainOf}
 use Rattle.rules.specs.Sound.{known}
 use Rattle.rules.specs.World.{World, Outcome, freshWorld}
-use Rattle.rules.specs.Call.{Verdict, wrongSize, stranger, callNumber, Tables, sizedTables, sound, worldOf, tablesOf, Result, frameVerdict, turnedAway, delivered, requestCall}
+use Rattle.rules.specs.Call.{Verdict, wrongSize, stranger, callNumber, Tables, sizedTables, Lendable, worldOf, tablesOf, Result, frameVerdict, turnedAway, delivered, requestCall}
 use Rattle.laws.specs.History.{Call, History, served, after, run}
-
--- tables of the right sizes that are sound
-pub record Lendable (t : Tables) : Type 0 where
-  pub sized : sizedTables t ≡ true
-  pub sound : sound t ≡ true
 
 -- The fresh store is sound.
 abbrev pub FreshIsSound : Type 0

@@ -22,9 +22,9 @@ use Rattle.rules.specs.Call as Call
 use Rattle.rules.specs.Call.{Tables, sizedTables, worldOf, tablesOf, outcomeOf}
 use Rattle.rules.proofs.Tables.{decoded-at, length-chunks}
 use Rattle.rules.proofs.EntryLayouts.{whole}
-use Rattle.laws.specs.Soundness.{Lendable}
-use Rattle.laws.proofs.Soundness.{decoded, bytes-back}
-use Rattle.laws.proofs.SoundWorld.{SoundWorld, known-range}
+use Rattle.rules.specs.Call.{Lendable}
+use Rattle.rules.proofs.SoundBytes.{decoded, bytes-back}
+use Rattle.rules.proofs.SoundWorld.{SoundWorld, known-range}
 use Rattle.slots.specs.Slot.{Canonical}
 use Rattle.slots.proofs.Canonical.{sound-canonical}
 use Rattle.tables.specs.Entries.{soundEntries}

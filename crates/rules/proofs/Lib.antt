@@ -23,3 +23,8 @@ pub mod Joined
 pub mod RelativeLaws
 pub mod Reencoding
 pub mod Owned
+pub mod OpenTransactions
+pub mod SoundWorld
+pub mod SoundEntries
+pub mod SoundTables
+pub mod SoundBytes

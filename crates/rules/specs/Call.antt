@@ -1,4 +1,5 @@
 -- The calls on bytes: what each answers, and every byte of every lent buffer after it.
+use mathlib.Core.Path.{_≡_}
 use mathlib.Core.Bool.{Bool, true, false, cond, _&&_}
 use mathlib.Core.List.{_++_, flatMap}
 use Prim.Native.Nat.{ℕ, _+_, _-_}
@@ -66,6 +67,11 @@ sound t =
     soundTable (t .nodes)
     && (soundDomains (t .domains)
     && (soundWatches ds (t .watches) && soundTransactions ds (chunks mostTransactions tableSize (t .copies)) (t .transactions)))
+
+-- tables of the right sizes that are sound: those that a call does not turn away
+pub record Lendable (t : Tables) : Type 0 where
+  pub sized : sizedTables t ≡ true
+  pub sound : sound t ≡ true
 
 unfoldable pub worldOf : Tables → World
 worldOf t =

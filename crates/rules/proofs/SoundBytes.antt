@@ -7,25 +7,24 @@ use Prim.Native.Nat.{ℕ, _*_, _≤_, _<_}
 use lib.ListN.{length, take, drop, length-map}
 use lib.Dec.{eqb}
 use borrow.Author.Tests.{eqb-true, eq-eqb}
 use Rattle.rules.specs.Size.{mostTransactions, mostDomains, mostWatches, tableSize, copiesSize, domainsSize, watchesSize, transactionsSize, transactionSize, mostChanges}
 use Rattle.rules.specs.Octets.{Octets, same, chunks, field}
 use Rattle.rules.specs.Path.{domainOf}
 use Rattle.rules.specs.Event.{Watch, Watches}
 use Rattle.rules.specs.Layout.{Domains, Transaction, Transactions, tableBytes, tableOf, domainsBytes, domainsOf, watchesBytes, watchesOf, transactionIn, transactionsBytes, transactionsOf}
 use Rattle.rules.specs.Sound.{known, goodDomains, soundDomains, goodWatch, goodWatches, soundWatches, goodTable, soundTable, goodTransactions, soundTransactions, goodPlace, noNul}
 use Rattle.rules.specs.World.{World}
-use Rattle.rules.specs.Call.{Tables, sizedTables, sound, worldOf, tablesOf}
+use Rattle.rules.specs.Call.{Tables, sizedTables, sound, Lendable, worldOf, tablesOf}
 use Rattle.rules.proofs.Compare.{same-refl, same-eq}
 use Rattle.rules.proofs.Tables.{Each, length-encoded, length-chunks, decoded-at}
 use Rattle.rules.proofs.Slots.{table-read}
 use Rattle.rules.proofs.Places.{At, at-below, every-at, related-one}
 use Rattle.rules.proofs.EntryLayouts.{whole, copies-read, rows-sized, rows-joined, domains-read, length-domains, watches-read, length-watches}
 use Rattle.rules.proofs.DecodedEntries.{WatchRead, place-named, watch-in, watch-decoded, transaction-in, transaction-decoded}
 use Rattle.rules.proofs.TransactionLayouts.{ChangeFits, transactions-read, length-transactions}
-use Rattle.laws.specs.Soundness.{Lendable}
-use Rattle.laws.proofs.SoundWorld.{DomainsSound, WatchSound, twins, WatchesSound, TransactionsSound, SoundWorld, table-encoded, table-decoded}
-use Rattle.laws.proofs.SoundEntries.{twins-sym}
-use Rattle.laws.proofs.SoundTables.{domains-good, good-domains, domains-fit, watches-parts, watches-good, watches-fit, changes-good, good-changes, transactions-good, good-transactions, transactions-fit}
+use Rattle.rules.proofs.SoundWorld.{DomainsSound, WatchSound, twins, WatchesSound, TransactionsSound, SoundWorld, table-encoded, table-decoded}
+use Rattle.rules.proofs.SoundEntries.{twins-sym}
+use Rattle.rules.proofs.SoundTables.{domains-good, good-domains, domains-fit, watches-parts, watches-good, watches-fit, changes-good, good-changes, transactions-good, good-transactions, transactions-fit}
 
 -- ── a sound world's bytes ──
 

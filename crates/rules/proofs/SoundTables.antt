@@ -8,19 +8,19 @@ use native.Mathlib.Omega.{arith}
 use lib.ListN.{length, getD}
 use lib.Dec.{eqb, leb}
 use borrow.Author.Tests.{eqb-true, eq-eqb, leb-true, le-leb}
 use Rattle.rules.specs.Size.{mostDomains, lastDomain}
 use Rattle.rules.specs.Octets.{Octets}
 use Rattle.rules.specs.Entries.{has}
 use Rattle.rules.specs.Path.{Domain, domainOf}
 use Rattle.rules.specs.Answer.{Change}
 use Rattle.rules.specs.Event.{Watches}
 use Rattle.rules.specs.Layout.{Domains, Transaction, Transactions}
 use Rattle.rules.specs.Sound.{introduced, known, watched, goodDomains, goodWatch, goodWatches, goodChange, goodChanges, soundTable, goodTransactions, goodPlace, noNul}
 use Rattle.rules.proofs.Tables.{Each}
 use Rattle.rules.proofs.Places.{nothing, some-is, At, every, apart, every-at, at-every, related-one, one-related}
 use Rattle.rules.proofs.EntryLayouts.{DomainFits, MaybeWatch}
 use Rattle.rules.proofs.TransactionLayouts.{MaybeTransaction}
-use Rattle.laws.proofs.SoundWorld.{DomainsSound, twins, WatchesSound, TransactionsSound, known-range}
+use Rattle.rules.proofs.SoundWorld.{DomainsSound, twins, WatchesSound, TransactionsSound, known-range}
 
 -- ── entries one by one ──
 

@@ -9,30 +9,28 @@ use lib.ListN.{length, getD, set, length-set}
 use lib.Seq.{getD-set-same, getD-set-other}
 use lib.Dec.{eqb, leb, lit≤}
 use borrow.Author.Tests.{eqb-true, eq-eqb, le-leb}
 use Rattle.rules.specs.Size.{longestPath}
 use Rattle.rules.specs.Octets.{Octets, text, same}
 use Rattle.rules.specs.Entries.{lowest}
 use Rattle.rules.specs.Path.{Domain, Connection, domainOf, Names, isControl, allNames, fits, special, given, base, beyond, introduceName, releaseName}
 use Rattle.rules.specs.Node.{Table, ownedBy}
 use Rattle.rules.specs.Payload.{Place, path, event, depthFor}
 use Rattle.rules.specs.Answer.{Change}
 use Rattle.rules.specs.Event.{Watch, Watches, placeText}
 use Rattle.rules.specs.Layout.{Domains, Transaction, Transactions, tableBytes}
 use Rattle.rules.specs.Sound.{known, twin, watched, soundTable, goodChange, goodPlace, strictlyBelow, eventDepth}
 use Rattle.rules.specs.World.{World, staledIf, placeFits}
 use Rattle.rules.proofs.Compare.{same-eq, eq-same}
 use Rattle.rules.proofs.Tables.{Each, each-set, each-map}
 use Rattle.rules.proofs.Places.{nothing, some-is, At, set-cases, not-has}
 use Rattle.rules.proofs.PathLaws.{Means, means, fits-length}
 use Rattle.rules.proofs.GoodTables.{Good}
 use Rattle.rules.proofs.GoodRequests.{PlaceGood, DepthGood}
 use Rattle.rules.proofs.EntryLayouts.{PlaceFits, DepthFits}
 use Rattle.rules.proofs.TransactionLayouts.{ChangeFits}
 use Rattle.rules.proofs.Owned.{OwnedSlot, owned-slots}
-use Rattle.laws.proofs.Kept.{getD-staled}
-use Rattle.laws.proofs.Ordered.{length-staledIf}
-use Rattle.laws.proofs.Step.{named}
-use Rattle.laws.proofs.SoundWorld.{WatchSound, twins, WatchesSound, TransactionSound, TransactionsSound, TableSound, table-encoded}
+use Rattle.rules.proofs.OpenTransactions.{getD-staled, length-staledIf, named}
+use Rattle.rules.proofs.SoundWorld.{WatchSound, twins, WatchesSound, TransactionSound, TransactionsSound, TableSound, table-encoded}
 
 -- ── watches ──
 
