@@ -7,10 +7,10 @@ use Rattle.rules.specs.Call.{Tables, Refreshed, Result}
 use Rattle.rules.specs.Message.{Delivered}
 use Rattle.haabuvilk.specs.Lent.{refreshed, messaged, requested, FreshMeets, MessageMeets, RequestMeets}
 
-pub one-fresh-outcome : (lent : Tables) (n m : ℕ) (s t : Tables)
-    → FreshMeets lent (refreshed n s) → FreshMeets lent (refreshed m t)
+pub one-fresh-outcome : (before : Tables) (n m : ℕ) (s t : Tables)
+    → FreshMeets before (refreshed n s) → FreshMeets before (refreshed m t)
     → (n ≡ m) × (s ≡ t)
-one-fresh-outcome lent n m s t p q = let e = p ∙ sym q in (ap (λ (r : Refreshed). r .number) e, ap (λ (r : Refreshed). r .tables) e)
+one-fresh-outcome before n m s t p q = let e = p ∙ sym q in (ap (λ (r : Refreshed). r .number) e, ap (λ (r : Refreshed). r .tables) e)
 
 pub one-message-outcome : (watches domains events message : Octets) (count i k : ℕ) (n m a b : ℕ) (x y : Octets)
     → MessageMeets watches domains events message count i k (messaged n a x) → MessageMeets watches domains events message count i k (messaged m b y)
@@ -19,11 +19,11 @@ one-message-outcome watches domains events message count i k n m a b x y p q =
     let e = p ∙ sym q in
     (ap (λ (r : Delivered). r .number) e, ap (λ (r : Delivered). r .messageLength) e, ap (λ (r : Delivered). r .message) e)
 
-pub one-request-outcome : (lent : Tables) (reply events : Octets) (c : Connection) (message : Octets)
+pub one-request-outcome : (before : Tables) (reply events : Octets) (c : Connection) (message : Octets)
     (n m l k i j p q a b : ℕ) (s t : Tables) (x y u v : Octets)
-    → RequestMeets lent reply events c message (requested n l i p a s x u) → RequestMeets lent reply events c message (requested m k j q b t y v)
+    → RequestMeets before reply events c message (requested n l i p a s x u) → RequestMeets before reply events c message (requested m k j q b t y v)
     → (n ≡ m) × (l ≡ k) × (i ≡ j) × (p ≡ q) × (a ≡ b) × (s ≡ t) × (x ≡ y) × (u ≡ v)
-one-request-outcome lent reply events c message n m l k i j p q a b s t x y u v f g =
+one-request-outcome before reply events c message n m l k i j p q a b s t x y u v f g =
     let e = f ∙ sym g in (
       ap (λ (r : Result). r .number) e,
       ap (λ (r : Result). r .replyLength) e,
