@@ -25,7 +25,7 @@ use Rattle.rules.proofs.Slots.{table-read}
 use Rattle.rules.proofs.SoundWorld.{TableSound, table-encoded, table-decoded}
 use Rattle.rules.proofs.SoundEntries.{owned-fine}
 use Rattle.lookup.specs.Children.{AllAsked}
-use Rattle.walk.specs.Walk.{Owned}
+use Rattle.lookup.specs.Walk.{Owned}
 use Rattle.tables.specs.Kept.{KeptWatches, KeptTransactions}
 use Rattle.tables.proofs.TransactionChanges.{without-transactions}
 use Rattle.tables.proofs.WatchChanges.{without-watches}

@@ -11,6 +11,7 @@ ghost use Rattle.handlers.specs.Releasing.{Forgotten, Releasable, Releas
 ghost use Rattle.handlers.specs.Leaves.{tables, itsNodes, itsCopies, itsWatches, itsTransactions};
 use events::changes::removals;
 use events::others::of_domain;
+use lookup::owned::owned;
 use making::removing::remove_all;
 use nodes::kinds::Errno;
 use nodes::kinds::Reply;
@@ -28,7 +29,6 @@ use tables::domains::remove;
 use tables::transaction_changes::remove_of as end_all_of;
 use tables::transaction_changes::stale_all;
 use tables::watch_changes::remove_of;
-use walk::owned::owned;
 
 // Makes a domain known, with its page and channel, and enters who hears of it.
 pub fn introduce(

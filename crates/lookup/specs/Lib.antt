@@ -1,3 +1,4 @@
 pub mod Reach
 pub mod Rights
 pub mod Children
+pub mod Walk

@@ -21,10 +21,10 @@ use Rattle.rules.proofs.Slots.{length-tableOf}
 use Rattle.rules.proofs.Owned.{OwnedSlot, owned-slots, owned-few}
 use Rattle.slots.specs.Slot.{isUsed, entryOf}
 use Rattle.slots.proofs.Canonical.{sound-slots, root-used}
 use Rattle.lookup.specs.Rights.{Asked}
 use Rattle.lookup.specs.Children.{AllAsked, Listed}
 use Rattle.lookup.proofs.RightsLaws.{owner-is}
-use Rattle.walk.specs.Walk.{ownedAmong, Entered, Owned}
+use Rattle.lookup.specs.Walk.{ownedAmong, Entered, Owned}
 
 -- ── a node ──
 

@@ -7,21 +7,21 @@ use lib.ListN.{length, take, length-set}
 use Rattle.rules.specs.Node.{ownedBelow}
 use Rattle.rules.specs.Layout.{tableOf}
 use Rattle.slots.proofs.Canonical.{sound-canonical}
 use Rattle.lookup.proofs.ChildrenLaws.{listed}
-use Rattle.walk.specs.Walk.{ownedAmong}
-use Rattle.walk.proofs.WalkLaws.{below-none, below-own, below-others, among-over, among-next, among-length, entered-none, entered-one, entered-as, entered-join}
+use Rattle.lookup.specs.Walk.{ownedAmong}
+use Rattle.lookup.proofs.WalkLaws.{below-none, below-own, below-others, among-over, among-next, among-length, entered-none, entered-one, entered-as, entered-join}
 use borrow.Fn.Kinds.{In}
 use borrow.Fn.PlainCycle.{Measures, is, falls, and}
-use Rattle.walk.proofs.owned.visit.Reads as visit
-use Rattle.walk.proofs.owned.visit.Kinds as visit-kinds
-use Rattle.walk.proofs.owned.+visit+visit_list.Lts-visit as visit-lts
-use Rattle.walk.proofs.owned.visit_list.Reads as visit-list
-use Rattle.walk.proofs.owned.visit_list.Kinds as visit-list-kinds
-use Rattle.walk.proofs.owned.+visit+visit_list.Lts-visit_list as visit-list-lts
+use Rattle.lookup.proofs.owned.visit.Reads as visit
+use Rattle.lookup.proofs.owned.visit.Kinds as visit-kinds
+use Rattle.lookup.proofs.owned.+visit+visit_list.Lts-visit as visit-lts
+use Rattle.lookup.proofs.owned.visit_list.Reads as visit-list
+use Rattle.lookup.proofs.owned.visit_list.Kinds as visit-list-kinds
+use Rattle.lookup.proofs.owned.+visit+visit_list.Lts-visit_list as visit-list-lts
 use Rattle.lookup.proofs.children.children.Reads as children-reads
 use Rattle.slots.proofs.fields.entry_at.Reads as entry-at-reads
-use Rattle.walk.proofs.owned.+visit+visit_list.{statement}
-use Rattle.walk.proofs.owned.+visit+visit_list.Tie.{close}
+use Rattle.lookup.proofs.owned.+visit+visit_list.{statement}
+use Rattle.lookup.proofs.owned.+visit+visit_list.Tie.{close}
 
 abbrev μ-visit : Measures 2 visit-kinds.ps ℕ
 μ-visit κs a = a .1 .1 .1 .0 * 256

@@ -1,2 +1,0 @@
-// The release walk: the topmost nodes that a domain owns.
-pub mod owned;
