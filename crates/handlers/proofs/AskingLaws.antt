@@ -18,9 +18,9 @@ use Rattle.rules.specs.Node as N
 use Rattle.rules.specs.Payload as P
 use Rattle.rules.specs.Answer as A
 use Rattle.rules.specs.Answer.{done, refused, OK, ENOSPC, errnoText, Change, answer}
-use Rattle.rules.specs.Layout.{Transaction, Transactions, tableBytes, tableOf, transactionsOf, transactionsBytes}
+use Rattle.rules.specs.Layout.{Transaction, Transactions, withChange, tableBytes, tableOf, transactionsOf, transactionsBytes}
 use Rattle.rules.specs.World as W
-use Rattle.rules.specs.World.{World, left, to, copyOf}
+use Rattle.rules.specs.World.{World, left, to, copyOf, withCopy, withTransactions}
 use Rattle.rules.proofs.Tables.{decoded-at}
 use Rattle.rules.proofs.Paste.{paste-own}
 use Rattle.rules.proofs.EntryLayouts.{whole, rows-joined, map-whole}
@@ -143,13 +143,7 @@ module _ (w : World) (k : ℕ) (x : Transaction) (a : A.Answer) where
 
   pub inside-done : (c : Change) → a .change ≡ some c → length (x .changes) < mostChanges → W.inside w k x a
       ≡ to w (a .reply)
-      (record {
-        nodes = w .nodes;
-        copies = set (w .copies) k (tableBytes (a .table));
-        watches = w .watches;
-        transactions = set (w .transactions) k (some (record { holder = x .holder; stale = x .stale; changes = x .changes ++ (c ∷ []) }));
-        domains = w .domains;
-      }) []
+      (withTransactions (withCopy w k (a .table)) (set (w .transactions) k (some (withChange x c)))) []
   unfolding W.inside
   inside-done c e h = rw (e, lt-ltb (length (x .changes)) mostChanges h) refl
 

@@ -16,7 +16,7 @@ use Rattle.rules.specs.Event.{Record, heardOf}
 use Rattle.rules.specs.Layout.{Domains, recordBytes}
 use Rattle.rules.specs.Sound.{introduced}
 use Rattle.rules.specs.World as W
-use Rattle.rules.specs.World.{World, left, introducing}
+use Rattle.rules.specs.World.{World, left, introducing, withDomains}
 use Rattle.rules.specs.Call.{Tables, tablesOf}
 use Rattle.nodes.specs.declared.kinds.Reply.{Reply}
 use Rattle.replies.specs.Framed.{Told}
@@ -37,7 +37,7 @@ module _ (w : World) (d : Domain) (page channel : ℕ) (ds : Domains) (here : w 
     pub introduce-done : k < mostDomains → introducing w d page channel
         ≡ record {
           reply = OK;
-          world = record { nodes = w .nodes; copies = w .copies; watches = w .watches; transactions = w .transactions; domains = set ds k (some d) };
+          world = withDomains w (set ds k (some d));
           records = heardOf introduceName d (w .watches);
           page = page;
           channel = channel;

@@ -15,7 +15,7 @@ use Rattle.rules.specs.Answer.{Reply, OK, ENOENT, EAGAIN, refused, Change}
 use Rattle.rules.specs.Event.{Record, heard}
 use Rattle.rules.specs.Layout.{Transaction, Transactions, tableBytes, tableOf, watchesOf, transactionsBytes, transactionsOf, recordBytes}
 use Rattle.rules.specs.World as W
-use Rattle.rules.specs.World.{World, left, to, staled, staledIf, closing, committing, ending, copyOf}
+use Rattle.rules.specs.World.{World, left, to, staled, staledIf, closing, committing, ending, copyOf, withNodes, withTransactions, told}
 use Rattle.rules.proofs.Paste.{paste-whole}
 use Rattle.tables.specs.Entry.{taken, passes, entryOr}
 use Rattle.tables.specs.Kept.{KeptTransactions}
@@ -112,7 +112,7 @@ module _ (w : World) (c : Connection) (tx : ℕ) where
 
   module _ (x : Transaction) (held : W.transactionOf w c tx ≡ some x) where
     abbrev pub closed : Reply → W.Outcome
-    closed r = to w r (record { nodes = w .nodes; copies = w .copies; watches = w .watches; transactions = set (w .transactions) (tx - 1) none; domains = w .domains }) []
+    closed r = to w r (withTransactions w (set (w .transactions) (tx - 1) none)) []
 
     pub end-dropped : ending w c tx false ≡ closed OK
     unfolding endedBy closing
@@ -149,7 +149,7 @@ module _ (cs : List Change) (t : Octets) (ys : Transactions) where
 module _ (w : World) (k : ℕ) (x : Transaction) where
   pub commit-done : committing w k x
       ≡ to w OK
-      (record { nodes = copyOf w k; copies = w .copies; watches = w .watches; transactions = staledIf (not (isEmpty (x .changes))) (set (w .transactions) k none); domains = w .domains })
+      (withTransactions (withNodes w (copyOf w k)) (told (x .changes) (set (w .transactions) k none)))
       (heard (w .nodes) (copyOf w k) (w .watches) (x .changes))
   unfolding committing
   commit-done = refl

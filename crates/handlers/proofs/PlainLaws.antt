@@ -15,9 +15,10 @@ use Rattle.rules.specs.Payload as P
 use Rattle.rules.specs.Answer as A
 use Rattle.rules.specs.Answer.{Change, answer}
 use Rattle.rules.specs.Event.{Watches, Record, hears, maskOf, heardChange, heard}
+use Rattle.rules.specs.Entries.{isEmpty}
 use Rattle.rules.specs.Layout.{Transactions, tableBytes, tableOf, watchesOf, transactionsOf, transactionsBytes, recordBytes}
 use Rattle.rules.specs.World as W
-use Rattle.rules.specs.World.{World, left, to, staled}
+use Rattle.rules.specs.World.{World, left, to, staled, staledIf, withNodes, withTransactions}
 use Rattle.tables.specs.Kept.{KeptTransactions}
 use Rattle.tables.specs.Transaction.{changeGiven}
 use Rattle.tables.proofs.TransactionChanges.{kept-transactions}
@@ -48,12 +49,12 @@ module _ (w : World) (a : A.Answer) where
   plain-still e = rw e refl
 
   pub plain-done : (c : Change) → a .change ≡ some c → W.plainly w a
-      ≡ to w (a .reply) (record { nodes = a .table; copies = w .copies; watches = w .watches; transactions = staled (w .transactions); domains = w .domains })
+      ≡ to w (a .reply) (withTransactions (withNodes w (a .table)) (staled (w .transactions)))
       (heardChange (w .nodes) (a .table) (w .watches) c)
-  unfolding W.plainly to heard flatMap
+  unfolding W.plainly to heard flatMap staledIf isEmpty
   plain-done c e =
       rw e
-      (ap (λ (rs : List Record). to w (a .reply) (record { nodes = a .table; copies = w .copies; watches = w .watches; transactions = staled (w .transactions); domains = w .domains }) rs)
+      (ap (λ (rs : List Record). to w (a .reply) (withTransactions (withNodes w (a .table)) (staled (w .transactions))) rs)
       (append-nil (heardChange (w .nodes) (a .table) (w .watches) c)))
 
 -- the mask is that of the change which was made

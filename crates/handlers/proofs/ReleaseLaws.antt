@@ -18,12 +18,13 @@ use Rattle.rules.specs.Event.{Watch, Watches, heard, heardOf}
 use Rattle.rules.specs.Layout.{Transaction, Transactions, Domains, tableBytes, tableOf, watchesBytes, watchesOf, transactionsBytes, transactionsOf, domainsBytes, domainsOf}
 use Rattle.rules.specs.Sound.{introduced}
 use Rattle.rules.specs.World as W
-use Rattle.rules.specs.World.{World, left, to, staled, staledIf, speaksFor, withoutWatches, withoutTransactions, releasing}
+use Rattle.rules.specs.World.{World, left, to, staled, staledIf, speaksFor, withoutWatches, withoutTransactions, releasing, withNodes, withWatches, withTransactions, withDomains}
 use Rattle.rules.proofs.GoodNodes.{withoutAll-good}
 use Rattle.rules.proofs.Fitting.{withoutAll-fits}
 use Rattle.rules.proofs.Slots.{table-read}
 use Rattle.rules.proofs.SoundWorld.{TableSound, table-encoded, table-decoded}
 use Rattle.rules.proofs.SoundEntries.{owned-fine}
+use Rattle.rules.proofs.OpenTransactions.{empty-mapped}
 use Rattle.lookup.specs.Children.{AllAsked}
 use Rattle.lookup.specs.Walk.{Owned}
 use Rattle.tables.specs.Kept.{KeptWatches, KeptTransactions}
@@ -152,16 +153,11 @@ module _ (w : World) (d : Domain) (ds : Domains) (here : w .domains ≡ ds) wher
 
   pub release-done : introduced d ds ≡ true → releasing w d
       ≡ to w OK
-      (record {
-        nodes = withoutAll (w .nodes) gone;
-        copies = w .copies;
-        watches = watching;
-        transactions = staledIf (not (isEmpty gone)) (withoutTransactions (eqb d) (w .transactions));
-        domains = without (eqb d) ds;
-      })
+      (withDomains (withTransactions (withWatches (withNodes w (withoutAll (w .nodes) gone)) watching)
+      (staledIf (not (isEmpty gone)) (withoutTransactions (eqb d) (w .transactions)))) (without (eqb d) ds))
       (heard (w .nodes) (withoutAll (w .nodes) gone) watching (map (removalOf (w .nodes)) gone) ++ heardOf releaseName d watching)
   unfolding releasing left to speaksFor W.removalOf removalOf
-  release-done h = rw (here, h) refl
+  release-done h = rw (here, h, empty-mapped (W.removalOf w) gone) refl
 
 module _ (nodes ws xs ds : Octets) (d : Domain) (events nodes′ ws′ xs′ ds′ events′ : Octets) (n : ℕ) (q : Released nodes ws xs ds d events nodes′ ws′ xs′ ds′ events′ n)
     (w : World) (nw : w .nodes ≡ tableOf nodes) (ww : w .watches ≡ watchesOf ws) (xw : w .transactions ≡ transactionsOf xs) (dw : w .domains ≡ domainsOf ds) where

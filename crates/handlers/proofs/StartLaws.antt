@@ -13,7 +13,7 @@ use Rattle.rules.specs.Entries.{lowest}
 use Rattle.rules.specs.Domain.{Connection}
 use Rattle.rules.specs.Answer.{ENOSPC, done, refused}
 use Rattle.rules.specs.Layout.{Transactions, tableBytes, tableOf, transactionIn, transactionsOf}
-use Rattle.rules.specs.World.{World, left, to, starting}
+use Rattle.rules.specs.World.{World, left, to, starting, withCopy, withTransactions}
 use Rattle.rules.proofs.Paste.{paste-nil}
 use Rattle.rules.proofs.Tables.{length-chunks}
 use Rattle.rules.proofs.EntryLayouts.{whole, copy-written, rows-sized, rows-joined}
@@ -50,7 +50,7 @@ module _ (w : World) (c : Connection) (xs : Transactions) (here : w .transaction
 
     pub start-done : k < mostTransactions → starting w c
         ≡ to w (done (decimal (k + 1) ++ nul))
-        (record { nodes = w .nodes; copies = set (w .copies) k (tableBytes (w .nodes)); watches = w .watches; transactions = set xs k (some (opened c)); domains = w .domains }) []
+        (withTransactions (withCopy w k (w .nodes)) (set xs k (some (opened c)))) []
     unfolding starting opened
     start-done h = rw (here, three, ← found, lt-ltb k 3 h, add-one k) refl
 

@@ -20,7 +20,7 @@ use Rattle.rules.specs.Answer.{OK, EEXIST, ENOENT, ENOSPC, refused}
 use Rattle.rules.specs.Event.{Watch, Watches, placeText, firstHeard}
 use Rattle.rules.specs.Layout.{placeIn, watchesOf, watchesBytes}
 use Rattle.rules.specs.Sound.{watched, twin}
-use Rattle.rules.specs.World.{World, left, to, placeFits, watching, unwatching, resetting, withoutWatches, withoutTransactions}
+use Rattle.rules.specs.World.{World, left, to, placeFits, watching, unwatching, resetting, withoutWatches, withoutTransactions, withWatches, withTransactions}
 use Rattle.tables.specs.Entry.{taken, entryOr}
 use Rattle.tables.specs.Kept.{KeptWatches}
 use Rattle.tables.specs.Watch as tables
@@ -75,7 +75,7 @@ module _ (w : World) (c : Connection) (p : Place) (t text : Octets) (ws : Watche
   unwatch-unknown h = rw (here, named, h) refl
 
   pub unwatch-done : watched c text t ws ≡ true → unwatching w c p t
-      ≡ to w OK (record { nodes = w .nodes; copies = w .copies; watches = without (twin c text t) ws; transactions = w .transactions; domains = w .domains }) []
+      ≡ to w OK (withWatches w (without (twin c text t) ws)) []
   unfolding unwatching
   unwatch-done h = rw (here, named, h) refl
 
@@ -98,12 +98,12 @@ module _ (w : World) (c : Connection) (p : Place) (t : Octets) (depth : Option �
       watches-after = set ws k (some (record { owner = c; place = p; depth = depth; token = t }))
 
       pub watch-done : k < mostWatches → watching w c p t depth
-          ≡ to w OK (record { nodes = w .nodes; copies = w .copies; watches = watches-after; transactions = w .transactions; domains = w .domains }) (firstHeard k p watches-after)
+          ≡ to w OK (withWatches w watches-after) (firstHeard k p watches-after)
       unfolding watching placeFits left to
       watch-done h = rw (here, new, sym (and-assoc (placeFits w p) (leb (length t) longestToken) (ltb (lowest ws) (length ws))), short, all, ← found, lt-ltb k mostWatches h) refl
 
 pub reset-done : (w : World) (c : Connection) → resetting w c
-    ≡ to w OK (record { nodes = w .nodes; copies = w .copies; watches = withoutWatches (eqb c) (w .watches); transactions = withoutTransactions (eqb c) (w .transactions); domains = w .domains }) []
+    ≡ to w OK (withTransactions (withWatches w (withoutWatches (eqb c) (w .watches))) (withoutTransactions (eqb c) (w .transactions))) []
 unfolding resetting
 reset-done w c = refl
 
