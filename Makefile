@@ -1,9 +1,10 @@
-.PHONY: help test worked programs archive run clients soak bench
+.PHONY: help test check worked programs archive run clients soak bench
 MINUTES ?= 10
 SEED ?= $(shell date +%s)
 
 help:
 	@echo 'make test     the gate: layout, every proof, every must-fail edit, every program, the archive against the model, the daemon; ends in rt'\''s verdict'
+	@echo 'make check    between landings: the same over what changed since BASE=REV (default: since the branch left origin/main), not from nothing'
 	@echo 'make worked   prove the rule book and list the worked lines that hold'
 	@echo 'make programs prove and build target/bin/trace and target/bin/worked, and hold what they print to document 01'
 	@echo 'make archive  prove the library and write target/staticlib/libhaabuvilk.a; run, clients, soak and bench do it first where it is missing or old'
@@ -17,6 +18,9 @@ test:
 	sh tests/review-sheet.sh
 	sh tests/rule-edits.sh
 	sh tests/gate.sh
+
+check:
+	@sh tests/check.sh $(BASE)
 
 worked:
 	rt check rules
