@@ -8,5 +8,5 @@ out=$1
 shift
 mkdir -p "$(dirname "$out")"
 . host/x86-64.sh
-"$CC" -std=c17 -D_GNU_SOURCE -Wall -Wextra -Werror -O2 "$@" -Iinclude -o "$out" host/*.c "$lib/libhaabuvilk.a"
+"$CC" -std=c17 -D_GNU_SOURCE -Wall -Wextra -Wconversion -Werror -O2 "$@" -Iinclude -o "$out" host/*.c "$lib/libhaabuvilk.a"
 runnable "$out"

@@ -5,24 +5,24 @@
 #include <string.h>
 #include <sys/socket.h>
 
-size_t waiting(const struct connection *c) {
+size_t connection_waiting(const struct connection *c) {
     return c->end - c->start;
 }
 
-size_t next_message(const struct connection *c) {
+size_t connection_next(const struct connection *c) {
     if (c->gathered < 16)
         return 0;
-    uint32_t length = le32(c->in + 12);
+    uint32_t length = core_le32(c->in + 12);
     size_t size = length > MESSAGE_MAX - 16 ? 16 : 16 + length;
     return c->gathered < size ? 0 : size;
 }
 
-void taken(struct connection *c, size_t size) {
+void connection_take(struct connection *c, size_t size) {
     c->gathered -= size;
     memmove(c->in, c->in + size, c->gathered);
 }
 
-void gather(struct connection *c) {
+void connection_gather(struct connection *c) {
     if (c->gathered == sizeof c->in)
         return;
     ssize_t got = recv(c->fd, c->in + c->gathered, sizeof c->in - c->gathered, 0);
@@ -34,15 +34,15 @@ void gather(struct connection *c) {
         c->closing = "it cannot be read";
 }
 
-void put(struct connection *c, const uint8_t *bytes, size_t length) {
+void connection_put(struct connection *c, const uint8_t *bytes, size_t length) {
     if (c->closing)
         return;
-    if (waiting(c) + length > OUT_BOUND) {
+    if (connection_waiting(c) + length > OUT_BOUND) {
         c->closing = "it does not read what it is sent";
         return;
     }
     if (c->end + length > c->room && c->start > 0) {
-        memmove(c->out, c->out + c->start, waiting(c));
+        memmove(c->out, c->out + c->start, connection_waiting(c));
         c->end -= c->start;
         c->start = 0;
     }
@@ -60,9 +60,9 @@ void put(struct connection *c, const uint8_t *bytes, size_t length) {
     c->end += length;
 }
 
-void flush(struct connection *c) {
-    while (!c->closing && waiting(c) > 0) {
-        ssize_t sent = send(c->fd, c->out + c->start, waiting(c), MSG_NOSIGNAL);
+void connection_flush(struct connection *c) {
+    while (!c->closing && connection_waiting(c) > 0) {
+        ssize_t sent = send(c->fd, c->out + c->start, connection_waiting(c), MSG_NOSIGNAL);
         if (sent < 0 && errno == EINTR)
             continue;
         if (sent < 0 && (errno == EAGAIN || errno == EWOULDBLOCK))

@@ -24,21 +24,21 @@ struct connection {
     size_t start, end, room;
 };
 
-size_t waiting(const struct connection *c);
+size_t connection_waiting(const struct connection *c);
 
-/* The size of the first message gathered, if it is there as a whole; the header alone where its len is too large. Else 0. */
-size_t next_message(const struct connection *c);
+/* The size of the first message gathered if it is all there, or of its header where its len is too large; else 0. */
+size_t connection_next(const struct connection *c);
 
 /* Takes the first `size` gathered bytes away. */
-void taken(struct connection *c, size_t size);
+void connection_take(struct connection *c, size_t size);
 
 /* Gathers what has arrived. */
-void gather(struct connection *c);
+void connection_gather(struct connection *c);
 
 /* Puts bytes behind those that wait; past the bound the connection is to be closed. */
-void put(struct connection *c, const uint8_t *bytes, size_t length);
+void connection_put(struct connection *c, const uint8_t *bytes, size_t length);
 
 /* Sends as much of what waits as the connection takes now. */
-void flush(struct connection *c);
+void connection_flush(struct connection *c);
 
 #endif

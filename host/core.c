@@ -4,21 +4,24 @@
 #include <stdlib.h>
 #include <string.h>
 
+/* A buffer and its size, as the calls take them. */
+#define LENT(buffer) buffer, sizeof buffer
+
 enum { NOBODY = -1, UNWATCH = 5, END = 7 };
 
-static uint8_t nodes[HAABUVILK_NODES], copies[HAABUVILK_COPIES], watches[HAABUVILK_WATCHES];
-static uint8_t transactions[HAABUVILK_TRANSACTIONS], domains[HAABUVILK_DOMAINS];
-static uint8_t events[HAABUVILK_EVENTS], event_message[HAABUVILK_EVENT_MESSAGE];
-static int watch_holder[HAABUVILK_WATCH_COUNT], transaction_holder[HAABUVILK_TRANSACTION_COUNT];
+static uint8_t core_nodes[HAABUVILK_NODES], core_copies[HAABUVILK_COPIES], core_watches[HAABUVILK_WATCHES];
+static uint8_t core_transactions[HAABUVILK_TRANSACTIONS], core_domains[HAABUVILK_DOMAINS];
+static uint8_t core_events[HAABUVILK_EVENTS], core_event_message[HAABUVILK_EVENT_MESSAGE];
+static int core_watch_holder[HAABUVILK_WATCH_COUNT], core_transaction_holder[HAABUVILK_TRANSACTION_COUNT];
 
 uint8_t core_reply[HAABUVILK_REPLY];
 uint32_t core_reply_length, core_event_count;
 
-uint32_t le32(const uint8_t *b) {
+uint32_t core_le32(const uint8_t *b) {
     return b[0] | (uint32_t)b[1] << 8 | (uint32_t)b[2] << 16 | (uint32_t)b[3] << 24;
 }
 
-void put_le32(uint8_t *bytes, uint32_t number) {
+void core_put_le32(uint8_t *bytes, uint32_t number) {
     for (int i = 0; i < 4; i++)
         bytes[i] = (uint8_t)(number >> 8 * i);
 }
@@ -30,13 +33,13 @@ static void broken(const char *what) {
 }
 
 void core_start(void) {
-    if (haabuvilk_fresh(nodes, sizeof nodes, copies, sizeof copies, watches, sizeof watches, transactions, sizeof transactions,
-                        domains, sizeof domains) != HAABUVILK_HANDLED)
+    if (haabuvilk_fresh(LENT(core_nodes), LENT(core_copies), LENT(core_watches), LENT(core_transactions),
+                        LENT(core_domains)) != HAABUVILK_HANDLED)
         broken("the library has other table sizes than this program");
     for (int i = 0; i < HAABUVILK_WATCH_COUNT; i++)
-        watch_holder[i] = NOBODY;
+        core_watch_holder[i] = NOBODY;
     for (int i = 0; i < HAABUVILK_TRANSACTION_COUNT; i++)
-        transaction_holder[i] = NOBODY;
+        core_transaction_holder[i] = NOBODY;
 }
 
 /* An entry that is in use and has no holder yet was made by `who`. */
@@ -53,41 +56,41 @@ static void note_holders(const uint8_t *table, size_t size, int *holder, int cou
 static uint32_t request(int who, uint32_t domain, const uint8_t *message, size_t length) {
     int64_t page;
     uint32_t channel;
-    uint32_t number = haabuvilk_request(nodes, sizeof nodes, copies, sizeof copies, watches, sizeof watches,
-                                        transactions, sizeof transactions, domains, sizeof domains, domain, message, length,
-                                        core_reply, sizeof core_reply, events, sizeof events,
-                                        &core_reply_length, &core_event_count, &page, &channel);
+    uint32_t number = haabuvilk_request(
+        LENT(core_nodes), LENT(core_copies), LENT(core_watches), LENT(core_transactions), LENT(core_domains), domain,
+        message, length, LENT(core_reply), LENT(core_events), &core_reply_length, &core_event_count, &page, &channel);
     if (number == HAABUVILK_SIZE || number == HAABUVILK_UNSOUND)
         broken(number == HAABUVILK_SIZE ? "a buffer has the wrong size" : "the tables are not sound");
-    note_holders(watches, HAABUVILK_WATCH, watch_holder, HAABUVILK_WATCH_COUNT, who);
-    note_holders(transactions, HAABUVILK_TRANSACTION, transaction_holder, HAABUVILK_TRANSACTION_COUNT, who);
+    note_holders(core_watches, HAABUVILK_WATCH, core_watch_holder, HAABUVILK_WATCH_COUNT, who);
+    note_holders(core_transactions, HAABUVILK_TRANSACTION, core_transaction_holder, HAABUVILK_TRANSACTION_COUNT, who);
     return number;
 }
 
 uint32_t core_call(int who, uint32_t domain, uint8_t *message, size_t length) {
-    uint32_t id = length < 16 ? 0 : le32(message + 8);
-    bool foreign = id >= 1 && id <= HAABUVILK_TRANSACTION_COUNT && transaction_holder[id - 1] != NOBODY && transaction_holder[id - 1] != who;
+    uint32_t id = length < 16 ? 0 : core_le32(message + 8);
+    bool foreign = id >= 1 && id <= HAABUVILK_TRANSACTION_COUNT && core_transaction_holder[id - 1] != NOBODY &&
+                   core_transaction_holder[id - 1] != who;
     if (!foreign)
         return request(who, domain, message, length);
     /* Asked with an id that no transaction has, and answered with the one that was given. */
-    put_le32(message + 8, UINT32_MAX);
+    core_put_le32(message + 8, UINT32_MAX);
     uint32_t number = request(who, domain, message, length);
     if (number == HAABUVILK_HANDLED)
-        put_le32(core_reply + 8, id);
+        core_put_le32(core_reply + 8, id);
     return number;
 }
 
 void core_deliver(void (*send)(int who, const uint8_t *bytes, size_t length)) {
     for (uint32_t record = 0; record < core_event_count; record++) {
-        const uint8_t *mask = events + HAABUVILK_RECORD * record;
+        const uint8_t *mask = core_events + HAABUVILK_RECORD * record;
         for (uint32_t watch = 0; watch < HAABUVILK_WATCH_COUNT; watch++) {
             uint32_t length;
             if (!(mask[watch / 8] & 0x80 >> watch % 8))
                 continue;
-            if (haabuvilk_event_message(watches, sizeof watches, domains, sizeof domains, events, sizeof events, core_event_count,
-                                        record, watch, event_message, sizeof event_message, &length) != HAABUVILK_HANDLED)
+            if (haabuvilk_event_message(LENT(core_watches), LENT(core_domains), LENT(core_events), core_event_count,
+                                        record, watch, LENT(core_event_message), &length) != HAABUVILK_HANDLED)
                 broken("a record has no message");
-            send(watch_holder[watch], event_message, length);
+            send(core_watch_holder[watch], core_event_message, length);
         }
     }
 }
@@ -95,26 +98,27 @@ void core_deliver(void (*send)(int who, const uint8_t *bytes, size_t length)) {
 /* Sends a request of the host's own for a connection that goes; the answer must be OK. */
 static void settle(int who, uint32_t domain, uint32_t type, uint32_t id, const uint8_t *payload, uint32_t length) {
     uint8_t message[16 + HAABUVILK_WATCH] = {0};
-    put_le32(message, type);
-    put_le32(message + 8, id);
-    put_le32(message + 12, length);
+    core_put_le32(message, type);
+    core_put_le32(message + 8, id);
+    core_put_le32(message + 12, length);
     memcpy(message + 16, payload, length);
-    if (request(who, domain, message, 16 + length) != HAABUVILK_HANDLED || le32(core_reply) != type)
+    if (request(who, domain, message, 16 + length) != HAABUVILK_HANDLED || core_le32(core_reply) != type)
         broken("what a connection held cannot be dropped");
 }
 
 void core_forget(int who, uint32_t domain) {
     for (int i = 0; i < HAABUVILK_WATCH_COUNT; i++) {
-        const uint8_t *watch = watches + HAABUVILK_WATCH * i;
-        if (watch_holder[i] != who)
+        const uint8_t *watch = core_watches + HAABUVILK_WATCH * i;
+        if (core_watch_holder[i] != who)
             continue;
-        uint32_t path = (uint32_t)watch[4] << 1 | watch[5] >> 7, token = watch[5] & 63;
+        const uint8_t *lengths = watch + HAABUVILK_WATCH_LENGTHS;
+        uint32_t path = (uint32_t)lengths[0] << 1 | lengths[1] >> 7, token = lengths[1] & 0x3f;
         uint8_t payload[HAABUVILK_WATCH] = {0};
-        memcpy(payload, watch + 6, path);
-        memcpy(payload + path + 1, watch + 270, token);
+        memcpy(payload, watch + HAABUVILK_WATCH_PATH, path);
+        memcpy(payload + path + 1, watch + HAABUVILK_WATCH_TOKEN, token);
         settle(who, domain, UNWATCH, 0, payload, path + token + 2);
     }
     for (uint32_t i = 0; i < HAABUVILK_TRANSACTION_COUNT; i++)
-        if (transaction_holder[i] == who)
+        if (core_transaction_holder[i] == who)
             settle(who, domain, END, i + 1, (const uint8_t *)"F", 2);
 }

@@ -33,6 +33,9 @@ extern "C" {
 /* Within them: an entry's first bit (0x80 of its first byte) says that it is in use; a record's first two bytes are its mask. */
 #define HAABUVILK_WATCH 302
 #define HAABUVILK_WATCH_COUNT 16
+#define HAABUVILK_WATCH_LENGTHS 4    /* two bytes: the length of the path in 9 bits, a zero, that of the token in 6 */
+#define HAABUVILK_WATCH_PATH 6
+#define HAABUVILK_WATCH_TOKEN 270
 #define HAABUVILK_TRANSACTION 2131
 #define HAABUVILK_TRANSACTION_COUNT 3
 #define HAABUVILK_RECORD 268

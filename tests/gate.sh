@@ -12,6 +12,6 @@ if [ -e build/ci.failed ]; then
     exit 1
 fi
 sh tests/edit-logs.sh
-rt staticlib haabuvilk
+sh host/archive.sh
 sh tests/run.sh
 cat build/ci.verdict

@@ -5,6 +5,7 @@ use model::layout::write_message;
 use model::size::*;
 use model::{Results, Tables};
 use std::hint::black_box;
+use std::io::{Read, Write};
 use std::process::{Command, ExitCode, Stdio};
 use std::time::{Duration, Instant};
 
@@ -14,16 +15,20 @@ const OPEN: [usize; 2] = [0, 3];
 const BARE: [usize; 5] = [0, 1, 2, 3, 5];
 const GUEST: u32 = 5;
 const STRANGER: u32 = 4_000;
+/// How many times an operation is run to count its instructions: the difference of the two is counted.
+const RUNS: [usize; 2] = [2, 6];
 
 const NOTES: &str = "\
 archive       median time of the proved calls, release build, tables put back before each
 model         the same calls by the Rust model of document 01 on the same bytes
 ratio         archive to model
-instructions  of the archive, by callgrind: the difference of two run lengths
+instructions  of the archive, the difference of two run lengths
 checks alone  a sender that isn't introduced: turned away (number 3) right after sizes and soundness
 table copy    a plain copy of all five tables, 66,545 bytes
 nodes         slots in use, the root too; open: transactions, START + WRITE + END T being the third of them where 3 are
-the store     eight guests, five watches, two of which hear the WRITE; a bare store has the same nodes and no guest and no watch";
+the store     eight guests with names as in device/vbd/51712/backend-id, five watches, two of which hear the WRITE; DIRECTORY is of a guest's home
+small letters the same with names of small letters alone, all of a guest's nodes right below its home
+a bare store  has the same nodes and no guest and no watch";
 
 type Request = fn(&mut Tables, u32, &[u8], &mut [u8], &mut [u8]) -> Results;
 
@@ -36,6 +41,15 @@ struct Core {
 
 /// Messages with their senders, sent one after the other.
 type Calls = Vec<(u32, Vec<u8>)>;
+
+/// What the store holds: slots in use, open transactions, names of small letters alone, no guest and no watch.
+#[derive(Clone, Copy)]
+struct Store {
+    nodes: usize,
+    open: usize,
+    letters: bool,
+    bare: bool,
+}
 
 fn message(kind: u32, tx_id: u32, text: &str) -> Vec<u8> {
     let payload = text.replace('|', "\0");
@@ -61,12 +75,16 @@ impl Core {
         }
     }
 
-    /// Tables like those of a box with guests: this many slots in use, five watches, and open transactions of domain 0.
-    /// A bare store has the same nodes, all of domain 0, and no guest and no watch.
-    fn stage(nodes: usize, open: usize, bare: bool) -> Core {
+    fn new() -> Core {
         let zeros = |size| vec![0; size];
         let tables = [NODES, COPIES, WATCHES, TRANSACTIONS, DOMAINS].map(zeros);
-        let mut core = Core { tables, reply: zeros(REPLY), events: zeros(EVENTS) };
+        Core { tables, reply: zeros(REPLY), events: zeros(EVENTS) }
+    }
+
+    /// Tables like those of a box with guests: this many slots in use, five watches, and open transactions of domain 0.
+    /// A bare store has the same nodes, all of domain 0, and no guest and no watch.
+    fn stage(Store { nodes, open, letters, bare }: Store) -> Core {
+        let mut core = Core::new();
         assert_eq!(archive::fresh(&mut core.lent().0), 0);
         let mut send = |sender: u32, kind: u32, tx_id: u32, text: &str| {
             let results = core.call(archive::request, sender, &message(kind, tx_id, text));
@@ -75,17 +93,18 @@ impl Core {
         for guest in (GUEST..GUEST + 8).filter(|_| !bare) {
             send(0, 8, 0, &format!("{guest}|{}|{guest}|", 4096 * guest));
         }
-        for (maker, path) in paths().into_iter().take(nodes - 1) {
+        for (maker, path) in paths(letters).into_iter().take(nodes - 1) {
             send(if bare { 0 } else { maker }, 11, 0, &format!("{path}|some value"));
             if let Some(guest) = path.strip_prefix("/local/domain/").filter(|rest| !bare && !rest.contains('/')) {
                 send(0, 14, 0, &format!("{path}|n{guest}|r0|"));
             }
         }
-        for watch in ["/local/domain|domains|1|", "/local/domain/5|home|", "@releaseDomain|gone|", "@introduceDomain|new|1|"].iter().filter(|_| !bare) {
+        let watches = ["/local/domain|domains|1|", "/local/domain/5|home|", "@releaseDomain|gone|", "@introduceDomain|new|1|"];
+        for watch in watches.iter().filter(|_| !bare) {
             send(0, 4, 0, watch);
         }
         if !bare {
-            send(GUEST, 4, 0, "name|own|");
+            send(GUEST, 4, 0, if letters { "name|own|" } else { "device|own|" });
         }
         (0..open).for_each(|_| send(0, 6, 0, "|"));
         core
@@ -93,8 +112,14 @@ impl Core {
 }
 
 /// Paths with their makers, parents first: each guest's home and fifteen nodes of its own in it.
-fn paths() -> Vec<(u32, String)> {
-    let names = "name vm memory console device control data store cpu error backend hvmloader description image platform";
+fn paths(letters: bool) -> Vec<(u32, String)> {
+    let names = if letters {
+        "name vm memory console device control data store cpu error backend hvmloader description image platform"
+    } else {
+        "name vm device device/vif device/vif/0 device/vif/0/backend-id device/vif/0/mac device/vif/0/event-channel \
+         device/vbd device/vbd/51712 device/vbd/51712/backend-id device/vbd/51712/virtual-device device/vbd/51712/feature-barrier \
+         control control/feature-poweroff"
+    };
     let mut paths = vec![(0, "/local".to_string()), (0, "/local/domain".to_string())];
     for guest in GUEST..GUEST + 8 {
         let home = format!("/local/domain/{guest}");
@@ -107,15 +132,17 @@ fn paths() -> Vec<(u32, String)> {
 const OPERATIONS: [&str; 6] = ["READ", "WRITE of a present node", "DIRECTORY", "START + WRITE + END T", "RELEASE", "checks alone"];
 
 /// An operation's calls; `open` are open before.
-fn calls(operation: usize, open: usize) -> Calls {
+fn calls(operation: usize, open: usize, letters: bool) -> Calls {
     let own = open as u32 + 1;
+    let path = if letters { "/local/domain/5/name" } else { "/local/domain/5/device/vif/0/backend-id" };
+    let (read, write) = (format!("{path}|"), format!("{path}|another value"));
     match operation {
-        0 => vec![(0, message(2, 0, "/local/domain/5/name|"))],
-        1 => vec![(0, message(11, 0, "/local/domain/5/name|another value"))],
+        0 => vec![(0, message(2, 0, &read))],
+        1 => vec![(0, message(11, 0, &write))],
         2 => vec![(0, message(1, 0, "/local/domain/5|"))],
-        3 => vec![(0, message(6, 0, "|")), (0, message(11, own, "/local/domain/5/name|another value")), (0, message(7, own, "T|"))],
+        3 => vec![(0, message(6, 0, "|")), (0, message(11, own, &write)), (0, message(7, own, "T|"))],
         4 => vec![(0, message(9, 0, "5|"))],
-        _ => vec![(STRANGER, message(2, 0, "/local/domain/5/name|"))],
+        _ => vec![(STRANGER, message(2, 0, &read))],
     }
 }
 
@@ -164,32 +191,37 @@ fn copy_time(saved: &Core) -> f64 {
     median((0..5_000).map(|_| one(&mut core)).collect())
 }
 
-/// Instructions inside the archive's calls over one run of this program under callgrind.
-fn collected(operation: usize, nodes: usize, open: usize, bare: bool, times: usize) -> Option<u64> {
-    let output = Command::new("valgrind")
-        .args(["--tool=callgrind", "--callgrind-out-file=/dev/null", "--toggle-collect=haabuvilk_request"])
-        .arg(std::env::current_exe().ok()?)
-        .arg("--count")
-        .args([operation, nodes, open, bare as usize, times].map(|n| n.to_string()))
-        .stdout(Stdio::null())
-        .output()
-        .ok()?;
-    let text = String::from_utf8_lossy(&output.stderr).into_owned();
-    let line = text.lines().find(|line| line.contains("Collected :"))?;
-    line.split(':').nth(1)?.trim().parse().ok()
+/// `bench/count.sh`, which counts instructions.
+fn counter() -> Command {
+    let mut command = Command::new("sh");
+    command.arg(concat!(env!("CARGO_MANIFEST_DIR"), "/count.sh"));
+    command
 }
 
-fn instructions(operation: usize, nodes: usize, open: usize, bare: bool) -> Option<u64> {
-    let (short, long) = (collected(operation, nodes, open, bare, 2)?, collected(operation, nodes, open, bare, 12)?);
-    Some((long - short) / 10)
+/// Instructions inside the archive's calls over one run of this program, which gets the tables on its standard input.
+fn collected(saved: &Core, operation: usize, store: Store, times: usize) -> Option<u64> {
+    let numbers = [operation, store.open, store.letters as usize, times].map(|n| n.to_string());
+    let mut counting = counter();
+    counting.arg(std::env::current_exe().ok()?).arg("--count").args(numbers);
+    let mut child = counting.stdin(Stdio::piped()).stdout(Stdio::piped()).spawn().ok()?;
+    child.stdin.take()?.write_all(&saved.tables.concat()).ok()?;
+    String::from_utf8_lossy(&child.wait_with_output().ok()?.stdout).trim().parse().ok()
 }
 
-/// The part that callgrind runs: an operation so many times.
+fn instructions(saved: &Core, operation: usize, store: Store) -> Option<u64> {
+    let [short, long] = RUNS.map(|times| collected(saved, operation, store, times));
+    Some((long? - short?) / (RUNS[1] - RUNS[0]) as u64)
+}
+
+/// The part whose instructions are counted: an operation so many times.
 fn count(numbers: &[usize]) {
-    let &[operation, nodes, open, bare, times] = numbers else { panic!("five numbers") };
-    let saved = Core::stage(nodes, before(operation, open), bare != 0);
+    let &[operation, open, letters, times] = numbers else { panic!("four numbers") };
+    let mut saved = Core::new();
+    for table in &mut saved.tables {
+        std::io::stdin().read_exact(table).expect("the tables");
+    }
     let mut core = saved.clone();
-    let calls = calls(operation, before(operation, open));
+    let calls = calls(operation, open, letters != 0);
     for _ in 0..times {
         core.put_back(&saved);
         run(&mut core, archive::request, &calls);
@@ -209,33 +241,44 @@ fn grouped(number: u64) -> String {
 }
 
 /// A row of the table.
-fn row(operation: usize, nodes: usize, open: usize, bare: bool, valgrind: bool) {
-    let saved = Core::stage(nodes, before(operation, open), bare);
-    let calls = calls(operation, before(operation, open));
+fn row(operation: usize, store: Store, counted: bool) {
+    let shown = store.open;
+    let store = Store { open: before(operation, shown), ..store };
+    let (saved, calls) = (Core::stage(store), calls(operation, store.open, store.letters));
     let (proved, model) = (time(&saved, archive::request, &calls), time(&saved, model::request, &calls));
-    let counted = if valgrind { instructions(operation, nodes, open, bare).map_or("?".into(), grouped) } else { "-".into() };
-    let (name, ratio) = (OPERATIONS[operation], proved / model);
-    println!("{name:26}{nodes:>6}{open:>6}{proved:>10.2} us{model:>10.2} us{ratio:>8.2}{counted:>14}");
+    let instructions = if counted { instructions(&saved, operation, store).map_or("?".into(), grouped) } else { "-".into() };
+    let (name, nodes, ratio) = (OPERATIONS[operation], store.nodes, proved / model);
+    println!("{name:26}{nodes:>6}{shown:>6}{proved:>10.2} us{model:>10.2} us{ratio:>8.2}{instructions:>14}");
 }
 
 fn table() -> ExitCode {
-    let valgrind = Command::new("valgrind").arg("--version").stdout(Stdio::null()).stderr(Stdio::null()).status().is_ok_and(|s| s.success());
+    let by = counter().output().map_or(String::new(), |output| String::from_utf8_lossy(&output.stdout).trim().to_string());
+    let counted = !by.is_empty();
+    let usual = Store { nodes: 101, open: 0, letters: false, bare: false };
     println!("{:26}{:>6}{:>6}{:>13}{:>13}{:>8}{:>14}", "", "nodes", "open", "archive", "model", "ratio", "instructions");
     for operation in 0..OPERATIONS.len() {
         for open in OPEN {
             for nodes in SIZES {
-                row(operation, nodes, open, false, valgrind);
+                row(operation, Store { nodes, open, ..usual }, counted);
             }
         }
     }
-    println!("{:26}{:>6}{:>6}{:>10.2} us", "table copy", "", "", copy_time(&Core::stage(60, 0, false)));
-    println!("a bare store:");
-    for operation in BARE {
-        row(operation, 101, 0, true, valgrind);
+    println!("{:26}{:>6}{:>6}{:>10.2} us", "table copy", "", "", copy_time(&Core::stage(Store { nodes: 60, ..usual })));
+    println!("names of small letters alone:");
+    for operation in 0..OPERATIONS.len() {
+        row(operation, Store { letters: true, ..usual }, counted);
+    }
+    for letters in [false, true] {
+        println!("a bare store{}:", if letters { ", names of small letters alone" } else { "" });
+        for operation in BARE {
+            row(operation, Store { letters, bare: true, ..usual }, counted);
+        }
     }
     println!("\n{NOTES}");
-    if !valgrind {
-        println!("valgrind is not installed: no instructions were counted");
+    match by.as_str() {
+        "" => println!("no instructions were counted: valgrind is not installed"),
+        "callgrind" => println!("the instructions were counted by callgrind"),
+        _ => println!("the instructions were counted by {by}, which counts them as callgrind does; the times are those of code that it emulates"),
     }
     ExitCode::SUCCESS
 }

@@ -1,4 +1,5 @@
-/* Drives haabuvilkd over its sockets. usage: drive DAEMON FOLDER, where FOLDER is empty. Prints each failure, and a line at the end. */
+/* Drives haabuvilkd over its sockets: drive DAEMON FOLDER, where FOLDER is empty. Prints each failure and a last line.
+ */
 #include <errno.h>
 #include <fcntl.h>
 #include <poll.h>
@@ -15,21 +16,33 @@
 #include <unistd.h>
 
 enum {
-    DIRECTORY = 1, READ = 2, WATCH = 4, UNWATCH = 5, START = 6, END = 7, INTRODUCE = 8, RELEASE = 9,
-    WRITE = 11, MKDIR = 12, RM = 13, SET_PERMS = 14, EVENT = 15, ERROR = 16
+    DIRECTORY = 1,
+    READ = 2,
+    WATCH = 4,
+    UNWATCH = 5,
+    START = 6,
+    END = 7,
+    INTRODUCE = 8,
+    RELEASE = 9,
+    WRITE = 11,
+    MKDIR = 12,
+    RM = 13,
+    SET_PERMS = 14,
+    EVENT = 15,
+    ERROR = 16
 };
 
-static const char *daemon_path;
-static char main_socket[90], guest_socket[90], log_file[90];
-static pid_t daemon_pid;
-static int checks, failures;
+static const char *drive_daemon_path;
+static char drive_main_socket[90], drive_guest_socket[90], drive_log_file[90];
+static pid_t drive_daemon_pid;
+static int drive_checks, drive_failures;
 
 #define CHECK(condition) check((condition), #condition, __LINE__)
 
 static void check(bool holds, const char *what, int line) {
-    checks++;
+    drive_checks++;
     if (!holds) {
-        failures++;
+        drive_failures++;
         printf("host: line %d: not so: %s\n", line, what);
     }
 }
@@ -49,21 +62,22 @@ static int connect_to(const char *path) {
 }
 
 static void start_daemon(void) {
-    daemon_pid = fork();
-    if (daemon_pid == 0) {
+    drive_daemon_pid = fork();
+    if (drive_daemon_pid == 0) {
         char guest[100];
-        snprintf(guest, sizeof guest, "3=%s", guest_socket);
-        int log = open(log_file, O_WRONLY | O_CREAT | O_TRUNC, 0600);
+        snprintf(guest, sizeof guest, "3=%s", drive_guest_socket);
+        int log = open(drive_log_file, O_WRONLY | O_CREAT | O_TRUNC, 0600);
         dup2(log, 2);
-        execl(daemon_path, daemon_path, "--socket", main_socket, "--guest", guest, "--log", (char *)NULL);
+        execl(drive_daemon_path, drive_daemon_path, "--socket", drive_main_socket, "--guest", guest, "--log",
+              (char *)NULL);
         _exit(127);
     }
 }
 
 static int stop_daemon(int signal) {
     int status;
-    kill(daemon_pid, signal);
-    waitpid(daemon_pid, &status, 0);
+    kill(drive_daemon_pid, signal);
+    waitpid(drive_daemon_pid, &status, 0);
     return status;
 }
 
@@ -75,7 +89,7 @@ static int run_daemon(const char *first, const char *second, const char *third, 
         int null = open("/dev/null", O_WRONLY);
         dup2(null, 1);
         dup2(null, 2);
-        execl(daemon_path, daemon_path, first, second, third, fourth, (char *)NULL);
+        execl(drive_daemon_path, drive_daemon_path, first, second, third, fourth, (char *)NULL);
         _exit(127);
     }
     waitpid(child, &status, 0);
@@ -84,7 +98,7 @@ static int run_daemon(const char *first, const char *second, const char *third, 
 
 static bool logged(const char *words) {
     static char text[1 << 24];
-    FILE *file = fopen(log_file, "r");
+    FILE *file = fopen(drive_log_file, "r");
     size_t length = file ? fread(text, 1, sizeof text - 1, file) : 0;
     text[length] = 0;
     if (file)
@@ -157,7 +171,7 @@ static bool asks(int fd, uint32_t type, uint32_t tx, const char *text, const cha
 
 static void frames(void) {
     uint8_t message[200];
-    int a = connect_to(main_socket);
+    int a = connect_to(drive_main_socket);
     size_t length = build(message, WRITE, 9, 0, "/a/b|seven");
     for (size_t i = 0; i < length; i++) {
         CHECK(send_all(a, message + i, 1));
@@ -177,7 +191,7 @@ static void frames(void) {
 }
 
 static void half_closed(void) {
-    int a = connect_to(main_socket);
+    int a = connect_to(drive_main_socket);
     post(a, READ, 1, 0, "/a/b|");
     shutdown(a, SHUT_WR);
     CHECK(is(receive(a), READ, "seven"));
@@ -186,7 +200,7 @@ static void half_closed(void) {
 }
 
 static void watches_of_two(void) {
-    int a = connect_to(main_socket), b = connect_to(main_socket), c = connect_to(main_socket);
+    int a = connect_to(drive_main_socket), b = connect_to(drive_main_socket), c = connect_to(drive_main_socket);
     CHECK(asks(a, WATCH, 0, "/w|one|", "OK|"));
     CHECK(is(receive(a), EVENT, "/w|one|"));
     CHECK(asks(b, WATCH, 0, "/w|two|", "OK|"));
@@ -200,7 +214,7 @@ static void watches_of_two(void) {
     close(b);
     CHECK(asks(c, WRITE, 0, "/w/y|2", "OK|"));
     CHECK(is(receive(a), EVENT, "/w/y|one|"));
-    b = connect_to(main_socket);
+    b = connect_to(drive_main_socket);
     CHECK(asks(b, UNWATCH, 0, "/w|two|", "ENOENT|"));
     CHECK(asks(b, WATCH, 0, "/w|two|", "OK|"));
     CHECK(is(receive(b), EVENT, "/w|two|"));
@@ -212,7 +226,7 @@ static void watches_of_two(void) {
 }
 
 static void transactions_of_two(void) {
-    int a = connect_to(main_socket), b = connect_to(main_socket), c = connect_to(main_socket);
+    int a = connect_to(drive_main_socket), b = connect_to(drive_main_socket), c = connect_to(drive_main_socket);
     CHECK(asks(a, START, 0, "|", "1|"));
     CHECK(asks(b, START, 0, "|", "2|"));
     CHECK(asks(b, WRITE, 2, "/t|b", "OK|"));
@@ -233,7 +247,7 @@ static void transactions_of_two(void) {
 }
 
 static void guests(void) {
-    int g = connect_to(guest_socket), a = connect_to(main_socket);
+    int g = connect_to(drive_guest_socket), a = connect_to(drive_main_socket);
     post(g, READ, 1, 0, "/a|");
     CHECK(closed(g));
     CHECK(logged("domain 3 closed: its domain is not introduced"));
@@ -241,7 +255,7 @@ static void guests(void) {
     CHECK(asks(a, WATCH, 0, "@releaseDomain|gone|", "OK|"));
     CHECK(is(receive(a), EVENT, "@releaseDomain|gone|"));
     CHECK(asks(a, INTRODUCE, 0, "3|1|1|", "OK|"));
-    g = connect_to(guest_socket);
+    g = connect_to(drive_guest_socket);
     CHECK(asks(g, READ, 0, "/a/b|", "EACCES|"));
     CHECK(asks(a, MKDIR, 0, "/local/domain/3|", "OK|"));
     CHECK(asks(a, SET_PERMS, 0, "/local/domain/3|n3|", "OK|"));
@@ -258,7 +272,7 @@ static void guests(void) {
 }
 
 static void too_long(void) {
-    int a = connect_to(main_socket), b = connect_to(main_socket);
+    int a = connect_to(drive_main_socket), b = connect_to(drive_main_socket);
     uint32_t header[4] = {WRITE, 1, 0, 4097};
     CHECK(send_all(a, header, 16));
     CHECK(closed(a));
@@ -270,7 +284,7 @@ static void too_long(void) {
 /* Large replies that are read late: none is lost, and they come in order. */
 static void slow_reader(void) {
     enum { REPLIES = 600 };
-    int a = connect_to(main_socket), small = 4096;
+    int a = connect_to(drive_main_socket), small = 4096;
     char name[60];
     for (int i = 0; i < 60; i++) {
         snprintf(name, sizeof name, "/big/%032d|", i);
@@ -297,7 +311,7 @@ static void slow_reader(void) {
 
 /* A watcher that does not read is dropped; who writes is served all the while. */
 static void stopped_reader(void) {
-    int a = connect_to(main_socket), b = connect_to(main_socket);
+    int a = connect_to(drive_main_socket), b = connect_to(drive_main_socket);
     char text[300] = "";
     for (int i = 0; i < 8; i++)
         strcat(text, "/0123456789abcdef0123456789abcdef");
@@ -318,11 +332,11 @@ static void many_connections(void) {
     enum { MANY = 40 };
     int fds[MANY], guests[8], g;
     for (int i = 0; i < MANY; i++)
-        fds[i] = connect_to(main_socket);
+        fds[i] = connect_to(drive_main_socket);
     CHECK(asks(fds[31], READ, 0, "/a/b|", "seven"));
     post(fds[MANY - 1], READ, 5, 0, "/a/b|");
     CHECK(silent(fds[MANY - 1]));
-    g = connect_to(guest_socket);
+    g = connect_to(drive_guest_socket);
     post(g, READ, 1, 0, "/a|");
     CHECK(closed(g));
     close(g);
@@ -330,7 +344,7 @@ static void many_connections(void) {
         close(fds[i]);
     CHECK(is(receive(fds[MANY - 1]), READ, "seven"));
     for (int i = 0; i < 8; i++)
-        guests[i] = connect_to(guest_socket);
+        guests[i] = connect_to(drive_guest_socket);
     CHECK(asks(fds[MANY - 1], READ, 0, "/a/b|", "seven"));
     for (int i = 0; i < 8; i++)
         close(guests[i]);
@@ -343,7 +357,7 @@ static void nonsense(void) {
     unsigned seed = 12345;
     for (int round = 0; round < 200; round++) {
         uint8_t bytes[600];
-        int a = connect_to(round % 4 ? main_socket : guest_socket);
+        int a = connect_to(round % 4 ? drive_main_socket : drive_guest_socket);
         size_t length = 1 + (seed >> 8) % sizeof bytes;
         for (size_t i = 0; i < length; i++) {
             seed = seed * 1103515245 + 12345;
@@ -356,14 +370,14 @@ static void nonsense(void) {
         send_all(a, bytes, length);
         close(a);
     }
-    int a = connect_to(main_socket);
+    int a = connect_to(drive_main_socket);
     CHECK(asks(a, READ, 0, "/a/b|", "seven"));
     close(a);
 }
 
 static void arguments(void) {
     char plain[120], guest[130];
-    snprintf(plain, sizeof plain, "%s.plain", main_socket);
+    snprintf(plain, sizeof plain, "%s.plain", drive_main_socket);
     snprintf(guest, sizeof guest, "0=%s", plain);
     CHECK(run_daemon("--help", NULL, NULL, NULL) == 0);
     CHECK(run_daemon(NULL, NULL, NULL, NULL) == 2);
@@ -371,7 +385,7 @@ static void arguments(void) {
     CHECK(run_daemon("--other", NULL, NULL, NULL) == 2);
     CHECK(run_daemon("--socket", plain, "--guest", guest) == 2);
     CHECK(run_daemon("--socket", plain, "--guest", "32752=x") == 2);
-    CHECK(run_daemon("--socket", main_socket, NULL, NULL) == 1);
+    CHECK(run_daemon("--socket", drive_main_socket, NULL, NULL) == 1);
     CHECK(run_daemon("--socket", "/nowhere/at/all", NULL, NULL) == 1);
     close(open(plain, O_WRONLY | O_CREAT, 0600));
     CHECK(run_daemon("--socket", plain, NULL, NULL) == 1);
@@ -381,10 +395,10 @@ static void arguments(void) {
 int main(int count, char **words) {
     if (count != 3)
         return 2;
-    daemon_path = words[1];
-    snprintf(main_socket, sizeof main_socket, "%s/socket", words[2]);
-    snprintf(guest_socket, sizeof guest_socket, "%s/guest", words[2]);
-    snprintf(log_file, sizeof log_file, "%s/log", words[2]);
+    drive_daemon_path = words[1];
+    snprintf(drive_main_socket, sizeof drive_main_socket, "%s/socket", words[2]);
+    snprintf(drive_guest_socket, sizeof drive_guest_socket, "%s/guest", words[2]);
+    snprintf(drive_log_file, sizeof drive_log_file, "%s/log", words[2]);
     start_daemon();
     frames();
     half_closed();
@@ -399,16 +413,16 @@ int main(int count, char **words) {
     arguments();
     struct stat found;
     CHECK(stop_daemon(SIGTERM) == 0);
-    CHECK(stat(main_socket, &found) < 0 && stat(guest_socket, &found) < 0);
+    CHECK(stat(drive_main_socket, &found) < 0 && stat(drive_guest_socket, &found) < 0);
     start_daemon();
-    close(connect_to(main_socket));
+    close(connect_to(drive_main_socket));
     CHECK(stop_daemon(SIGKILL) != 0);
-    CHECK(stat(main_socket, &found) == 0);
+    CHECK(stat(drive_main_socket, &found) == 0);
     start_daemon();
     usleep(200000);
-    close(connect_to(main_socket));
+    close(connect_to(drive_main_socket));
     CHECK(stop_daemon(SIGINT) == 0);
-    CHECK(stat(main_socket, &found) < 0 && stat(guest_socket, &found) < 0);
-    printf("host: %d checks, %d failed\n", checks, failures);
-    return failures != 0;
+    CHECK(stat(drive_main_socket, &found) < 0 && stat(drive_guest_socket, &found) < 0);
+    printf("host: %d checks, %d failed\n", drive_checks, drive_failures);
+    return drive_failures != 0;
 }
