@@ -26,9 +26,10 @@ use Rattle.laws.proofs.SoundWorld.{TableSound, table-encoded, table-decoded}
 use Rattle.laws.proofs.SoundEntries.{owned-fine}
 use Rattle.lookup.specs.Children.{AllAsked}
 use Rattle.walk.specs.Walk.{Owned}
-use Rattle.tables.specs.Kept.{KeptWatches, KeptTransactions}
-use Rattle.tables.proofs.TransactionChanges.{without-transactions}
-use Rattle.tables.proofs.WatchChanges.{without-watches}
+use Rattle.watches.specs.Watch.{KeptWatches}
+use Rattle.transactions.specs.Transaction.{KeptTransactions}
+use Rattle.transactions.proofs.Written.{without-transactions}
+use Rattle.watches.proofs.Written.{without-watches}
 use Rattle.events.specs.Records as Events
 use Rattle.events.specs.Stores.{Stores, removalOf, eventName}
 use Rattle.events.proofs.ChangeLaws.{heard-few}

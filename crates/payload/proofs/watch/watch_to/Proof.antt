@@ -9,8 +9,8 @@ use Rattle.payload.specs.Answers.{smallMeant}
 use Rattle.payload.specs.declared.answer.Small.{Small}
 use Rattle.payload.proofs.WatchLaws.{watch-to-not, watch-no-depth, watch-to-means, watch-unfit}
 use borrow.Author.Needs.{needs}
-use Rattle.payload.proofs.watches.watch_to.Statement.{statement}
-use Rattle.payload.proofs.watches.watch_to.Tie as tie
+use Rattle.payload.proofs.watch.watch_to.Statement.{statement}
+use Rattle.payload.proofs.watch.watch_to.Tie as tie
 
 placed-requires : tie.Need-placed-requires
 placed-requires c κs = search needs

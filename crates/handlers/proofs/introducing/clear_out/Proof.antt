@@ -4,8 +4,8 @@ use Rattle.rules.proofs.Paste.{paste-whole}
 use Rattle.slots.proofs.Canonical.{sound-canonical}
 use Rattle.handlers.proofs.ReleaseLaws.{any-mine, removals-ready, domain-ready, released}
 use borrow.Author.Needs.{needs}
-use Rattle.handlers.proofs.domains.clear_out.Statement.{statement}
-use Rattle.handlers.proofs.domains.clear_out.Tie as tie
+use Rattle.handlers.proofs.introducing.clear_out.Statement.{statement}
+use Rattle.handlers.proofs.introducing.clear_out.Tie as tie
 
 slice-aggregate-copy : tie.Need-slice-aggregate-copy
 slice-aggregate-copy c = search needs

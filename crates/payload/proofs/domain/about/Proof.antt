@@ -1,8 +1,8 @@
 use mathlib.Core.Path.{sym}
 use borrow.Author.Tests.{ne-eqb}
 use Rattle.payload.specs.Answers.{toldOf}
-use Rattle.payload.proofs.domains.about.Statement.{statement}
-use Rattle.payload.proofs.domains.about.Tie as tie
+use Rattle.payload.proofs.domain.about.Statement.{statement}
+use Rattle.payload.proofs.domain.about.Tie as tie
 
 returns : tie.Need-returns
 unfolding toldOf

@@ -6,8 +6,8 @@ use native.Mathlib.Omega.{arith}
 use Rattle.payload.proofs.PartsLaws.{TwoStrings, two-told}
 use Rattle.payload.proofs.WatchLaws.{unwatch-other, unwatch-not, unwatch-means}
 use borrow.Author.Needs.{needs}
-use Rattle.payload.proofs.watches.unwatch.Statement.{statement}
-use Rattle.payload.proofs.watches.unwatch.Tie as tie
+use Rattle.payload.proofs.watch.unwatch.Statement.{statement}
+use Rattle.payload.proofs.watch.unwatch.Tie as tie
 
 apart-requires : tie.Need-apart-requires
 apart-requires c κs = search needs

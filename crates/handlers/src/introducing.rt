@@ -5,10 +5,16 @@ ghost use lib.ListN.{length};
 ghost use Rattle.rules.specs.Size.{replySize, eventsSize, lastDomain};
 ghost use Rattle.rules.specs.Layout.{tableOf, watchesOf, transactionsOf, domainsOf};
 ghost use Rattle.rules.specs.World.{World, introducing, releasing};
-ghost use Rattle.tables.specs.Kept.{KeptDomains, KeptWatches, KeptTransactions};
+ghost use Rattle.domains.specs.Kept.{KeptDomains};
+ghost use Rattle.watches.specs.Watch.{KeptWatches};
+ghost use Rattle.transactions.specs.Transaction.{KeptTransactions};
 ghost use Rattle.replies.specs.Handled.{Handled};
 ghost use Rattle.handlers.specs.Releasing.{Forgotten, Releasable, Released};
 ghost use Rattle.handlers.specs.Leaves.{tables, itsNodes, itsCopies, itsWatches, itsTransactions};
+use domains::changes::add;
+use domains::changes::remove;
+use domains::places::introduced;
+use domains::places::lowest_free;
 use events::changes::removals;
 use events::others::of_domain;
 use making::removing::remove_all;
@@ -21,14 +27,10 @@ use octets::sizes::TABLE_SIZE;
 use replies::kinds::Outcome;
 use replies::kinds::okay;
 use replies::kinds::with_events;
-use tables::domains::add;
-use tables::domains::introduced;
-use tables::domains::lowest_free;
-use tables::domains::remove;
-use tables::transaction_changes::remove_of as end_all_of;
-use tables::transaction_changes::stale_all;
-use tables::watch_changes::remove_of;
+use transactions::changes::remove_of as end_all_of;
+use transactions::changes::stale_all;
 use walk::owned::owned;
+use watches::changes::remove_of;
 
 // Makes a domain known, with its page and channel, and enters who hears of it.
 pub fn introduce(

@@ -2,14 +2,14 @@ use mathlib.Core.Path.{refl, sym, ap, _∙_}
 use borrow.Author.Tests.{not-true, not-false}
 use Rattle.rules.specs.Layout.{tableBytes, watchesBytes, transactionsBytes, domainsBytes}
 use Rattle.slots.proofs.Canonical.{sound-canonical}
-use Rattle.tables.proofs.TransactionChanges.{kept-transactions}
-use Rattle.tables.proofs.WatchChanges.{kept-watches}
-use Rattle.tables.proofs.DomainLaws.{kept-domains}
+use Rattle.transactions.proofs.Written.{kept-transactions}
+use Rattle.watches.proofs.Written.{kept-watches}
+use Rattle.domains.proofs.Laws.{kept-domains}
 use Rattle.handlers.proofs.Ways.{refused-so, same-tables}
 use Rattle.handlers.proofs.ReleaseLaws.{release-unknown, released-handled}
 use borrow.Author.Needs.{needs}
-use Rattle.handlers.proofs.domains.release.Statement.{statement}
-use Rattle.handlers.proofs.domains.release.Tie as tie
+use Rattle.handlers.proofs.introducing.release.Statement.{statement}
+use Rattle.handlers.proofs.introducing.release.Tie as tie
 
 introduced-requires : tie.Need-introduced-requires
 introduced-requires c κs = search needs

@@ -13,8 +13,8 @@ use Rattle.payload.specs.declared.answer.Small.{Small}
 use Rattle.payload.proofs.PartsLaws.{OneString, one-told}
 use Rattle.payload.proofs.DomainLaws.{domain-other, domain-not, domain-means}
 use borrow.Author.Needs.{needs}
-use Rattle.payload.proofs.domains.of_domain.Statement.{statement}
-use Rattle.payload.proofs.domains.of_domain.Tie as tie
+use Rattle.payload.proofs.domain.of_domain.Statement.{statement}
+use Rattle.payload.proofs.domain.of_domain.Tie as tie
 
 apart-requires : tie.Need-apart-requires
 apart-requires c κs = search needs

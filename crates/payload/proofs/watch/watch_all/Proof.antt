@@ -2,8 +2,8 @@
 use mathlib.Core.Path.{sym, _∙_}
 use Rattle.payload.proofs.WatchLaws.{watch-all-not, watch-all-means}
 use borrow.Author.Needs.{needs}
-use Rattle.payload.proofs.watches.watch_all.Statement.{statement}
-use Rattle.payload.proofs.watches.watch_all.Tie as tie
+use Rattle.payload.proofs.watch.watch_all.Statement.{statement}
+use Rattle.payload.proofs.watch.watch_all.Tie as tie
 
 placed-requires : tie.Need-placed-requires
 placed-requires c κs = search needs

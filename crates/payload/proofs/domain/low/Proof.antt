@@ -1,8 +1,8 @@
 use mathlib.Core.Path.{ap, sym}
 use borrow.Author.Tests.{ne-eqb}
 use Rattle.payload.specs.Answers.{lowOf}
-use Rattle.payload.proofs.domains.low.Statement.{statement}
-use Rattle.payload.proofs.domains.low.Tie as tie
+use Rattle.payload.proofs.domain.low.Statement.{statement}
+use Rattle.payload.proofs.domain.low.Tie as tie
 
 returns : tie.Need-returns
 unfolding lowOf

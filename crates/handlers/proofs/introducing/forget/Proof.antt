@@ -1,8 +1,8 @@
 use mathlib.Core.Path.{refl}
 use Rattle.handlers.proofs.ReleaseLaws.{ended-kept, forgotten-stale, forgotten-still}
 use borrow.Author.Needs.{needs}
-use Rattle.handlers.proofs.domains.forget.Statement.{statement}
-use Rattle.handlers.proofs.domains.forget.Tie as tie
+use Rattle.handlers.proofs.introducing.forget.Statement.{statement}
+use Rattle.handlers.proofs.introducing.forget.Tie as tie
 
 remove-of-requires : tie.Need-remove-of-requires
 remove-of-requires c κs = search needs

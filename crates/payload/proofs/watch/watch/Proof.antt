@@ -3,8 +3,8 @@ use mathlib.Core.Path.{sym, _∙_}
 use Rattle.payload.proofs.PartsLaws.{two-told, three-told}
 use Rattle.payload.proofs.WatchLaws.{watch-strings, watch-one, watch-other}
 use borrow.Author.Needs.{needs}
-use Rattle.payload.proofs.watches.watch.Statement.{statement}
-use Rattle.payload.proofs.watches.watch.Tie as tie
+use Rattle.payload.proofs.watch.watch.Statement.{statement}
+use Rattle.payload.proofs.watch.watch.Tie as tie
 
 apart-requires : tie.Need-apart-requires
 apart-requires c κs = search needs

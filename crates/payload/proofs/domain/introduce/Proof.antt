@@ -16,8 +16,8 @@ use Rattle.payload.specs.declared.answer.Small.{Small}
 use Rattle.payload.proofs.PartsLaws.{ThreeStrings, three-told}
 use Rattle.payload.proofs.DomainLaws.{introduce-other, introduce-no-domain, introduce-no-page, introduce-no-channel, introduce-means}
 use borrow.Author.Needs.{needs}
-use Rattle.payload.proofs.domains.introduce.Statement.{statement}
-use Rattle.payload.proofs.domains.introduce.Tie as tie
+use Rattle.payload.proofs.domain.introduce.Statement.{statement}
+use Rattle.payload.proofs.domain.introduce.Tie as tie
 
 apart-requires : tie.Need-apart-requires
 apart-requires c κs = search needs

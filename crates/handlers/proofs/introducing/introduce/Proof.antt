@@ -6,13 +6,13 @@ use Rattle.rules.specs.Event.{Watches, heardOf}
 use Rattle.rules.specs.Path.{introduceName}
 use Rattle.rules.specs.Octets.{paste}
 use Rattle.events.specs.Stores.{eventName}
-use Rattle.tables.proofs.DomainLaws.{kept-domains, length-domainsOf}
+use Rattle.domains.proofs.Laws.{kept-domains, length-domainsOf}
 use Rattle.handlers.proofs.PlainLaws.{recorded-first}
 use Rattle.handlers.proofs.Ways.{refused-so, same-tables}
 use Rattle.handlers.proofs.DomainLaws.{introduce-twice, introduce-full, introduce-done, introduced-so}
 use borrow.Author.Needs.{needs}
-use Rattle.handlers.proofs.domains.introduce.Statement.{statement}
-use Rattle.handlers.proofs.domains.introduce.Tie as tie
+use Rattle.handlers.proofs.introducing.introduce.Statement.{statement}
+use Rattle.handlers.proofs.introducing.introduce.Tie as tie
 
 introduced-requires : tie.Need-introduced-requires
 introduced-requires c κs = search needs
