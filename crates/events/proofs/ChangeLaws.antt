@@ -17,8 +17,8 @@ use Rattle.rules.specs.Layout.{tableOf}
 use Rattle.rules.proofs.Cases.{cond-case}
 use Rattle.rules.proofs.PathLaws.{full, text-full, text-names}
 use Rattle.rules.proofs.Tables.{flat-append}
-use Rattle.tables.specs.Transaction.{changeGiven, transactionOf, changeOf, OpenTransaction, HasChange}
-use Rattle.tables.proofs.ChangeLaws.{change-fits}
+use Rattle.transactions.specs.Transaction.{changeGiven, transactionOf, changeOf, OpenTransaction, HasChange}
+use Rattle.transactions.proofs.ChangeLaws.{change-fits}
 use Rattle.lookup.specs.Rights.{Asked}
 use Rattle.events.specs.Records.{Recorded, Room}
 use Rattle.events.specs.Stores.{removalOf}

@@ -21,7 +21,7 @@ use Rattle.rules.specs.Answer.{Change}
 use Rattle.rules.specs.Event.{Watch, Watches, deepEnough, mayHear, hearsAt, hears, maskOf}
 use Rattle.rules.specs.Layout.{maskBits, watchesOf}
 use Rattle.rules.proofs.Fields.{bit-small}
-use Rattle.tables.specs.Entry.{passes}
+use Rattle.domains.specs.Entry.{passes}
 use Rattle.events.specs.Records.{Mask}
 use Rattle.events.proofs.MaskLaws.{Masked, masked-none, masked-next, masked-all, mask-at, mask-long}
 

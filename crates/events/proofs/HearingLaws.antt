@@ -27,14 +27,13 @@ use Rattle.paths.specs.declared.answer.Beyond.the-variants.{Levels, Not}
 use Rattle.slots.proofs.LeftLaws.{left-over}
 use Rattle.lookup.specs.Reach.{Reaches}
 use Rattle.lookup.proofs.ReachLaws.{left-first}
-use Rattle.tables.specs.declared.Depth.{Depth}
-use Rattle.tables.specs.declared.Depth.the-variants.{To, Any}
-use Rattle.tables.specs.Entry.{taken, passes}
-use Rattle.tables.specs.Kept.{KeptWatches}
-use Rattle.tables.specs.Watch.{depthMeant, nobody, watchOf, TakenWatch, watchGiven}
-use Rattle.tables.proofs.Search.{passes-taken}
-use Rattle.tables.proofs.WatchLaws.{is-read}
-use Rattle.tables.proofs.WatchBytes.{read-narrow}
+use Rattle.watches.specs.declared.Depth.{Depth}
+use Rattle.watches.specs.declared.Depth.the-variants.{To, Any}
+use Rattle.domains.specs.Entry.{taken, passes}
+use Rattle.watches.specs.Watch.{KeptWatches, depthMeant, nobody, watchOf, TakenWatch, watchGiven}
+use Rattle.domains.proofs.Search.{passes-taken}
+use Rattle.watches.proofs.Laws.{is-read}
+use Rattle.watches.proofs.Bytes.{read-narrow}
 use Rattle.events.specs.Stores.{hearsAbove, eventName}
 
 -- ── rights ──

@@ -14,8 +14,8 @@ use Rattle.rules.specs.Octets.{Octets, Bits, _bits_, pack, packFrom, bit}
 use Rattle.rules.specs.Event.{Watch, Watches, maskOf, anyBit, onlyFrom}
 use Rattle.rules.specs.Layout.{maskBits, watchesOf}
 use Rattle.rules.proofs.Fields.{bit-small}
-use Rattle.tables.specs.Entry.{passes}
-use Rattle.tables.proofs.WatchBytes.{length-watchesOf}
+use Rattle.domains.specs.Entry.{passes}
+use Rattle.watches.proofs.Bytes.{length-watchesOf}
 use Rattle.events.specs.Records.{Mask}
 
 -- ── the number of a mask ──

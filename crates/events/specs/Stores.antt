@@ -9,7 +9,7 @@ use Rattle.rules.specs.Node.{Table, pathOf}
 use Rattle.rules.specs.Answer.{Change}
 use Rattle.rules.specs.Event.{mayHear}
 use Rattle.rules.specs.Sound.{soundTable}
-use Rattle.tables.specs.Kept.{KeptWatches}
+use Rattle.watches.specs.Watch.{KeptWatches}
 
 -- the node table is sound, and the watches' bytes are those of what they mean
 pub record Store (t watches : Octets) : Type 0 where

@@ -9,7 +9,7 @@ ghost use Rattle.rules.specs.Path.{isFull};
 ghost use Rattle.rules.specs.Node.{Table};
 ghost use Rattle.rules.specs.Event.{hears, maskOf, heardChange, heard};
 ghost use Rattle.rules.specs.Layout.{tableOf, watchesOf};
-ghost use Rattle.tables.specs.Transaction.{changeGiven, transactionOf, OpenTransaction};
+ghost use Rattle.transactions.specs.Transaction.{changeGiven, transactionOf, OpenTransaction};
 ghost use Rattle.lookup.specs.Children.{AllAsked};
 ghost use Rattle.lookup.specs.Rights.{Asked};
 ghost use Rattle.events.specs.Records.{Recorded, Room, Mask};
@@ -19,8 +19,8 @@ use crate::masks::of_change_since;
 use crate::records::keep;
 use octets::sizes::LONGEST_PATH;
 use soundness::chain::path_of;
-use tables::transactions::path;
-use tables::transactions::removed;
+use transactions::places::path;
+use transactions::places::removed;
 
 // Records a change of a full path behind n records, if some watch hears it, in the store as it was before or after it; answers how many
 // records there are then.
@@ -70,7 +70,7 @@ pub fn changes(
     requires { ⌜ Stores (now before) (now after) (now watches) × OpenTransaction (now transactions) k × (length (now events) ≡ eventsSize) ⌝ }
     ensures { λ r. ⌜ Recorded 0 (heard (tableOf (now (before .entry))) (tableOf (now (after .entry))) (watchesOf (now (watches .entry))) (transactionOf (now (transactions .entry)) k .changes)) (now (events .entry)) (now (events .exit)) r ⌝ }
 {
-    let count = tables::transactions::changes(transactions, k);
+    let count = transactions::places::changes(transactions, k);
     let mut n = 0;
     let mut j = 0;
     while j < count {

@@ -11,19 +11,19 @@ ghost use Rattle.rules.specs.Rights.{readable};
 ghost use Rattle.rules.specs.Event.{deepEnough, hearsAt, hears};
 ghost use Rattle.rules.specs.Layout.{tableOf, watchesOf};
 ghost use Rattle.rules.specs.Sound.{soundTable};
-ghost use Rattle.tables.specs.Entry.{passes};
-ghost use Rattle.tables.specs.Watch.{depthMeant, watchGiven};
-ghost use Rattle.tables.specs.Transaction.{changeGiven};
+ghost use Rattle.domains.specs.Entry.{passes};
+ghost use Rattle.watches.specs.Watch.{depthMeant, watchGiven};
+ghost use Rattle.transactions.specs.Transaction.{changeGiven};
 ghost use Rattle.events.specs.Stores.{Store, hearsAbove};
 use lookup::reach::reach;
 use lookup::rights::may_read;
 use paths::answer::Beyond;
 use paths::relation::beyond;
-use tables::Depth;
-use tables::watches::depth;
-use tables::watches::owner;
-use tables::watches::path;
-use tables::watches::used;
+use watches::Depth;
+use watches::places::depth;
+use watches::places::owner;
+use watches::places::path;
+use watches::places::used;
 
 // Whether a full path is there, and a domain may read it.
 fn readable(t: &[u8], domain: u32, path: &[u8]) -> bool

@@ -11,16 +11,16 @@ ghost use Rattle.rules.specs.Path.{isFull};
 ghost use Rattle.rules.specs.Node.{Table};
 ghost use Rattle.rules.specs.Event.{Watch, hears, maskOf, isEvent, onlyFrom};
 ghost use Rattle.rules.specs.Layout.{tableOf, watchesOf};
-ghost use Rattle.tables.specs.Entry.{passes};
-ghost use Rattle.tables.specs.Kept.{KeptWatches};
-ghost use Rattle.tables.specs.Transaction.{changeGiven};
+ghost use Rattle.domains.specs.Entry.{passes};
+ghost use Rattle.watches.specs.Watch.{KeptWatches};
+ghost use Rattle.transactions.specs.Transaction.{changeGiven};
 ghost use Rattle.events.specs.Records.{Mask};
 ghost use Rattle.events.specs.Stores.{Store, eventName};
 use crate::hearing::hears;
 use octets::compare::same;
 use octets::sizes::WATCHES;
-use tables::watches::path;
-use tables::watches::used;
+use watches::places::path;
+use watches::places::used;
 
 // A mask with one more bit.
 fn with_bit(mask: u32, on: bool) -> u32

@@ -5,8 +5,7 @@ ghost use lib.ListN.{length};
 ghost use Rattle.rules.specs.Size.{lastDomain, eventsSize};
 ghost use Rattle.rules.specs.Event.{heardOf, firstHeard};
 ghost use Rattle.rules.specs.Layout.{watchesOf};
-ghost use Rattle.tables.specs.Kept.{KeptWatches};
-ghost use Rattle.tables.specs.Watch.{watchOf, TakenWatch};
+ghost use Rattle.watches.specs.Watch.{KeptWatches, watchOf, TakenWatch};
 ghost use Rattle.events.specs.Records.{Recorded, Room};
 ghost use Rattle.events.specs.Stores.{eventName};
 use crate::masks::of_event;
@@ -14,7 +13,7 @@ use crate::masks::only;
 use crate::records::keep;
 use crate::records::put;
 use octets::written::put_decimal;
-use tables::watches::path;
+use watches::places::path;
 
 // Records that domain d was released, or introduced, behind n records, if some watch is on that; answers how many records there are then.
 pub fn of_domain(released: bool, d: u32, watches: &[u8], n: usize, events: &mut [u8]) -> usize

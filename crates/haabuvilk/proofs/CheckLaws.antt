@@ -17,13 +17,13 @@ use Rattle.rules.specs.Sound.{soundTable, soundDomains, soundWatches, known}
 use Rattle.rules.specs.Call.{Tables, callNumber, sizedTables, sound, lenOf, frameVerdict, requestVerdict}
 use Rattle.rules.proofs.Tables.{length-chunks, decoded-at}
 use Rattle.rules.proofs.EntryLayouts.{whole, map-whole}
-use Rattle.tables.specs.Entry.{taken}
-use Rattle.tables.specs.Entries.{soundEntries, soundCopies}
-use Rattle.tables.specs.Transaction.{opened}
-use Rattle.tables.proofs.Bytes.{and-first, and-rest}
-use Rattle.tables.proofs.Search.{free-none, taken-some}
-use Rattle.tables.proofs.TransactionLaws.{length-transactionsOf}
-use Rattle.tables.proofs.EntriesGood.{sound-parts}
+use Rattle.domains.specs.Entry.{taken}
+use Rattle.transactions.specs.Checks.{soundEntries, soundCopies}
+use Rattle.transactions.specs.Transaction.{opened}
+use Rattle.domains.proofs.Tests.{and-first, and-rest}
+use Rattle.domains.proofs.Search.{free-none, taken-some}
+use Rattle.transactions.proofs.Laws.{length-transactionsOf}
+use Rattle.transactions.proofs.Good.{sound-parts}
 use Rattle.haabuvilk.specs.Checks.{soundCopy}
 
 -- ── copies ──

@@ -8,10 +8,12 @@ ghost use Rattle.rules.specs.Size.{mostTransactions, tableSize, copiesSize, tra
 ghost use Rattle.rules.specs.Octets.{chunks};
 ghost use Rattle.rules.specs.Layout.{transactionsOf};
 ghost use Rattle.rules.specs.Call.{callNumber, sizedTables, sound, frameVerdict, requestVerdict};
-ghost use Rattle.tables.specs.Entries.{soundCopies};
+ghost use Rattle.transactions.specs.Checks.{soundCopies};
 ghost use Rattle.haabuvilk.specs.Lent.{lent};
 ghost use Rattle.haabuvilk.specs.Checks.{soundCopy};
 use crate::sizes::sized_tables;
+use domains::checks::sound_domains;
+use domains::places::known;
 use octets::numbers::number32;
 use octets::sizes::EVENTS_SIZE;
 use octets::sizes::HEADER_SIZE;
@@ -20,11 +22,9 @@ use octets::sizes::REPLY_SIZE;
 use octets::sizes::TABLE_SIZE;
 use octets::sizes::TRANSACTIONS;
 use soundness::table::sound;
-use tables::domains::known;
-use tables::domains::sound_domains;
-use tables::transaction_soundness::sound_entries;
-use tables::transactions::is_open;
-use tables::watch_soundness::sound_watches;
+use transactions::checks::sound_entries;
+use transactions::places::is_open;
+use watches::checks::sound_watches;
 
 const LONGEST_PAYLOAD: u32 = octets::sizes::LONGEST_PAYLOAD as u32;
 

@@ -1,9 +1,9 @@
 // The event message of one record for one watch.
 ghost use Rattle.haabuvilk.specs.Lent.{messaged, MessageMeets};
 use crate::sizes::sized_message;
+use domains::checks::sound_domains;
 use message::Sent;
-use tables::domains::sound_domains;
-use tables::watch_soundness::sound_watches;
+use watches::checks::sound_watches;
 
 // Puts the event message to the front of the lent buffer, and answers 0; or 1, 2 or 6 with the buffer unaltered.
 #[no_mangle]

@@ -26,7 +26,7 @@ use Rattle.rules.proofs.PathLaws.{full, fits-length}
 use Rattle.rules.proofs.GoodAnswers.{AskGood, change-good}
 use Rattle.rules.proofs.GoodRequests.{AskedGood}
 use Rattle.rules.proofs.SoundWorld.{asked-sound, table-encoded, table-decoded}
-use Rattle.tables.specs.Transaction.{changeGiven}
+use Rattle.transactions.specs.Transaction.{changeGiven}
 use Rattle.nodes.specs.Answers.{effectMeant}
 use Rattle.nodes.specs.declared.kinds.Ask.{Ask}
 use Rattle.nodes.specs.declared.kinds.Effect.{Effect}

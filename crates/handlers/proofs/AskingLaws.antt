@@ -25,8 +25,8 @@ use Rattle.rules.proofs.Tables.{decoded-at}
 use Rattle.rules.proofs.Paste.{paste-own}
 use Rattle.rules.proofs.EntryLayouts.{whole, rows-joined, map-whole}
 use Rattle.slots.proofs.Canonical.{sound-canonical}
-use Rattle.tables.specs.Transaction.{transactionOf, changeGiven, changedBy}
-use Rattle.tables.proofs.TransactionChanges.{kept-transactions}
+use Rattle.transactions.specs.Transaction.{transactionOf, changeGiven, changedBy}
+use Rattle.transactions.proofs.Written.{kept-transactions}
 use Rattle.nodes.specs.Answers.{effectMeant, Replies, Answers, Asks, AnsweredAs}
 use Rattle.nodes.specs.declared.kinds.Ask.{Ask}
 use Rattle.nodes.specs.declared.kinds.Errno.the-variants.{NoSpace}

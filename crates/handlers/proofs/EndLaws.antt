@@ -17,9 +17,8 @@ use Rattle.rules.specs.Layout.{Transaction, Transactions, tableBytes, tableOf, 
 use Rattle.rules.specs.World as W
 use Rattle.rules.specs.World.{World, left, to, staled, staledIf, closing, committing, ending, copyOf, withNodes, withTransactions, told}
 use Rattle.rules.proofs.Paste.{paste-whole}
-use Rattle.tables.specs.Entry.{taken, passes, entryOr}
-use Rattle.tables.specs.Kept.{KeptTransactions}
-use Rattle.tables.specs.Transaction.{transactionOf, heldBy, OpenTransaction}
+use Rattle.domains.specs.Entry.{taken, passes, entryOr}
+use Rattle.transactions.specs.Transaction.{KeptTransactions, transactionOf, heldBy, OpenTransaction}
 use Rattle.slots.proofs.Canonical.{sound-canonical}
 use Rattle.nodes.specs.declared.kinds.Reply as Reply
 use Rattle.events.specs.Records as Events

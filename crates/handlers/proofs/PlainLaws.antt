@@ -19,9 +19,8 @@ use Rattle.rules.specs.Entries.{isEmpty}
 use Rattle.rules.specs.Layout.{Transactions, tableBytes, tableOf, watchesOf, transactionsOf, transactionsBytes, recordBytes}
 use Rattle.rules.specs.World as W
 use Rattle.rules.specs.World.{World, left, to, staled, staledIf, withNodes, withTransactions}
-use Rattle.tables.specs.Kept.{KeptTransactions}
-use Rattle.tables.specs.Transaction.{changeGiven}
-use Rattle.tables.proofs.TransactionChanges.{kept-transactions}
+use Rattle.transactions.specs.Transaction.{KeptTransactions, changeGiven}
+use Rattle.transactions.proofs.Written.{kept-transactions}
 use Rattle.nodes.specs.Answers.{effectMeant, Answers, Asks, AnsweredAs}
 use Rattle.nodes.specs.declared.kinds.Ask.{Ask}
 use Rattle.nodes.specs.declared.kinds.Ask.the-variants.{Directory, Read, GetPerms, Write, Mkdir, Rm, SetPerms}

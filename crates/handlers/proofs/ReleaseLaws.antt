@@ -27,9 +27,10 @@ use Rattle.rules.proofs.SoundEntries.{owned-fine}
 use Rattle.rules.proofs.OpenTransactions.{empty-mapped}
 use Rattle.lookup.specs.Children.{AllAsked}
 use Rattle.lookup.specs.Walk.{Owned}
-use Rattle.tables.specs.Kept.{KeptWatches, KeptTransactions}
-use Rattle.tables.proofs.TransactionChanges.{without-transactions}
-use Rattle.tables.proofs.WatchChanges.{without-watches}
+use Rattle.watches.specs.Watch.{KeptWatches}
+use Rattle.transactions.specs.Transaction.{KeptTransactions}
+use Rattle.transactions.proofs.Written.{without-transactions}
+use Rattle.watches.proofs.Written.{without-watches}
 use Rattle.events.specs.Records as Events
 use Rattle.events.specs.Stores.{Stores, removalOf, eventName}
 use Rattle.events.proofs.ChangeLaws.{heard-few}

@@ -21,13 +21,12 @@ use Rattle.rules.specs.Event.{Watch, Watches, placeText, firstHeard}
 use Rattle.rules.specs.Layout.{placeIn, watchesOf, watchesBytes}
 use Rattle.rules.specs.Sound.{watched, twin}
 use Rattle.rules.specs.World.{World, left, to, placeFits, watching, unwatching, resetting, withoutWatches, withoutTransactions, withWatches, withTransactions}
-use Rattle.tables.specs.Entry.{taken, entryOr}
-use Rattle.tables.specs.Kept.{KeptWatches}
-use Rattle.tables.specs.Watch as tables
-use Rattle.tables.specs.Watch.{depthMeant, nobody, watchOf, TakenWatch, FitWatch, named, watchGiven}
-use Rattle.tables.specs.declared.Depth.{Depth}
-use Rattle.tables.proofs.WatchBytes.{length-watchesOf}
-use Rattle.tables.proofs.WatchChanges.{put-kept}
+use Rattle.domains.specs.Entry.{taken, entryOr}
+use Rattle.watches.specs.Watch.{KeptWatches, depthMeant, nobody, watchOf, TakenWatch, FitWatch, named, watchGiven}
+use Rattle.watches.specs.Watch as watches
+use Rattle.watches.specs.declared.Depth.{Depth}
+use Rattle.watches.proofs.Bytes.{length-watchesOf}
+use Rattle.watches.proofs.Written.{put-kept}
 use Rattle.handlers.specs.Watching.{PlacedAs, NamedSo}
 use Rattle.rules.proofs.Compare.{same-eq}
 use Rattle.rules.proofs.PathLaws.{full, full-given, given-event, fits-length}
@@ -133,7 +132,7 @@ fit-watch w true r c text t p n h e =
 fit-watch w false r c text t p n h e =
     let q = and-eq-true-iff (placeFits w (placeIn r text)) (leb (length t) longestToken) .0 e in
     let f : fits (namesIn text) ≡ true = sym (ap (placeFits w) (place-full r text p)) ∙ q .0 in
-    record { owner = h; placed = tables.full p; path = subst (λ (x : Octets). length x ≤ longestPath) (sym (full text p .text)) (fits-length (namesIn text) f); few = leb-true (length t) longestToken (q .1) }
+    record { owner = h; placed = watches.full p; path = subst (λ (x : Octets). length x ≤ longestPath) (sym (full text p .text)) (fits-length (namesIn text) f); few = leb-true (length t) longestToken (q .1) }
 
 -- the table after it is put in
 module _ (s : Octets) (kept : KeptWatches s) (k : ℕ) (below : k < mostWatches) (c : Connection) (text : Octets) (r : Bool) (d : Depth) (t : Octets) (f : FitWatch c text r t) (shallow : entryOr 0 (depthMeant d) < 256)

@@ -17,10 +17,10 @@ use Rattle.rules.specs.Event.{Watches, hears, maskOf, heardChange}
 use Rattle.rules.specs.Layout.{tableOf, watchesOf, transactionsBytes, transactionsOf}
 use Rattle.rules.specs.Sound.{goodEntries, soundTable}
 use Rattle.rules.specs.World.{staled}
-use Rattle.tables.specs.Kept.{KeptWatches, KeptTransactions}
+use Rattle.watches.specs.Watch.{KeptWatches}
+use Rattle.transactions.specs.Transaction.{KeptTransactions, transactionOf, changeGiven, OpenTransaction}
 use Rattle.events.specs.Records as Events
 use Rattle.events.specs.Records.{Mask}
-use Rattle.tables.specs.Transaction.{transactionOf, changeGiven, OpenTransaction}
 use Rattle.nodes.specs.Answers.{Askable, Asks}
 use Rattle.nodes.specs.declared.kinds.Ask.{Ask}
 use Rattle.nodes.specs.declared.kinds.Ask.the-variants.{Directory, Read, GetPerms, Write, Mkdir, Rm, SetPerms}

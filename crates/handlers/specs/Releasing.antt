@@ -15,7 +15,9 @@ use Rattle.rules.specs.Event.{heard, heardOf}
 use Rattle.rules.specs.Layout.{tableBytes, tableOf, watchesBytes, watchesOf, transactionsBytes, transactionsOf, domainsBytes, domainsOf}
 use Rattle.rules.specs.Sound.{soundTable}
 use Rattle.rules.specs.World.{staledIf, withoutWatches, withoutTransactions}
-use Rattle.tables.specs.Kept.{KeptDomains, KeptWatches, KeptTransactions}
+use Rattle.domains.specs.Kept.{KeptDomains}
+use Rattle.watches.specs.Watch.{KeptWatches}
+use Rattle.transactions.specs.Transaction.{KeptTransactions}
 use Rattle.events.specs.Records as Events
 use Rattle.events.specs.Stores.{removalOf}
 

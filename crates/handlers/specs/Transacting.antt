@@ -11,8 +11,8 @@ use Rattle.rules.specs.Layout.{transactionsOf}
 use Rattle.rules.specs.Sound.{soundTable}
 use Rattle.rules.specs.World as W
 use Rattle.rules.specs.World.{World}
-use Rattle.tables.specs.Kept.{KeptWatches, KeptTransactions}
-use Rattle.tables.specs.Transaction.{transactionOf, OpenTransaction}
+use Rattle.watches.specs.Watch.{KeptWatches}
+use Rattle.transactions.specs.Transaction.{KeptTransactions, transactionOf, OpenTransaction}
 use Rattle.handlers.specs.Asking.{copyIn}
 
 -- connection c holds transaction tx, which is open in the place before that of its number

@@ -15,8 +15,7 @@ ghost use Rattle.rules.specs.Layout.{tableOf, watchesOf, transactionsOf, transa
 ghost use Rattle.rules.specs.Sound.{soundTable};
 ghost use Rattle.rules.specs.World as W;
 ghost use Rattle.rules.specs.World.{World, copyOf};
-ghost use Rattle.tables.specs.Kept.{KeptTransactions};
-ghost use Rattle.tables.specs.Transaction.{transactionOf, changeGiven, changedBy};
+ghost use Rattle.transactions.specs.Transaction.{KeptTransactions, transactionOf, changeGiven, changedBy};
 ghost use Rattle.events.specs.Records.{Mask};
 ghost use Rattle.events.specs.Stores.{Store};
 ghost use Rattle.nodes.specs.Answers.{Asks};
@@ -36,9 +35,9 @@ use octets::sizes::MOST_CHANGES;
 use octets::sizes::TABLE_SIZE;
 use replies::kinds::Outcome;
 use replies::kinds::with_events;
-use tables::transaction_changes::add_change;
-use tables::transaction_changes::stale_all;
-use tables::transactions::changes;
+use transactions::changes::add_change;
+use transactions::changes::stale_all;
+use transactions::places::changes;
 
 // The mask of those that hear, in the store as it stands, a change that a request would make; a request that only looks makes none.
 fn hearing(ask: Ask, nodes: &[u8], watches: &[u8], path: &[u8]) -> u32

@@ -1,6 +1,6 @@
 // One handler for each kind of request, on the lent tables.
 pub mod about;
 pub mod asking;
-pub mod domains;
+pub mod introducing;
 pub mod transacting;
 pub mod watching;

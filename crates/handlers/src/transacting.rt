@@ -10,8 +10,7 @@ ghost use Rattle.rules.specs.Entries.{isEmpty};
 ghost use Rattle.rules.specs.Layout.{tableOf, watchesOf, transactionsBytes, transactionsOf};
 ghost use Rattle.rules.specs.World.{World, staledIf, starting, committing, ending};
 ghost use Rattle.slots.specs.Slot.{Canonical};
-ghost use Rattle.tables.specs.Kept.{KeptTransactions};
-ghost use Rattle.tables.specs.Transaction.{transactionOf, OpenTransaction};
+ghost use Rattle.transactions.specs.Transaction.{KeptTransactions, transactionOf, OpenTransaction};
 ghost use Rattle.handlers.specs.Transacting.{HeldOr, Committable};
 ghost use Rattle.replies.specs.Handled.{Handled};
 ghost use Rattle.handlers.specs.Leaves.{tables, itsNodes, itsCopies, itsWatches, itsDomains};
@@ -26,12 +25,12 @@ use octets::written::put_decimal;
 use replies::kinds::Outcome;
 use replies::kinds::okay;
 use replies::kinds::with_events;
-use tables::transaction_changes::close;
-use tables::transaction_changes::open;
-use tables::transaction_changes::stale_all;
-use tables::transactions::held;
-use tables::transactions::lowest_free;
-use tables::transactions::stale;
+use transactions::changes::close;
+use transactions::changes::open;
+use transactions::changes::stale_all;
+use transactions::places::held;
+use transactions::places::lowest_free;
+use transactions::places::stale;
 
 // Starts a connection's transaction: the lowest id that is not open, on a copy of the nodes.
 pub fn start(
@@ -75,7 +74,7 @@ fn close_committed(transactions: &mut [u8], k: usize)
     requires { ⌜ OpenTransaction (now transactions) k ⌝ }
     ensures { λ _. ⌜ now (transactions .exit) ≡ transactionsBytes (staledIf (not (isEmpty (transactionOf (now (transactions .entry)) k .changes))) (set (transactionsOf (now (transactions .entry))) k none)) ⌝ }
 {
-    if tables::transactions::changes(transactions, k) == 0 {
+    if transactions::places::changes(transactions, k) == 0 {
         close(transactions, k);
         return;
     }

@@ -10,10 +10,10 @@ ghost use Rattle.rules.specs.Payload.{Place};
 ghost use Rattle.rules.specs.Event.{placeText};
 ghost use Rattle.rules.specs.Layout.{placeIn, watchesOf, transactionsOf};
 ghost use Rattle.rules.specs.World.{World, placeFits, watching, unwatching, resetting};
-ghost use Rattle.tables.specs.Kept.{KeptWatches, KeptTransactions};
+ghost use Rattle.watches.specs.Watch.{KeptWatches, depthMeant};
+ghost use Rattle.transactions.specs.Transaction.{KeptTransactions};
 ghost use Rattle.replies.specs.Handled.{Handled};
-ghost use Rattle.tables.specs.Entry.{entryOr};
-ghost use Rattle.tables.specs.Watch.{depthMeant};
+ghost use Rattle.domains.specs.Entry.{entryOr};
 ghost use Rattle.handlers.specs.Watching.{PlacedAs, NamedSo};
 ghost use Rattle.handlers.specs.Leaves.{tables, itsNodes, itsCopies, itsTransactions, itsDomains};
 use events::others::first;
@@ -25,13 +25,13 @@ use paths::names::fits;
 use replies::kinds::Outcome;
 use replies::kinds::okay;
 use replies::kinds::with_events;
-use tables::Depth;
-use tables::transaction_changes::remove_of as end_all_of;
-use tables::watch_changes::add;
-use tables::watch_changes::remove_of;
-use tables::watch_changes::remove_twin;
-use tables::watches::lowest_free;
-use tables::watches::watched;
+use transactions::changes::remove_of as end_all_of;
+use watches::Depth;
+use watches::changes::add;
+use watches::changes::remove_of;
+use watches::changes::remove_twin;
+use watches::places::lowest_free;
+use watches::places::watched;
 
 // Whether a watch of a path, or of an event's name, fits with its token.
 fn is_short(path: &[u8], special: bool, token: &[u8]) -> bool

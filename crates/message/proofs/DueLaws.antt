@@ -16,9 +16,9 @@ use Rattle.rules.specs.Message.{recordAt, maskBit, pathLength, pathIn, concerns
 use Rattle.rules.proofs.Compare.{both-true}
 use Rattle.rules.proofs.Slots.{text-few}
 use Rattle.octets.specs.Numbers.{Put}
-use Rattle.tables.specs.Entry.{taken, passes, entryOr}
-use Rattle.tables.specs.Watch.{nobody, watchOf}
-use Rattle.tables.proofs.Search.{passes-free, passes-taken}
+use Rattle.domains.specs.Entry.{taken, passes, entryOr}
+use Rattle.watches.specs.Watch.{nobody, watchOf}
+use Rattle.domains.proofs.Search.{passes-free, passes-taken}
 use Rattle.message.specs.Asked.{dueFor, due, sentAs, sentOver}
 use Rattle.message.specs.declared.Sent.the-variants.{Message, Nothing}
 

@@ -9,7 +9,7 @@ use Rattle.rules.specs.Size.{longestPath, maskSize, recordPathAt, recordSize}
 use Rattle.rules.specs.Octets.{Octets, field, bitsAt}
 use Rattle.rules.specs.Message.{recordAt, maskBit, pathLength, pathIn}
 use Rattle.rules.proofs.Fields.{field-part}
-use Rattle.tables.proofs.Rows.{text-part}
+use Rattle.domains.proofs.Rows.{text-part}
 
 module _ (s : Octets) (i : ℕ) where
   pub mask-read : (k r : ℕ) → r ≡ field s (i * recordSize) 2 → eqb (r / 2 ^ (15 - k) % 2) 1 ≡ maskBit (recordAt s i) k

@@ -17,10 +17,10 @@ use Rattle.rules.proofs.Compare.{both-true}
 use Rattle.rules.proofs.Tables.{each-at}
 use Rattle.rules.proofs.EntryLayouts.{WatchFits, MaybeWatch}
 use Rattle.rules.proofs.DecodedEntries.{sound-watches-fit}
-use Rattle.tables.specs.Watch.{TakenWatch, nobody, watchOf}
-use Rattle.tables.proofs.Search.{taken-some}
-use Rattle.tables.proofs.WatchBytes.{length-watchesOf}
-use Rattle.tables.proofs.WatchChanges.{sound-kept}
+use Rattle.watches.specs.Watch.{TakenWatch, nobody, watchOf}
+use Rattle.domains.proofs.Search.{taken-some}
+use Rattle.watches.proofs.Bytes.{length-watchesOf}
+use Rattle.watches.proofs.Written.{sound-kept}
 use Rattle.message.specs.Asked.{UsedWatch}
 
 -- a used place of good watches has a good place

@@ -14,7 +14,7 @@ use Rattle.rules.specs.Layout.{Domains, watchesOf}
 use Rattle.rules.specs.Sound.{soundWatches}
 use Rattle.rules.specs.Call.{handled, noEvent, callNumber}
 use Rattle.rules.specs.Message.{Delivered, sent, recordAt, maskBit, pathLength, pathIn, concerns}
-use Rattle.tables.specs.Entry.{taken, passes}
+use Rattle.domains.specs.Entry.{taken, passes}
 use Rattle.message.specs.declared.Sent.{Sent}
 use Rattle.message.specs.declared.Sent.the-variants.{Message, Nothing}
 

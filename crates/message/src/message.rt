@@ -22,8 +22,8 @@ use octets::sizes::LEN_AT;
 use octets::sizes::LONGEST_PATH;
 use octets::sizes::REQ_AT;
 use octets::sizes::TX_AT;
-use tables::watches::token;
-use tables::watches::used;
+use watches::places::token;
+use watches::places::used;
 
 const RECORDS: u32 = octets::sizes::RECORDS as u32;
 

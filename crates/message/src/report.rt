@@ -2,7 +2,7 @@
 ghost use mathlib.Core.Path.{_≡_};
 ghost use mathlib.Core.Bool.{true};
 ghost use Rattle.rules.specs.Message.{isDomainPath, concerns, cut, reported};
-ghost use Rattle.tables.specs.Watch.{watchOf};
+ghost use Rattle.watches.specs.Watch.{watchOf};
 ghost use Rattle.message.specs.Asked.{Room, UsedWatch};
 use octets::Number;
 use octets::compare::begins;
@@ -10,11 +10,11 @@ use octets::compare::same;
 use octets::decimals::number_in;
 use octets::written::digits;
 use paths::relation::is_below;
-use tables::Depth;
-use tables::watches::depth;
-use tables::watches::owner;
-use tables::watches::path;
-use tables::watches::relative;
+use watches::Depth;
+use watches::places::depth;
+use watches::places::owner;
+use watches::places::path;
+use watches::places::relative;
 
 const LAST_DOMAIN: u64 = octets::sizes::LAST_DOMAIN as u64;
 

@@ -2,3 +2,4 @@ pub mod Gather
 pub mod Digits
 pub mod Ranges
 pub mod Padding
+pub mod Bytes

@@ -1,11 +1,11 @@
 -- What the answers of this crate mean.
-use mathlib.Core.Bool.{cond, _&&_}
+use mathlib.Core.Bool.{Bool, cond, _&&_}
 use mathlib.Core.Option.{Option, none, some}
 use mathlib.Core.Path.{_≡_}
 use Prim.Native.Nat.{ℕ, _+_, _^_}
 use lib.Dec.{leb, ltb}
-use lib.ListN.{length}
-use Rattle.rules.specs.Octets.{Octets, paste, plainForm, valueFrom}
+use lib.ListN.{length, take, drop}
+use Rattle.rules.specs.Octets.{Octets, allZero, paste, plainForm, valueFrom}
 use Rattle.octets.specs.declared.Decimal.{Decimal}
 use Rattle.octets.specs.declared.Decimal.the-variants.{Value, Malformed, TooLarge}
 use Rattle.octets.specs.declared.Number.{Number}
@@ -27,3 +27,7 @@ decimalOf s = cond (plainForm s) (cond (ltb (valueFrom 0 s) (2 ^ 64)) (Value (va
 pub record Put (at : ℕ) (ys before after : Octets) (next : ℕ) : Type 0 where
   pub bytes : after ≡ paste at ys before
   pub behind : next ≡ at + length ys
+
+-- what stands behind n of the `size` bytes from `at` on is zero
+abbrev pub restZero : Octets → ℕ → ℕ → ℕ → Bool
+restZero s at n size = allZero (drop n (take size (drop at s)))

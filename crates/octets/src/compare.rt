@@ -1,8 +1,9 @@
 // Comparisons of byte strings.
 ghost use mathlib.Core.Path.{_≡_};
 ghost use Prim.Native.Nat.{_+_, _≤_};
-ghost use lib.ListN.{length, take, drop};
+ghost use lib.ListN.{length};
 ghost use Rattle.rules.specs.Octets.{same, less, begins, allZero};
+ghost use Rattle.octets.specs.Numbers.{restZero};
 
 // Whether a and b are the same bytes. Every byte is looked at, with one test at the end.
 pub fn same(a: &[u8], b: &[u8]) -> bool
@@ -37,7 +38,7 @@ pub fn all_zero(s: &[u8]) -> bool
 // looked at in two pieces of fixed lengths, the second half and as many from the text's end on.
 pub fn rest_zero(s: &[u8], at: usize, n: usize, size: usize) -> bool
     requires { ⌜ (n ≤ size) × (at + size ≤ length (now s)) ⌝ }
-    ensures { λ r. ⌜ r ≡ allZero (drop n (take size (drop at (now (s .entry))))) ⌝ }
+    ensures { λ r. ⌜ r ≡ restZero (now (s .entry)) at n size ⌝ }
 {
     let half = size / 2;
     if half < n {

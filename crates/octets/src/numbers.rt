@@ -1,8 +1,9 @@
-// The 32-bit numbers of the frame, low byte first.
+// Numbers in bytes: the 32-bit ones of the frame, low byte first, and those of two bytes of an entry.
 ghost use mathlib.Core.Path.{_≡_};
-ghost use Prim.Native.Nat.{_+_, _≤_};
+ghost use Prim.Native.Nat.{_+_, _<_, _≤_};
 ghost use lib.ListN.{length};
 ghost use Rattle.rules.specs.Octets.{paste, littleEndian, fourBytes};
+ghost use Rattle.octets.specs.Two.{Two};
 
 // The number in the four bytes from `at` on.
 pub fn number32(s: &[u8], at: usize) -> u32
@@ -25,4 +26,14 @@ pub fn put_number32(into: &mut [u8], at: usize, n: u32)
     into[at + 1] = (n / 256 % 256) as u8;
     into[at + 2] = (n / 65536 % 256) as u8;
     into[at + 3] = (n / 16777216 % 256) as u8;
+}
+
+// Two bytes as one number, most significant first.
+pub fn two(s: &[u8], at: usize) -> u32
+    requires { ⌜ at + 1 < length (now s) ⌝ }
+    ensures { λ r. ⌜ Two (now (s .entry)) at r ⌝ }
+{
+    let high = s[at] as u32;
+    let low = s[at + 1] as u32;
+    high * 256 + low
 }

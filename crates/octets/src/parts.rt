@@ -2,7 +2,7 @@
 ghost use mathlib.Core.Path.{_≡_};
 ghost use Prim.Native.Nat.{_+_, _≤_};
 ghost use lib.ListN.{length, replicate};
-ghost use Rattle.rules.specs.Octets.{paste};
+ghost use Rattle.rules.specs.Octets.{paste, padded};
 
 // Puts the bytes of `from` into the buffer, from `at` on.
 pub fn copy(into: &mut [u8], at: usize, from: &[u8])
@@ -26,4 +26,14 @@ pub fn clear(into: &mut [u8], at: usize, n: usize)
         into[at + i] = 0;
         i += 1;
     }
+}
+
+// Puts a text into the `size` bytes from `at` on, with zeros behind it.
+pub fn put_text(into: &mut [u8], at: usize, text: &[u8], size: usize)
+    requires { ⌜ (at + size ≤ length (now into)) × (length (now text) ≤ size) ⌝ }
+    ensures { λ _. ⌜ now (into .exit) ≡ paste at (padded size (now (text .entry))) (now (into .entry)) ⌝ }
+{
+    let n = text.len();
+    clear(into, at + n, size - n);
+    copy(into, at, text);
 }

@@ -8,11 +8,11 @@ use crate::asks::write;
 use crate::bare::end;
 use crate::bare::reset;
 use crate::bare::start;
-use crate::domains::introduce;
-use crate::domains::of_domain;
+use crate::domain::introduce;
+use crate::domain::of_domain;
 use crate::entries::set_perms;
-use crate::watches::unwatch;
-use crate::watches::watch;
+use crate::watch::unwatch;
+use crate::watch::watch;
 
 // The request of a type, a transaction and a payload.
 pub fn parse(kind: u32, tx: u32, s: &[u8]) -> Request

@@ -12,10 +12,12 @@ use Rattle.rules.specs.World.{World}
 use Rattle.rules.specs.Call.{Tables}
 use Rattle.rules.proofs.EntryLayouts.{whole, rows-joined}
 use Rattle.slots.proofs.Canonical.{sound-canonical}
-use Rattle.tables.specs.Kept.{KeptDomains, KeptWatches, KeptTransactions}
-use Rattle.tables.proofs.DomainLaws.{kept-domains}
-use Rattle.tables.proofs.WatchChanges.{kept-watches}
-use Rattle.tables.proofs.TransactionChanges.{kept-transactions}
+use Rattle.domains.specs.Kept.{KeptDomains}
+use Rattle.watches.specs.Watch.{KeptWatches}
+use Rattle.transactions.specs.Transaction.{KeptTransactions}
+use Rattle.domains.proofs.Laws.{kept-domains}
+use Rattle.watches.proofs.Written.{kept-watches}
+use Rattle.transactions.proofs.Written.{kept-transactions}
 use Rattle.replies.specs.Handled.{Handled}
 use Rattle.replies.specs.declared.kinds.Outcome.{Outcome}
 use Rattle.handlers.specs.Leaves.{itsNodes, itsCopies, itsWatches, itsTransactions, itsDomains}

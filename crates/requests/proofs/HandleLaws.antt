@@ -27,13 +27,14 @@ use Rattle.rules.proofs.SoundBytes.{decoded, bytes-back}
 use Rattle.rules.proofs.SoundWorld.{SoundWorld, known-range}
 use Rattle.slots.specs.Slot.{Canonical}
 use Rattle.slots.proofs.Canonical.{sound-canonical}
-use Rattle.tables.specs.Entries.{soundEntries}
-use Rattle.tables.specs.Kept.{KeptDomains, KeptWatches, KeptTransactions}
-use Rattle.tables.specs.Transaction.{opened}
-use Rattle.tables.proofs.Search.{taken-some}
-use Rattle.tables.proofs.DomainLaws as domains
-use Rattle.tables.proofs.WatchChanges as watches
-use Rattle.tables.proofs.EntriesGood as transactions
+use Rattle.transactions.specs.Checks.{soundEntries}
+use Rattle.domains.specs.Kept.{KeptDomains}
+use Rattle.watches.specs.Watch.{KeptWatches}
+use Rattle.transactions.specs.Transaction.{KeptTransactions, opened}
+use Rattle.domains.proofs.Search.{taken-some}
+use Rattle.domains.proofs.Laws as domains
+use Rattle.watches.proofs.Written as watches
+use Rattle.transactions.proofs.Good as transactions
 use Rattle.handlers.specs.Leaves.{tables, itsNodes, itsCopies, itsWatches, itsTransactions, itsDomains}
 use Rattle.handlers.specs.Asking.{copyIn}
 use Rattle.handlers.specs.Transacting.{Committable}

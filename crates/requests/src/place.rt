@@ -13,9 +13,9 @@ ghost use Rattle.octets.specs.Numbers.{Put};
 ghost use Rattle.payload.specs.Strings.{part};
 ghost use Rattle.payload.specs.Meaning as payload;
 ghost use Rattle.payload.specs.Meaning.{placeAt, DepthSound, PathSound, WatchSound};
-ghost use Rattle.tables.specs.Entry.{entryOr};
-ghost use Rattle.tables.specs.Kept.{KeptWatches};
-ghost use Rattle.tables.specs.Watch as tables;
+ghost use Rattle.domains.specs.Entry.{entryOr};
+ghost use Rattle.watches.specs.Watch.{KeptWatches};
+ghost use Rattle.watches.specs.Watch as watches;
 ghost use Rattle.replies.specs.Handled.{Handled};
 ghost use Rattle.handlers.specs.Leaves as leaves;
 ghost use Rattle.handlers.specs.Leaves.{itsNodes, itsCopies, itsTransactions, itsDomains};
@@ -67,13 +67,13 @@ fn is_foreign(special: bool, c: u32) -> bool
 }
 
 // A depth of up to 255, in a byte.
-fn depth_of(depth: Depth) -> tables::Depth
+fn depth_of(depth: Depth) -> watches::Depth
     requires { ⌜ DepthSound depth ⌝ }
-    ensures { λ r. ⌜ (tables.depthMeant r ≡ payload.depthMeant depth) × (entryOr 0 (tables.depthMeant r) < 256) ⌝ }
+    ensures { λ r. ⌜ (watches.depthMeant r ≡ payload.depthMeant depth) × (entryOr 0 (watches.depthMeant r) < 256) ⌝ }
 {
     match depth {
-        Depth::Given(k) => tables::Depth::To((k % 256) as u8),
-        Depth::None => tables::Depth::Any,
+        Depth::Given(k) => watches::Depth::To((k % 256) as u8),
+        Depth::None => watches::Depth::Any,
     }
 }
 

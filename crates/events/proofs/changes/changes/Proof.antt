@@ -3,7 +3,7 @@ use Prim.Native.Nat.{_-_, _≤_}
 use native.Mathlib.Omega.{arith}
 use lib.ListN.{length}
 use Rattle.rules.specs.Layout.{tableOf, watchesOf}
-use Rattle.tables.specs.Transaction.{transactionOf, noChange}
+use Rattle.transactions.specs.Transaction.{transactionOf, noChange}
 use Rattle.events.proofs.ChangeLaws.{Entered, entered-none, entered-room, entered-next, entered-all, has-change, change-full, change-short, change-given}
 use Rattle.events.proofs.changes.changes.Statement.{statement}
 use Rattle.events.proofs.changes.changes.Tie as tie

@@ -2,7 +2,7 @@ use mathlib.Core.Path.{sym, _∙_}
 use native.Mathlib.Omega.{arith}
 use borrow.Author.Tests.{not-true}
 use borrow.Author.Needs.{needs}
-use Rattle.tables.proofs.Search.{passes-free}
+use Rattle.domains.proofs.Search.{passes-free}
 use Rattle.events.proofs.HearingLaws.{taken-here, on-path, deaf, hears-so}
 use Rattle.events.proofs.hearing.hears.Statement.{statement}
 use Rattle.events.proofs.hearing.hears.Tie as tie

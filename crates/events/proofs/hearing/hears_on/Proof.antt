@@ -1,8 +1,8 @@
 use mathlib.Core.Path.{sym, _∙_}
 use borrow.Author.Tests.{not-true, not-false}
 use borrow.Author.Needs.{needs}
-use Rattle.tables.specs.Transaction.{changeGiven}
-use Rattle.tables.specs.Watch.{watchGiven}
+use Rattle.transactions.specs.Transaction.{changeGiven}
+use Rattle.watches.specs.Watch.{watchGiven}
 use Rattle.events.proofs.HearingLaws.{hear-once, too-deep, within-depth, not-below}
 use Rattle.events.proofs.hearing.hears_on.Statement.{statement}
 use Rattle.events.proofs.hearing.hears_on.Tie as tie

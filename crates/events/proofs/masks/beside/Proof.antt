@@ -2,7 +2,7 @@ use Prim.Native.Nat.{_-_}
 use native.Mathlib.Omega.{arith}
 use Rattle.rules.specs.Layout.{tableOf}
 use Rattle.rules.specs.Event.{hears}
-use Rattle.tables.specs.Transaction.{changeGiven}
+use Rattle.transactions.specs.Transaction.{changeGiven}
 use Rattle.events.proofs.EitherLaws.{Beside, beside-none, beside-small, beside-next, beside-all}
 use Rattle.events.proofs.masks.beside.Statement.{statement}
 use Rattle.events.proofs.masks.beside.Tie as tie

@@ -4,7 +4,7 @@ use borrow.Author.Tests.{not-true}
 use borrow.Author.Needs.{needs}
 use Rattle.rules.specs.Path.{introduceName, releaseName}
 use Rattle.rules.specs.Octets.{text}
-use Rattle.tables.proofs.Search.{passes-free}
+use Rattle.domains.proofs.Search.{passes-free}
 use Rattle.events.specs.Stores.{eventName}
 use Rattle.events.proofs.HearingLaws.{taken-here, event-hears}
 use Rattle.events.proofs.masks.is_event.Statement.{statement}

@@ -6,8 +6,8 @@ use borrow.Author.Tests.{not-true, not-false}
 use Rattle.rules.specs.Size.{mostTransactions, tableSize}
 use Rattle.rules.specs.Octets.{chunks}
 use Rattle.rules.specs.Layout.{transactionsOf}
-use Rattle.tables.specs.Entries.{soundCopies}
-use Rattle.tables.proofs.Bytes.{and-first, and-rest}
+use Rattle.transactions.specs.Checks.{soundCopies}
+use Rattle.domains.proofs.Tests.{and-first, and-rest}
 use Rattle.haabuvilk.proofs.CheckLaws.{copies-next, copies-over}
 use Rattle.haabuvilk.proofs.checks.sound_copies.Statement.{statement}
 use Rattle.haabuvilk.proofs.checks.sound_copies.Tie as tie

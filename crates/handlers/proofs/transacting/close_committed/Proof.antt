@@ -1,7 +1,7 @@
 use mathlib.Core.Path.{sym, ap, _∙_}
 use Rattle.rules.specs.World.{staled}
 use Rattle.rules.specs.Layout.{Transactions, transactionsBytes}
-use Rattle.tables.proofs.TransactionChanges.{close-kept}
+use Rattle.transactions.proofs.Written.{close-kept}
 use Rattle.handlers.proofs.EndLaws.{committed-still, committed-stale}
 use borrow.Author.Needs.{needs}
 use Rattle.handlers.proofs.transacting.close_committed.Statement.{statement}

@@ -8,7 +8,7 @@ use Prim.Native.Nat.{_-_}
 use lib.ListN.{set}
 use borrow.Author.Tests.{not-true, not-false}
 use Rattle.slots.proofs.Canonical.{sound-canonical}
-use Rattle.tables.proofs.TransactionChanges.{kept-transactions}
+use Rattle.transactions.proofs.Written.{kept-transactions}
 use borrow.Author.Needs.{needs}
 use Rattle.handlers.proofs.transacting.end.Statement.{statement}
 use Rattle.handlers.proofs.transacting.end.Tie as tie

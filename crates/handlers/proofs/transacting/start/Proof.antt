@@ -6,7 +6,7 @@ use Rattle.rules.proofs.Decimals.{length-decimal-le}
 use Rattle.rules.proofs.EntryLayouts.{whole, rows-joined}
 use Rattle.rules.specs.Size.{mostTransactions, tableSize}
 use Rattle.rules.specs.Layout.{transactionsBytes}
-use Rattle.tables.proofs.TransactionChanges.{kept-transactions}
+use Rattle.transactions.proofs.Written.{kept-transactions}
 use Rattle.handlers.proofs.StartLaws.{three-transactions, start-full, start-done, id-told, copied}
 use Rattle.handlers.proofs.Ways.{refused-so, done-so, same-tables}
 use borrow.Author.Needs.{needs}

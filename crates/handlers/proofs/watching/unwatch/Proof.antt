@@ -1,7 +1,7 @@
 use borrow.Author.Tests.{not-true, not-false}
 use mathlib.Core.Path.{refl, sym, ap, _∙_}
 use Rattle.rules.specs.Layout.{watchesBytes}
-use Rattle.tables.proofs.WatchChanges.{kept-watches}
+use Rattle.watches.proofs.Written.{kept-watches}
 use Rattle.handlers.proofs.WatchingLaws.{unwatch-unknown, unwatch-done}
 use Rattle.handlers.proofs.Ways.{refused-so, done-so, same-tables}
 use borrow.Author.Needs.{needs}

@@ -1,4 +1,4 @@
-use Rattle.tables.specs.Watch.{watchGiven}
+use Rattle.watches.specs.Watch.{watchGiven}
 use lib.ListN.{length}
 use mathlib.Core.List.{List, flatMap}
 use mathlib.Core.Path.{refl, sym, ap, _∙_}
@@ -8,8 +8,8 @@ use Rattle.rules.specs.Sound.{watched}
 use Rattle.rules.specs.Layout.{watchesBytes, watchesOf, recordBytes}
 use Rattle.rules.specs.Event.{Record}
 use Rattle.rules.specs.Octets.{Octets, paste}
-use Rattle.tables.proofs.WatchBytes.{length-watchesOf}
-use Rattle.tables.proofs.WatchChanges.{kept-watches}
+use Rattle.watches.proofs.Bytes.{length-watchesOf}
+use Rattle.watches.proofs.Written.{kept-watches}
 use Rattle.handlers.proofs.PlainLaws.{recorded-first}
 use Rattle.handlers.proofs.Ways.{refused-so, heard-so, same-tables}
 use Rattle.handlers.proofs.WatchingLaws.{watch-twice, watch-long, watch-full, watch-done, place-text, fit-watch, new-taken, first-same}

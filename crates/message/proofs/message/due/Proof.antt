@@ -6,9 +6,9 @@ use borrow.Author.Tests.{not-true, not-false}
 use Rattle.rules.specs.Octets.{Octets}
 use Rattle.rules.specs.Layout.{watchesOf}
 use Rattle.rules.specs.Message.{recordAt, maskBit, concerns}
-use Rattle.tables.specs.Entry.{taken}
-use Rattle.tables.specs.Watch.{watchOf}
-use Rattle.tables.proofs.WatchChanges.{sound-kept}
+use Rattle.domains.specs.Entry.{taken}
+use Rattle.watches.specs.Watch.{watchOf}
+use Rattle.watches.proofs.Written.{sound-kept}
 use Rattle.message.proofs.DueLaws.{due-free, due-unheard, due-empty, due-long, due-concerns}
 use borrow.Author.Needs.{needs}
 use Rattle.message.proofs.message.due.Statement.{statement}

@@ -6,7 +6,7 @@ use borrow.Author.Tests.{not-true, not-false}
 use Rattle.rules.specs.Size.{longestPath}
 use Rattle.rules.specs.Octets.{Octets}
 use Rattle.rules.specs.Message.{concerns, reported}
-use Rattle.tables.specs.Watch.{watchOf}
+use Rattle.watches.specs.Watch.{watchOf}
 use Rattle.message.specs.Asked.{UsedWatch, due}
 use Rattle.message.proofs.WatchLaws.{taken-watch, watch-fits}
 use Rattle.message.proofs.ReportLaws.{reported-short}

@@ -5,7 +5,7 @@ use borrow.Author.Tests.{not-true, not-false}
 use Rattle.rules.specs.Octets.{Octets, same, begins}
 use Rattle.rules.specs.Path.{isBelow}
 use Rattle.rules.specs.Event.{placeText}
-use Rattle.tables.specs.Watch.{watchOf}
+use Rattle.watches.specs.Watch.{watchOf}
 use Rattle.message.proofs.WatchLaws.{taken-watch, watch-fits}
 use Rattle.message.proofs.ReportLaws.{told, concern-same, concern-event, concern-below, concern-above}
 use borrow.Author.Needs.{needs}

@@ -7,7 +7,7 @@ use Rattle.rules.specs.Path.{isBelow}
 use Rattle.rules.specs.Event.{Watch, placeText}
 use Rattle.rules.specs.Sound.{goodPlace}
 use Rattle.rules.proofs.EntryLayouts.{PlaceFits}
-use Rattle.tables.specs.Watch.{depthMeant, watchOf, TakenWatch}
+use Rattle.watches.specs.Watch.{depthMeant, watchOf, TakenWatch}
 use Rattle.message.proofs.WatchLaws.{taken-watch, watch-fits, good-place}
 use Rattle.message.proofs.ReportLaws.{told, cut-same, report-own, report-record, report-nearer, report-further, nearer-room, further-room}
 use borrow.Author.Needs.{needs}

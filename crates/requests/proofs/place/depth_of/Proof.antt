@@ -2,7 +2,7 @@ use native.Mathlib.Omega.{arith}
 use Prim.Native.Nat.{_%_}
 use mathlib.Core.Option.{some}
 use mathlib.Core.Path.{_≡_, sym, ap, subst, _∙_}
-use Rattle.tables.specs.Entry.{entryOr}
+use Rattle.domains.specs.Entry.{entryOr}
 use Rattle.payload.specs.Meaning.{DepthSound, depthMeant}
 use borrow.Author.Needs.{needs}
 use Rattle.requests.proofs.place.depth_of.Statement.{statement}

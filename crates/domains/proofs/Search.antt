@@ -1,0 +1,139 @@
+-- Searches and sweeps over the places of a table, one place after the other.
+use mathlib.Core.Path.{_≡_, refl, sym, ap, ap₂, _∙_}
+use mathlib.Core.Bool.{Bool, true, false, cond, _&&_}
+use mathlib.Core.List.{List, [], _∷_, map}
+use mathlib.Core.Option.{Option, none, some}
+use Prim.Native.Nat.{ℕ, zero, suc, _+_, _≤_, _<_}
+use native.Mathlib.Numerals.{add-one}
+use native.Mathlib.Nat.{add-zero, not-suc-le-zero, le-of-suc-le-suc}
+use native.Mathlib.Omega.{arith}
+use lib.ListN.{length, getD, drop, set, drop-of-length-le}
+use lib.Seq.{drop-cons}
+use Rattle.rules.specs.Entries.{lowest, has, without}
+use Rattle.domains.specs.Entry.{taken, passes, entryOr, droppedIf}
+
+module _ {A : Type 0} where
+  -- ── an entry ──
+
+  pub free-none : (x : Option A) → taken x ≡ false → x ≡ none
+  unfolding taken
+  free-none none e = refl
+  free-none (some x) e = let z : _≡_ {A = ℕ} 0 1 = cc in absurd (omega arith)
+
+  pub taken-some : (stand : A) (x : Option A) → taken x ≡ true → x ≡ some (entryOr stand x)
+  unfolding taken entryOr
+  taken-some stand none e = let z : _≡_ {A = ℕ} 0 1 = cc in absurd (omega arith)
+  taken-some stand (some x) e = refl
+
+  pub passes-free : (test : A → Bool) (x : Option A) → taken x ≡ false → passes test x ≡ false
+  unfolding taken passes
+  passes-free test none e = refl
+  passes-free test (some x) e = let z : _≡_ {A = ℕ} 0 1 = cc in absurd (omega arith)
+
+  pub passes-taken : (test : A → Bool) (stand : A) (x : Option A) → taken x ≡ true → passes test x ≡ test (entryOr stand x)
+  unfolding taken passes entryOr
+  passes-taken test stand none e = let z : _≡_ {A = ℕ} 0 1 = cc in absurd (omega arith)
+  passes-taken test stand (some x) e = refl
+
+  pub dropped-is : (test : A → Bool) (x : Option A) → passes test x ≡ true → droppedIf test x ≡ none
+  unfolding passes droppedIf
+  dropped-is test none e = refl
+  dropped-is test (some x) e = rw e
+
+  pub dropped-not : (test : A → Bool) (x : Option A) → passes test x ≡ false → droppedIf test x ≡ x
+  unfolding passes droppedIf
+  dropped-not test none e = refl
+  dropped-not test (some x) e = rw e
+
+  -- ── some entry passes a test ──
+
+  module _ (test : A → Bool) (xs : List (Option A)) (i : ℕ) (h : i < length xs) where
+    has-cons : has test (drop i xs) ≡ has test (getD xs i none ∷ drop (i + 1) xs)
+    has-cons = rw (drop-cons xs i none h, add-one)
+
+    pub has-here : passes test (getD xs i none) ≡ true → has test (drop i xs) ≡ true
+    unfolding passes has
+    has-here p = has-cons ∙ go (getD xs i none) p
+      where
+        go : (x : Option A) → passes test x ≡ true → has test (x ∷ drop (i + 1) xs) ≡ true
+        go none p = let z : _≡_ {A = ℕ} 0 1 = cc in absurd (omega arith)
+        go (some x) p = rw p
+
+    pub has-further : passes test (getD xs i none) ≡ false → has test (drop i xs) ≡ has test (drop (i + 1) xs)
+    unfolding passes has
+    has-further p = has-cons ∙ go (getD xs i none) p
+      where
+        go : (x : Option A) → passes test x ≡ false → has test (x ∷ drop (i + 1) xs) ≡ has test (drop (i + 1) xs)
+        go none p = refl
+        go (some x) p = rw p
+
+  pub has-over : (test : A → Bool) (xs : List (Option A)) (i : ℕ) → length xs ≤ i → has test (drop i xs) ≡ false
+  unfolding has
+  has-over test xs i h = rw (drop-of-length-le xs {i = i} h)
+
+  -- ── the lowest free place ──
+
+  module _ (xs : List (Option A)) (i : ℕ) where
+    pub lowest-here : i < length xs → taken (getD xs i none) ≡ false → i + lowest (drop i xs) ≡ i
+    unfolding lowest
+    lowest-here h f = rw (drop-cons xs i none h, free-none (getD xs i none) f) (add-zero i)
+
+    pub lowest-further : (stand : A) → i < length xs → taken (getD xs i none) ≡ true → i + lowest (drop i xs) ≡ i + 1 + lowest (drop (i + 1) xs)
+    unfolding lowest
+    lowest-further stand h f =
+        let e : drop i xs ≡ some (entryOr stand (getD xs i none)) ∷ drop (i + 1) xs = drop-cons xs i none h ∙ ap₂ _∷_ (taken-some stand (getD xs i none) f) (ap (λ (j : ℕ). drop j xs) (sym (add-one i))) in
+        rw e (omega arith)
+
+    pub lowest-over : length xs ≤ i → i + lowest (drop i xs) ≡ i
+    unfolding lowest
+    lowest-over h = rw (drop-of-length-le xs {i = i} h) (add-zero i)
+
+  -- ── what is asked of each place, with those after it ──
+
+  module _ (goods : List (Option A) → Bool) (good : Option A → List (Option A) → Bool) (next : (x : Option A) (xs : List (Option A)) → goods (x ∷ xs) ≡ (good x xs && goods xs)) where
+    pub goods-next : (xs : List (Option A)) (i : ℕ) → i < length xs → goods (drop i xs) ≡ (good (getD xs i none) (drop (i + 1) xs) && goods (drop (i + 1) xs))
+    goods-next xs i h = rw (drop-cons xs i none h, add-one) (next (getD xs i none) (drop (suc i) xs))
+
+  -- ── each place in turn made what a function makes of it ──
+
+  -- the first i places are done
+  abbrev pub swept : (Option A → Option A) → ℕ → List (Option A) → List (Option A)
+  swept f zero xs = xs
+  swept f (suc i) [] = []
+  swept f (suc i) (x ∷ xs) = f x ∷ swept f i xs
+
+  module _ (f : Option A → Option A) where
+    pub length-swept : (i : ℕ) (xs : List (Option A)) → length (swept f i xs) ≡ length xs
+    length-swept zero xs = refl
+    length-swept (suc i) [] = refl
+    length-swept (suc i) (x ∷ xs) = ap suc (length-swept i xs)
+
+    -- the next place is as it was
+    pub swept-at : (i : ℕ) (xs : List (Option A)) → getD (swept f i xs) i none ≡ getD xs i none
+    swept-at zero xs = refl
+    swept-at (suc i) [] = refl
+    swept-at (suc i) (x ∷ xs) = swept-at i xs
+
+    swept-set : (i : ℕ) (xs : List (Option A)) → set (swept f i xs) i (f (getD xs i none)) ≡ swept f (suc i) xs
+    swept-set zero [] = refl
+    swept-set zero (x ∷ xs) = refl
+    swept-set (suc i) [] = refl
+    swept-set (suc i) (x ∷ xs) = ap (_∷_ (f x)) (swept-set i xs)
+
+    pub swept-next : (i : ℕ) (xs : List (Option A)) → set (swept f i xs) i (f (getD (swept f i xs) i none)) ≡ swept f (i + 1) xs
+    swept-next i xs = rw (swept-at i xs, add-one) (swept-set i xs)
+
+    pub swept-all : (i : ℕ) (xs : List (Option A)) → length xs ≤ i → swept f i xs ≡ map f xs
+    swept-all zero [] h = refl
+    swept-all zero (x ∷ xs) h = absurd (not-suc-le-zero h)
+    swept-all (suc i) [] h = refl
+    swept-all (suc i) (x ∷ xs) h = ap (_∷_ (f x)) (swept-all i xs (le-of-suc-le-suc h))
+
+  pub without-map : (test : A → Bool) (xs : List (Option A)) → map (droppedIf test) xs ≡ without test xs
+  unfolding droppedIf without
+  without-map test [] = refl
+  without-map test (none ∷ xs) = ap (_∷_ none) (without-map test xs)
+  without-map test (some x ∷ xs) = ap (_∷_ (cond (test x) none (some x))) (without-map test xs)
+
+  pub without-swept : (test : A → Bool) (i : ℕ) (xs : List (Option A)) → length xs ≤ i → swept (droppedIf test) i xs ≡ without test xs
+  without-swept test i xs h = swept-all (droppedIf test) i xs h ∙ without-map test xs

@@ -1,0 +1,4 @@
+// The introduced domains, on lent bytes.
+pub mod changes;
+pub mod checks;
+pub mod places;

@@ -1,0 +1,121 @@
+-- What is asked of transactions, and that it is what soundTransactions asks but for the copies.
+use mathlib.Core.Path.{_≡_, refl, sym, ap, _∙_}
+use mathlib.Core.Bool.{Bool, true, false, not, _&&_}
+use mathlib.Core.List.{List, [], _∷_}
+use mathlib.Core.Option.{Option, none, some}
+use Prim.Native.Nat.{ℕ, _+_, _≤_, _<_}
+use native.Mathlib.Numerals.{add-one}
+use native.Mathlib.Omega.{arith}
+use lib.ListN.{length, getD, drop, drop-of-length-le}
+use lib.Seq.{drop-cons}
+use lib.Dec.{eqb}
+use borrow.Author.Tests.{eqb-true}
+use Rattle.rules.specs.Size.{transactionsSize}
+use Rattle.rules.specs.Octets.{Octets, same}
+use Rattle.rules.specs.Path.{domainOf, fits, pathText, namesIn, isFull}
+use Rattle.rules.specs.Answer.{Change}
+use Rattle.rules.specs.Layout.{Domains, Transaction, Transactions, transactionsBytes, transactionsOf}
+use Rattle.rules.specs.Sound.{known, goodChange, goodChanges, goodTransactions, soundTransactions, soundTable}
+use Rattle.rules.proofs.Compare.{both-true, same-eq}
+use Rattle.rules.proofs.PathLaws.{text-full, text-names}
+use Rattle.rules.proofs.TransactionLayouts.{ChangeFits}
+use Rattle.domains.specs.Entry.{taken, entryOr}
+use Rattle.transactions.specs.Transaction.{KeptTransactions, opened, noChange}
+use Rattle.transactions.specs.Checks.{goodOpen, allOpenGood, soundEntries, soundCopies}
+use Rattle.domains.proofs.Search.{free-none, taken-some}
+
+-- ── a change ──
+
+module _ (c : Change) (f : ChangeFits c) (p : Octets) (e : p ≡ pathText (c .names)) where
+  pub path-full : isFull p ≡ true
+  path-full = rw e (text-full (c .names) (f .names) (omega (arith, f .short)))
+
+  names-are : namesIn p ≡ c .names
+  names-are = rw e (text-names (c .names) (f .names) (omega (arith, f .short)))
+
+  pub change-unfit : fits (namesIn p) ≡ false → goodChange c ≡ false
+  unfolding goodChange
+  change-unfit h = rw (ap fits (sym names-are) ∙ h)
+
+  pub change-written : fits (namesIn p) ≡ true → c .removal ≡ false → goodChange c ≡ true
+  unfolding goodChange
+  change-written h r = rw (ap fits (sym names-are) ∙ h, r)
+
+  pub change-removed : fits (namesIn p) ≡ true → c .removal ≡ true → (n : ℕ) → n ≡ length (namesIn p) → goodChange c ≡ not (eqb n 0)
+  unfolding goodChange
+  change-removed h r n q = rw (ap fits (sym names-are) ∙ h, r, ← names-are, ← q)
+
+pub changes-next : (cs : List Change) (j : ℕ) → j < length cs → goodChanges (drop j cs) ≡ (goodChange (getD cs j noChange) && goodChanges (drop (j + 1) cs))
+unfolding goodChanges
+changes-next cs j h = rw (drop-cons cs j noChange h, add-one) refl
+
+pub changes-over : (cs : List Change) (j : ℕ) → length cs ≤ j → goodChanges (drop j cs) ≡ true
+unfolding goodChanges
+changes-over cs j h = rw (drop-of-length-le cs {i = j} h)
+
+-- ── a transaction ──
+
+module _ (ds : Domains) (x : Option Transaction) where
+  pub open-free : taken x ≡ false → goodOpen ds x ≡ true
+  unfolding goodOpen
+  open-free f = rw (free-none x f)
+
+  module _ (t : taken x ≡ true) where
+    open-is : goodOpen ds x ≡ (known (entryOr (opened 0) x .holder) ds && goodChanges (entryOr (opened 0) x .changes))
+    unfolding goodOpen
+    open-is = ap (goodOpen ds) (taken-some (opened 0) x t)
+
+    pub open-unknown : known (entryOr (opened 0) x .holder) ds ≡ false → goodOpen ds x ≡ false
+    open-unknown k = open-is ∙ rw k
+
+    pub open-known : known (entryOr (opened 0) x .holder) ds ≡ true → goodOpen ds x ≡ goodChanges (entryOr (opened 0) x .changes)
+    open-known k = open-is ∙ rw k
+
+pub entries-next : (ds : Domains) (xs : Transactions) (i : ℕ) → i < length xs → allOpenGood ds (drop i xs) ≡ (goodOpen ds (getD xs i none) && allOpenGood ds (drop (i + 1) xs))
+unfolding allOpenGood
+entries-next ds xs i h = rw (drop-cons xs i none h, add-one) refl
+
+pub entries-over : (ds : Domains) (xs : Transactions) (i : ℕ) → length xs ≤ i → allOpenGood ds (drop i xs) ≡ true
+unfolding allOpenGood
+entries-over ds xs i h = rw (drop-of-length-le xs {i = i} h)
+
+-- ── entries and copies ──
+
+-- a copy for each place
+pub entries-copies : (ds : Domains) (xs : Transactions) (copies : List Octets) → length copies ≡ length xs → goodTransactions ds xs copies ≡ (allOpenGood ds xs && soundCopies xs copies)
+unfolding goodTransactions allOpenGood goodOpen soundCopies
+entries-copies ds [] copies h = refl
+entries-copies ds (x ∷ xs) [] h = absurd (omega arith)
+entries-copies ds (none ∷ xs) (copy ∷ copies) h = entries-copies ds xs copies (omega arith)
+entries-copies ds (some x ∷ xs) (copy ∷ copies) h =
+    rw (entries-copies ds xs copies (omega arith)) (regroup (known (domainOf (x .holder)) ds) (goodChanges (x .changes)) (soundTable copy) (allOpenGood ds xs) (soundCopies xs copies))
+  where
+    regroup : (a b c d e : Bool) → (a && (b && (c && (d && e)))) ≡ ((a && b && d) && (c && e))
+    regroup true true true d e = refl
+    regroup true true false true e = refl
+    regroup true true false false e = refl
+    regroup true false c d e = refl
+    regroup false b c d e = refl
+
+-- soundTransactions is soundEntries, and each open copy sound
+pub sound-parts : (ds : Domains) (copies : List Octets) (s : Octets) → length copies ≡ length (transactionsOf s)
+    → soundTransactions ds copies s ≡ (soundEntries ds s && soundCopies (transactionsOf s) copies)
+unfolding soundTransactions soundEntries
+sound-parts ds copies s h =
+    rw (entries-copies ds (transactionsOf s) copies h) (regroup (eqb (length s) transactionsSize) (same (transactionsBytes (transactionsOf s)) s) (allOpenGood ds (transactionsOf s)) (soundCopies (transactionsOf s) copies))
+  where
+    regroup : (a b c d : Bool) → (a && (b && (c && d))) ≡ ((a && (b && c)) && d)
+    regroup true true c d = refl
+    regroup true false c d = refl
+    regroup false b c d = refl
+
+pub kept-of : (s : Octets) → length s ≡ transactionsSize → same (transactionsBytes (transactionsOf s)) s ≡ true → KeptTransactions s
+unfolding transactionsOf transactionsBytes
+kept-of s w e = record { whole = w; same = same-eq (transactionsBytes (transactionsOf s)) s e }
+
+pub sound-kept : (ds : Domains) (s : Octets) → soundEntries ds s ≡ true → KeptTransactions s
+unfolding soundEntries
+sound-kept ds s h =
+    let p = both-true (eqb (length s) transactionsSize) (same (transactionsBytes (transactionsOf s)) s && allOpenGood ds (transactionsOf s)) h in
+    let q = both-true (same (transactionsBytes (transactionsOf s)) s) (allOpenGood ds (transactionsOf s)) (p .1) in
+    kept-of s (eqb-true (length s) transactionsSize (p .0)) (q .0)

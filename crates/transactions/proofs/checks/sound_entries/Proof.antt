@@ -1,0 +1,29 @@
+use mathlib.Core.Path.{sym, _∙_}
+use borrow.Author.Tests.{eq-eqb, ne-eqb, not-true, not-false}
+use borrow.Author.Needs.{needs}
+use Rattle.transactions.specs.Checks.{soundEntries}
+use Rattle.transactions.proofs.Good.{kept-of}
+use Rattle.transactions.proofs.checks.sound_entries.Statement.{statement}
+use Rattle.transactions.proofs.checks.sound_entries.Tie as tie
+
+returns : tie.Need-returns
+unfolding soundEntries
+returns c = sym (rw (ne-eqb _ _ (c .if1 .taken)))
+
+kept-requires : tie.Need-kept-requires
+kept-requires c κs = search needs
+
+returns-2 : tie.Need-returns-2
+unfolding soundEntries
+returns-2 c = sym (rw (eq-eqb _ _ (c .before .before .if1 .left), sym (c .before .kept .ensures) ∙ not-true _ (c .if2 .taken)))
+
+good-requires : tie.Need-good-requires
+good-requires c κs = (kept-of _ (c .before .before .if1 .left) (sym (c .before .kept .ensures) ∙ not-false _ (c .if2 .left)), c .before .before .before .before .before .pre)
+
+returns-3 : tie.Need-returns-3
+unfolding soundEntries
+returns-3 c = c .good2 .ensures ∙ sym (rw (eq-eqb _ _ (c .before .before .before .if1 .left), sym (c .before .before .kept .ensures) ∙ not-false _ (c .before .if2 .left)))
+
+pub sound-entries-spec : {M : Type 1} → statement M
+sound-entries-spec =
+    tie.close (tie.spec returns kept-requires returns-2 good-requires returns-3)
