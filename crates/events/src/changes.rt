@@ -34,8 +34,10 @@ pub fn change_since(
     events: &mut [u8],
 ) -> usize
     requires { ⌜ Store (now after) (now watches) × (isFull (now changed) ≡ true) × (length (now changed) ≤ longestPath) × Room (now events) n 1 ⌝ }
-    ensures { λ r. ⌜ ((before : Table) → Mask (maskOf (hears before before (changeGiven removed (now (changed .entry)))) (watchesOf (now (watches .entry)))) heard →
-        Recorded n (heardChange before (tableOf (now (after .entry))) (watchesOf (now (watches .entry))) (changeGiven removed (now (changed .entry)))) (now (events .entry)) (now (events .exit)) r) ⌝ }
+    ensures { λ r. ⌜ ((before : Table) → Mask (maskOf (hears before before (changeGiven removed (now (changed .entry)))) (watchesOf (now (watches .entry))))
+        heard →
+        Recorded n (heardChange before (tableOf (now (after .entry))) (watchesOf (now (watches .entry))) (changeGiven removed (now (changed .entry))))
+        (now (events .entry)) (now (events .exit)) r) ⌝ }
 {
     let mask = of_change_since(heard, after, watches, changed, removed);
     keep(events, n, mask, changed)
@@ -51,8 +53,10 @@ pub fn change(
     n: usize,
     events: &mut [u8],
 ) -> usize
-    requires { ⌜ Stores (now before) (now after) (now watches) × (isFull (now changed) ≡ true) × (length (now changed) ≤ longestPath) × Room (now events) n 1 ⌝ }
-    ensures { λ r. ⌜ Recorded n (heardChange (tableOf (now (before .entry))) (tableOf (now (after .entry))) (watchesOf (now (watches .entry))) (changeGiven removed (now (changed .entry)))) (now (events .entry)) (now (events .exit)) r ⌝ }
+    requires { ⌜ Stores (now before) (now after) (now watches) × (isFull (now changed) ≡ true) × (length (now changed) ≤ longestPath) ×
+        Room (now events) n 1 ⌝ }
+    ensures { λ r. ⌜ Recorded n (heardChange (tableOf (now (before .entry))) (tableOf (now (after .entry))) (watchesOf (now (watches .entry)))
+        (changeGiven removed (now (changed .entry)))) (now (events .entry)) (now (events .exit)) r ⌝ }
 {
     let heard = in_store(before, watches, changed, removed);
     change_since(heard, after, watches, changed, removed, n, events)
@@ -68,7 +72,8 @@ pub fn changes(
     events: &mut [u8],
 ) -> usize
     requires { ⌜ Stores (now before) (now after) (now watches) × OpenTransaction (now transactions) k × (length (now events) ≡ eventsSize) ⌝ }
-    ensures { λ r. ⌜ Recorded 0 (heard (tableOf (now (before .entry))) (tableOf (now (after .entry))) (watchesOf (now (watches .entry))) (transactionOf (now (transactions .entry)) k .changes)) (now (events .entry)) (now (events .exit)) r ⌝ }
+    ensures { λ r. ⌜ Recorded 0 (heard (tableOf (now (before .entry))) (tableOf (now (after .entry))) (watchesOf (now (watches .entry)))
+        (transactionOf (now (transactions .entry)) k .changes)) (now (events .entry)) (now (events .exit)) r ⌝ }
 {
     let count = transactions::places::changes(transactions, k);
     let mut n = 0;
@@ -92,7 +97,8 @@ fn removal(
     events: &mut [u8],
 ) -> usize
     requires { ⌜ Stores (now before) (now after) (now watches) × Asked (now before) slot × Room (now events) n 1 ⌝ }
-    ensures { λ r. ⌜ Recorded n (heardChange (tableOf (now (before .entry))) (tableOf (now (after .entry))) (watchesOf (now (watches .entry))) (removalOf (tableOf (now (before .entry))) slot)) (now (events .entry)) (now (events .exit)) r ⌝ }
+    ensures { λ r. ⌜ Recorded n (heardChange (tableOf (now (before .entry))) (tableOf (now (after .entry))) (watchesOf (now (watches .entry)))
+        (removalOf (tableOf (now (before .entry))) slot)) (now (events .entry)) (now (events .exit)) r ⌝ }
 {
     let mut text = [0u8; LONGEST_PATH];
     let end = path_of(before, slot, &mut text);
@@ -108,8 +114,10 @@ pub fn removals(
     count: usize,
     events: &mut [u8],
 ) -> usize
-    requires { ⌜ Stores (now before) (now after) (now watches) × (count ≤ length (now list)) × (count ≤ mostRecords) × AllAsked (now before) (take count (now list)) × (length (now events) ≡ eventsSize) ⌝ }
-    ensures { λ r. ⌜ Recorded 0 (heard (tableOf (now (before .entry))) (tableOf (now (after .entry))) (watchesOf (now (watches .entry))) (map (removalOf (tableOf (now (before .entry)))) (take count (now (list .entry))))) (now (events .entry)) (now (events .exit)) r ⌝ }
+    requires { ⌜ Stores (now before) (now after) (now watches) × (count ≤ length (now list)) × (count ≤ mostRecords) ×
+        AllAsked (now before) (take count (now list)) × (length (now events) ≡ eventsSize) ⌝ }
+    ensures { λ r. ⌜ Recorded 0 (heard (tableOf (now (before .entry))) (tableOf (now (after .entry))) (watchesOf (now (watches .entry)))
+        (map (removalOf (tableOf (now (before .entry)))) (take count (now (list .entry))))) (now (events .entry)) (now (events .exit)) r ⌝ }
 {
     let mut n = 0;
     let mut i = 0;

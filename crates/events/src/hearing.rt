@@ -49,7 +49,8 @@ fn deep_enough(depth: Depth, levels: usize) -> bool
 // Whether a watch of a domain on the full path `own` hears the removal of a path above its own.
 fn hears_above(t: &[u8], domain: u32, own: &[u8], path: &[u8], removed: bool) -> bool
     requires { ⌜ (soundTable (now t) ≡ true) × (isFull (now own) ≡ true) × (isFull (now path) ≡ true) ⌝ }
-    ensures { λ r. ⌜ r ≡ hearsAbove (tableOf (now (t .entry))) (tableOf (now (t .entry))) domain (namesIn (now (own .entry))) (namesIn (now (path .entry))) removed ⌝ }
+    ensures { λ r. ⌜ r ≡ hearsAbove (tableOf (now (t .entry))) (tableOf (now (t .entry))) domain (namesIn (now (own .entry)))
+        (namesIn (now (path .entry))) removed ⌝ }
 {
     if !removed {
         return false;
@@ -63,7 +64,8 @@ fn hears_above(t: &[u8], domain: u32, own: &[u8], path: &[u8], removed: bool) ->
 // Whether a watch of a domain on the full path `own` hears a change of a full path.
 fn hears_on(t: &[u8], domain: u32, own: &[u8], depth: Depth, path: &[u8], removed: bool) -> bool
     requires { ⌜ (soundTable (now t) ≡ true) × (isFull (now own) ≡ true) × (isFull (now path) ≡ true) ⌝ }
-    ensures { λ r. ⌜ r ≡ hearsAt (tableOf (now (t .entry))) (tableOf (now (t .entry))) (watchGiven domain (now (own .entry)) true depth []) (namesIn (now (own .entry))) (changeGiven removed (now (path .entry))) ⌝ }
+    ensures { λ r. ⌜ r ≡ hearsAt (tableOf (now (t .entry))) (tableOf (now (t .entry))) (watchGiven domain (now (own .entry)) true depth [])
+        (namesIn (now (own .entry))) (changeGiven removed (now (path .entry))) ⌝ }
 {
     match beyond(own, path) {
         Beyond::Levels(levels) => {
@@ -79,7 +81,8 @@ fn hears_on(t: &[u8], domain: u32, own: &[u8], depth: Depth, path: &[u8], remove
 // Whether place k has a watch that hears a change of a full path, by what its owner may read in one store.
 pub fn hears(t: &[u8], watches: &[u8], k: usize, changed: &[u8], removed: bool) -> bool
     requires { ⌜ (k < mostWatches) × Store (now t) (now watches) × (isFull (now changed) ≡ true) ⌝ }
-    ensures { λ r. ⌜ r ≡ passes (hears (tableOf (now (t .entry))) (tableOf (now (t .entry))) (changeGiven removed (now (changed .entry)))) (getD (watchesOf (now (watches .entry))) k none) ⌝ }
+    ensures { λ r. ⌜ r ≡ passes (hears (tableOf (now (t .entry))) (tableOf (now (t .entry))) (changeGiven removed (now (changed .entry))))
+        (getD (watchesOf (now (watches .entry))) k none) ⌝ }
 {
     if !used(watches, k) {
         return false;

@@ -43,7 +43,9 @@ fn hears_beside(
     removed: bool,
 ) -> bool
     requires { ⌜ (k < mostWatches) × Store (now t) (now watches) × (isFull (now changed) ≡ true) ⌝ }
-    ensures { λ r. ⌜ r ≡ (leb 32768 heard || passes (hears (tableOf (now (t .entry))) (tableOf (now (t .entry))) (changeGiven removed (now (changed .entry)))) (getD (watchesOf (now (watches .entry))) k none)) ⌝ }
+    ensures { λ r. ⌜ r ≡ (leb 32768 heard || passes
+        (hears (tableOf (now (t .entry))) (tableOf (now (t .entry))) (changeGiven removed (now (changed .entry))))
+        (getD (watchesOf (now (watches .entry))) k none)) ⌝ }
 {
     if 32768 <= heard {
         return true;
@@ -55,7 +57,8 @@ fn hears_beside(
 fn beside(heard: u32, t: &[u8], watches: &[u8], changed: &[u8], removed: bool) -> u32
     requires { ⌜ Store (now t) (now watches) × (isFull (now changed) ≡ true) ⌝ }
     ensures { λ r. ⌜ ((f : Watch → Bool) → Mask (maskOf f (watchesOf (now (watches .entry)))) heard →
-        Mask (maskOf (λ w. f w || hears (tableOf (now (t .entry))) (tableOf (now (t .entry))) (changeGiven removed (now (changed .entry))) w) (watchesOf (now (watches .entry)))) r) ⌝ }
+        Mask (maskOf (λ w. f w || hears (tableOf (now (t .entry))) (tableOf (now (t .entry))) (changeGiven removed (now (changed .entry))) w)
+        (watchesOf (now (watches .entry)))) r) ⌝ }
 {
     let mut mask: u32 = 0;
     let mut rest = heard;
@@ -71,7 +74,8 @@ fn beside(heard: u32, t: &[u8], watches: &[u8], changed: &[u8], removed: bool) -
 // Those that hear a change of a full path in one store.
 pub fn in_store(t: &[u8], watches: &[u8], changed: &[u8], removed: bool) -> u32
     requires { ⌜ Store (now t) (now watches) × (isFull (now changed) ≡ true) ⌝ }
-    ensures { λ r. ⌜ Mask (maskOf (hears (tableOf (now (t .entry))) (tableOf (now (t .entry))) (changeGiven removed (now (changed .entry)))) (watchesOf (now (watches .entry)))) r ⌝ }
+    ensures { λ r. ⌜ Mask (maskOf (hears (tableOf (now (t .entry))) (tableOf (now (t .entry))) (changeGiven removed (now (changed .entry))))
+        (watchesOf (now (watches .entry)))) r ⌝ }
 {
     beside(0, t, watches, changed, removed)
 }
@@ -85,7 +89,8 @@ pub fn of_change_since(
     removed: bool,
 ) -> u32
     requires { ⌜ Store (now after) (now watches) × (isFull (now changed) ≡ true) ⌝ }
-    ensures { λ r. ⌜ ((before : Table) → Mask (maskOf (hears before before (changeGiven removed (now (changed .entry)))) (watchesOf (now (watches .entry)))) heard →
+    ensures { λ r. ⌜ ((before : Table) → Mask (maskOf (hears before before (changeGiven removed (now (changed .entry)))) (watchesOf (now (watches .entry))))
+        heard →
         Mask (maskOf (hears before (tableOf (now (after .entry))) (changeGiven removed (now (changed .entry)))) (watchesOf (now (watches .entry)))) r) ⌝ }
 {
     beside(heard, after, watches, changed, removed)

@@ -28,7 +28,8 @@ pub fn of_domain(released: bool, d: u32, watches: &[u8], n: usize, events: &mut 
 // Records the first event of the watch in place k as the only one.
 pub fn first(watches: &[u8], k: usize, events: &mut [u8]) -> usize
     requires { ⌜ TakenWatch (now watches) k × (length (now events) ≡ eventsSize) ⌝ }
-    ensures { λ r. ⌜ Recorded 0 (firstHeard k (watchOf (now (watches .entry)) k .place) (watchesOf (now (watches .entry)))) (now (events .entry)) (now (events .exit)) r ⌝ }
+    ensures { λ r. ⌜ Recorded 0 (firstHeard k (watchOf (now (watches .entry)) k .place) (watchesOf (now (watches .entry)))) (now (events .entry))
+        (now (events .exit)) r ⌝ }
 {
     put(events, 0, only(watches, k), path(watches, k))
 }

@@ -12,14 +12,13 @@ use borrow.Author.Tests.{lt-ltb, le-ltb, eq-eqb, ne-eqb}
 use Rattle.rules.specs.Size.{headerSize, longestPayload, mostTransactions, tableSize, replySize, eventsSize}
 use Rattle.rules.specs.Octets.{Octets, littleEndian, chunks}
 use Rattle.rules.specs.Domain.{Connection, domainOf}
-use Rattle.rules.specs.Layout.{Transaction, Transactions, transactionsOf, domainsOf}
+use Rattle.rules.specs.Layout.{opened, Transaction, Transactions, transactionsOf, domainsOf}
 use Rattle.rules.specs.Sound.{soundTable, soundDomains, soundWatches, known}
 use Rattle.rules.specs.Call.{Tables, callNumber, sizedTables, sound, lenOf, frameVerdict, requestVerdict}
 use Rattle.rules.proofs.Tables.{length-chunks, decoded-at}
 use Rattle.rules.proofs.EntryLayouts.{whole, map-whole}
 use Rattle.domains.specs.Entry.{taken}
 use Rattle.transactions.specs.Checks.{soundEntries, soundCopies}
-use Rattle.transactions.specs.Transaction.{opened}
 use Rattle.domains.proofs.Tests.{and-first, and-rest}
 use Rattle.domains.proofs.Search.{free-none, taken-some}
 use Rattle.transactions.proofs.Laws.{length-transactionsOf}

@@ -12,14 +12,13 @@ use Rattle.rules.specs.Octets.{Octets, nul, decimal, chunks, paste}
 use Rattle.rules.specs.Entries.{lowest}
 use Rattle.rules.specs.Domain.{Connection}
 use Rattle.rules.specs.Answer.{ENOSPC, done, refused}
-use Rattle.rules.specs.Layout.{Transactions, tableBytes, tableOf, transactionIn, transactionsOf}
+use Rattle.rules.specs.Layout.{opened, Transactions, tableBytes, tableOf, transactionIn, transactionsOf}
 use Rattle.rules.specs.World.{World, left, to, starting, withCopy, withTransactions}
 use Rattle.rules.proofs.Paste.{paste-nil}
 use Rattle.rules.proofs.Tables.{length-chunks}
 use Rattle.rules.proofs.EntryLayouts.{whole, copy-written, rows-sized, rows-joined}
 use Rattle.octets.specs.Numbers.{Put}
 use Rattle.slots.specs.Slot.{Canonical}
-use Rattle.transactions.specs.Transaction.{opened}
 use Rattle.nodes.specs.declared.kinds.Reply.the-variants.{Done}
 use Rattle.replies.specs.Framed.{Told}
 use Rattle.handlers.proofs.AboutLaws.{number-ended}
@@ -51,7 +50,7 @@ module _ (w : World) (c : Connection) (xs : Transactions) (here : w .transaction
     pub start-done : k < mostTransactions → starting w c
         ≡ to w (done (decimal (k + 1) ++ nul))
         (withTransactions (withCopy w k (w .nodes)) (set xs k (some (opened c)))) []
-    unfolding starting opened
+    unfolding starting
     start-done h = rw (here, three, ← found, lt-ltb k 3 h, add-one k) refl
 
 -- the id and a nul behind the header

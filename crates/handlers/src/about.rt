@@ -33,7 +33,8 @@ pub fn domain_path(domain: u32, reply: &mut [u8]) -> Reply
 // `T` or `F`, for whether a domain is introduced; `T` for 0.
 pub fn is_introduced(domains: &[u8], domain: u32, reply: &mut [u8]) -> Reply
     requires { ⌜ (length (now domains) ≡ domainsSize) × (length (now reply) ≡ replySize) ⌝ }
-    ensures { λ r. ⌜ ((w : World) → w .domains ≡ domainsOf (now (domains .entry)) → Told (done (introducedText w domain ++ nul)) r (now (reply .entry)) (now (reply .exit))) ⌝ }
+    ensures { λ r. ⌜ ((w : World) → w .domains ≡ domainsOf (now (domains .entry)) → Told (done (introducedText w domain ++ nul)) r (now (reply .entry))
+        (now (reply .exit))) ⌝ }
 {
     if known(domains, domain) {
         copy(reply, HEADER_SIZE, b"T\0");

@@ -66,9 +66,12 @@ fn tell(
     r: Reply,
     events: &mut [u8],
 ) -> Outcome
-    requires { ⌜ Store (now nodes) (now watches) × KeptTransactions (now transactions) × (isFull (now path) ≡ true) × (length (now path) ≤ longestPath) × (length (now events) ≡ eventsSize) ⌝ }
-    ensures { λ o. ⌜ ((before : Table) → Mask (maskOf (hears before before (changeGiven removed (now (path .entry)))) (watchesOf (now (watches .entry)))) heard →
-        Changed before (now (nodes .entry)) (now (watches .entry)) (now (transactions .entry)) (changeGiven removed (now (path .entry))) r (now (events .entry)) (now (transactions .exit)) (now (events .exit)) o) ⌝ }
+    requires { ⌜ Store (now nodes) (now watches) × KeptTransactions (now transactions) × (isFull (now path) ≡ true) × (length (now path) ≤ longestPath) ×
+        (length (now events) ≡ eventsSize) ⌝ }
+    ensures { λ o. ⌜ ((before : Table) → Mask (maskOf (hears before before (changeGiven removed (now (path .entry)))) (watchesOf (now (watches .entry))))
+        heard →
+        Changed before (now (nodes .entry)) (now (watches .entry)) (now (transactions .entry)) (changeGiven removed (now (path .entry))) r
+        (now (events .entry)) (now (transactions .exit)) (now (events .exit)) o) ⌝ }
 {
     stale_all(transactions);
     let n = change_since(heard, nodes, watches, path, removed, 0, events);
@@ -90,9 +93,14 @@ pub fn plainly(
     reply: &mut [u8],
     events: &mut [u8],
 ) -> Outcome
-    requires { ⌜ OnStore (now nodes) (now watches) (now transactions) (now reply) (now events) × Asking domain ask (now path) (now value) count (now access) (now domains) ⌝ }
-    ensures { λ r. ⌜ ((w : World) → w .nodes ≡ tableOf (now (nodes .entry)) → w .watches ≡ watchesOf (now (watches .entry)) → w .transactions ≡ transactionsOf (now (transactions .entry)) → (a : P.Ask) → Asks ask (now (value .entry)) count (now (access .entry)) (now (domains .entry)) a → GoodAsk a →
-        Handled (W.plainly w (answer domain a (namesIn (now (path .entry))) (w .nodes))) (tables (now (nodes .exit)) (itsCopies w) (itsWatches w) (now (transactions .exit)) (itsDomains w)) (now (reply .entry)) (now (reply .exit)) (now (events .entry)) (now (events .exit)) r) ⌝ }
+    requires { ⌜ OnStore (now nodes) (now watches) (now transactions) (now reply) (now events) × Asking domain ask (now path) (now value) count (now access)
+        (now domains) ⌝ }
+    ensures { λ r. ⌜ ((w : World) → w .nodes ≡ tableOf (now (nodes .entry)) → w .watches ≡ watchesOf (now (watches .entry)) →
+        w .transactions ≡ transactionsOf (now (transactions .entry)) → (a : P.Ask) → Asks ask (now (value .entry)) count (now (access .entry))
+        (now (domains .entry)) a → GoodAsk a →
+        Handled (W.plainly w (answer domain a (namesIn (now (path .entry))) (w .nodes)))
+        (tables (now (nodes .exit)) (itsCopies w) (itsWatches w) (now (transactions .exit)) (itsDomains w)) (now (reply .entry)) (now (reply .exit))
+        (now (events .entry)) (now (events .exit)) r) ⌝ }
 {
     let heard = hearing(ask, nodes, watches, path);
     let a = answer(
@@ -127,8 +135,11 @@ fn with_eight(
     domains: &[u32],
     reply: &mut [u8],
 ) -> Outcome
-    requires { ⌜ (soundTable (now copied) ≡ true) × Asking domain ask (now path) (now value) count (now access) (now domains) × (length (now reply) ≡ replySize) ⌝ }
-    ensures { λ r. ⌜ ((a : P.Ask) → Asks ask (now (value .entry)) count (now (access .entry)) (now (domains .entry)) a → Told (ninthReply (answer domain a (namesIn (now (path .entry))) (tableOf (now (copied .entry))))) (r .reply) (now (reply .entry)) (now (reply .exit))) × (r ≡ record { reply = r .reply; events = 0; page = 0; channel = 0 }) ⌝ }
+    requires { ⌜ (soundTable (now copied) ≡ true) × Asking domain ask (now path) (now value) count (now access) (now domains) ×
+        (length (now reply) ≡ replySize) ⌝ }
+    ensures { λ r. ⌜ ((a : P.Ask) → Asks ask (now (value .entry)) count (now (access .entry)) (now (domains .entry)) a →
+        Told (ninthReply (answer domain a (namesIn (now (path .entry))) (tableOf (now (copied .entry))))) (r .reply) (now (reply .entry))
+        (now (reply .exit))) × (r ≡ record { reply = r .reply; events = 0; page = 0; channel = 0 }) ⌝ }
 {
     let mut t = [0u8; TABLE_SIZE];
     copy(&mut t, 0, copied);
@@ -155,7 +166,9 @@ fn with_eight(
 // Enters a change in the transaction in place k.
 fn enter(transactions: &mut [u8], k: usize, removed: bool, path: &[u8], r: Reply) -> Outcome
     requires { ⌜ Changing (now transactions) k (now path) ⌝ }
-    ensures { λ o. ⌜ (now (transactions .exit) ≡ transactionsBytes (set (transactionsOf (now (transactions .entry))) k (some (changedBy (transactionOf (now (transactions .entry)) k) removed (now (path .entry)))))) × (o ≡ record { reply = r; events = 0; page = 0; channel = 0 }) ⌝ }
+    ensures { λ o. ⌜ (now (transactions .exit) ≡ transactionsBytes
+        (set (transactionsOf (now (transactions .entry))) k (some (changedBy (transactionOf (now (transactions .entry)) k) removed (now (path .entry)))))) ×
+        (o ≡ record { reply = r; events = 0; page = 0; channel = 0 }) ⌝ }
 {
     add_change(transactions, k, removed, path);
     with_events(r, 0)
@@ -176,8 +189,12 @@ pub fn inside(
     reply: &mut [u8],
 ) -> Outcome
     requires { ⌜ InCopy (now copies) (now transactions) k (now reply) × Asking domain ask (now path) (now value) count (now access) (now domains) ⌝ }
-    ensures { λ r. ⌜ ((w : World) → w .copies ≡ chunks mostTransactions tableSize (now (copies .entry)) → w .transactions ≡ transactionsOf (now (transactions .entry)) → (a : P.Ask) → Asks ask (now (value .entry)) count (now (access .entry)) (now (domains .entry)) a → (events : Octets) →
-        Handled (W.inside w k (transactionOf (now (transactions .entry)) k) (answer domain a (namesIn (now (path .entry))) (copyOf w k))) (tables (itsNodes w) (now (copies .exit)) (itsWatches w) (now (transactions .exit)) (itsDomains w)) (now (reply .entry)) (now (reply .exit)) events events r) ⌝ }
+    ensures { λ r. ⌜ ((w : World) → w .copies ≡ chunks mostTransactions tableSize (now (copies .entry)) →
+        w .transactions ≡ transactionsOf (now (transactions .entry)) → (a : P.Ask) → Asks ask (now (value .entry)) count (now (access .entry))
+        (now (domains .entry)) a → (events : Octets) →
+        Handled (W.inside w k (transactionOf (now (transactions .entry)) k) (answer domain a (namesIn (now (path .entry))) (copyOf w k)))
+        (tables (itsNodes w) (now (copies .exit)) (itsWatches w) (now (transactions .exit)) (itsDomains w)) (now (reply .entry))
+        (now (reply .exit)) events events r) ⌝ }
 {
     let from = k * TABLE_SIZE;
     let end = from + TABLE_SIZE;

@@ -42,9 +42,11 @@ pub fn introduce(
     reply: &mut [u8],
     events: &mut [u8],
 ) -> Outcome
-    requires { ⌜ KeptWatches (now watches) × KeptDomains (now domains) × (domain ≤ lastDomain) × (length (now reply) ≡ replySize) × (length (now events) ≡ eventsSize) ⌝ }
+    requires { ⌜ KeptWatches (now watches) × KeptDomains (now domains) × (domain ≤ lastDomain) × (length (now reply) ≡ replySize) ×
+        (length (now events) ≡ eventsSize) ⌝ }
     ensures { λ r. ⌜ ((w : World) → w .watches ≡ watchesOf (now (watches .entry)) → w .domains ≡ domainsOf (now (domains .entry)) →
-        Handled (introducing w domain page channel) (tables (itsNodes w) (itsCopies w) (itsWatches w) (itsTransactions w) (now (domains .exit))) (now (reply .entry)) (now (reply .exit)) (now (events .entry)) (now (events .exit)) r) ⌝ }
+        Handled (introducing w domain page channel) (tables (itsNodes w) (itsCopies w) (itsWatches w) (itsTransactions w) (now (domains .exit)))
+        (now (reply .entry)) (now (reply .exit)) (now (events .entry)) (now (events .exit)) r) ⌝ }
 {
     if introduced(domains, domain) {
         return with_events(Reply::Refused(Errno::Exists), 0);
@@ -73,7 +75,8 @@ fn forget(
     removed: bool,
 )
     requires { ⌜ KeptWatches (now watches) × KeptTransactions (now transactions) × KeptDomains (now domains) ⌝ }
-    ensures { λ _. ⌜ Forgotten (now (watches .entry)) (now (transactions .entry)) (now (domains .entry)) domain removed (now (watches .exit)) (now (transactions .exit)) (now (domains .exit)) ⌝ }
+    ensures { λ _. ⌜ Forgotten (now (watches .entry)) (now (transactions .entry)) (now (domains .entry)) domain removed (now (watches .exit))
+        (now (transactions .exit)) (now (domains .exit)) ⌝ }
 {
     remove_of(watches, domain);
     remove(domains, domain);
@@ -93,7 +96,8 @@ fn clear_out(
     events: &mut [u8],
 ) -> usize
     requires { ⌜ Releasable (now nodes) (now watches) (now transactions) (now domains) (now events) × (1 ≤ domain) × (domain ≤ lastDomain) ⌝ }
-    ensures { λ r. ⌜ Released (now (nodes .entry)) (now (watches .entry)) (now (transactions .entry)) (now (domains .entry)) domain (now (events .entry)) (now (nodes .exit)) (now (watches .exit)) (now (transactions .exit)) (now (domains .exit)) (now (events .exit)) r ⌝ }
+    ensures { λ r. ⌜ Released (now (nodes .entry)) (now (watches .entry)) (now (transactions .entry)) (now (domains .entry)) domain (now (events .entry))
+        (now (nodes .exit)) (now (watches .exit)) (now (transactions .exit)) (now (domains .exit)) (now (events .exit)) r ⌝ }
 {
     let mut before = [0u8; TABLE_SIZE];
     copy(&mut before, 0, nodes);
@@ -115,9 +119,12 @@ pub fn release(
     reply: &mut [u8],
     events: &mut [u8],
 ) -> Outcome
-    requires { ⌜ Releasable (now nodes) (now watches) (now transactions) (now domains) (now events) × (1 ≤ domain) × (domain ≤ lastDomain) × (length (now reply) ≡ replySize) ⌝ }
-    ensures { λ r. ⌜ ((w : World) → w .nodes ≡ tableOf (now (nodes .entry)) → w .watches ≡ watchesOf (now (watches .entry)) → w .transactions ≡ transactionsOf (now (transactions .entry)) → w .domains ≡ domainsOf (now (domains .entry)) →
-        Handled (releasing w domain) (tables (now (nodes .exit)) (itsCopies w) (now (watches .exit)) (now (transactions .exit)) (now (domains .exit))) (now (reply .entry)) (now (reply .exit)) (now (events .entry)) (now (events .exit)) r) ⌝ }
+    requires { ⌜ Releasable (now nodes) (now watches) (now transactions) (now domains) (now events) × (1 ≤ domain) × (domain ≤ lastDomain) ×
+        (length (now reply) ≡ replySize) ⌝ }
+    ensures { λ r. ⌜ ((w : World) → w .nodes ≡ tableOf (now (nodes .entry)) → w .watches ≡ watchesOf (now (watches .entry)) →
+        w .transactions ≡ transactionsOf (now (transactions .entry)) → w .domains ≡ domainsOf (now (domains .entry)) →
+        Handled (releasing w domain) (tables (now (nodes .exit)) (itsCopies w) (now (watches .exit)) (now (transactions .exit)) (now (domains .exit)))
+        (now (reply .entry)) (now (reply .exit)) (now (events .entry)) (now (events .exit)) r) ⌝ }
 {
     if !introduced(domains, domain) {
         return with_events(Reply::Refused(Errno::NoEntry), 0);

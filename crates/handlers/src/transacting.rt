@@ -40,9 +40,12 @@ pub fn start(
     c: u32,
     reply: &mut [u8],
 ) -> Outcome
-    requires { ⌜ Canonical (now nodes) × (length (now copies) ≡ copiesSize) × KeptTransactions (now transactions) × (c < 65536) × (length (now reply) ≡ replySize) ⌝ }
-    ensures { λ r. ⌜ ((w : World) → w .nodes ≡ tableOf (now (nodes .entry)) → w .copies ≡ chunks mostTransactions tableSize (now (copies .entry)) → w .transactions ≡ transactionsOf (now (transactions .entry)) → (events : Octets) →
-        Handled (starting w c) (tables (itsNodes w) (now (copies .exit)) (itsWatches w) (now (transactions .exit)) (itsDomains w)) (now (reply .entry)) (now (reply .exit)) events events r) ⌝ }
+    requires { ⌜ Canonical (now nodes) × (length (now copies) ≡ copiesSize) × KeptTransactions (now transactions) × (c < 65536) ×
+        (length (now reply) ≡ replySize) ⌝ }
+    ensures { λ r. ⌜ ((w : World) → w .nodes ≡ tableOf (now (nodes .entry)) → w .copies ≡ chunks mostTransactions tableSize (now (copies .entry)) →
+        w .transactions ≡ transactionsOf (now (transactions .entry)) → (events : Octets) →
+        Handled (starting w c) (tables (itsNodes w) (now (copies .exit)) (itsWatches w) (now (transactions .exit)) (itsDomains w)) (now (reply .entry))
+        (now (reply .exit)) events events r) ⌝ }
 {
     let k = lowest_free(transactions);
     if TRANSACTIONS <= k {
@@ -72,7 +75,8 @@ pub fn is_held(transactions: &[u8], c: u32, tx: u32) -> bool
 // Closes the open transaction in place k; where it has a change, all others become stale.
 fn close_committed(transactions: &mut [u8], k: usize)
     requires { ⌜ OpenTransaction (now transactions) k ⌝ }
-    ensures { λ _. ⌜ now (transactions .exit) ≡ transactionsBytes (staledIf (not (isEmpty (transactionOf (now (transactions .entry)) k .changes))) (set (transactionsOf (now (transactions .entry))) k none)) ⌝ }
+    ensures { λ _. ⌜ now (transactions .exit) ≡ transactionsBytes
+        (staledIf (not (isEmpty (transactionOf (now (transactions .entry)) k .changes))) (set (transactionsOf (now (transactions .entry))) k none)) ⌝ }
 {
     if transactions::places::changes(transactions, k) == 0 {
         close(transactions, k);
@@ -93,8 +97,11 @@ fn commit(
     events: &mut [u8],
 ) -> Outcome
     requires { ⌜ Committable (now nodes) (now copies) (now watches) (now transactions) (now reply) (now events) × OpenTransaction (now transactions) k ⌝ }
-    ensures { λ r. ⌜ ((w : World) → w .nodes ≡ tableOf (now (nodes .entry)) → w .copies ≡ chunks mostTransactions tableSize (now (copies .entry)) → w .watches ≡ watchesOf (now (watches .entry)) → w .transactions ≡ transactionsOf (now (transactions .entry)) →
-        Handled (committing w k (transactionOf (now (transactions .entry)) k)) (tables (now (nodes .exit)) (itsCopies w) (itsWatches w) (now (transactions .exit)) (itsDomains w)) (now (reply .entry)) (now (reply .exit)) (now (events .entry)) (now (events .exit)) r) ⌝ }
+    ensures { λ r. ⌜ ((w : World) → w .nodes ≡ tableOf (now (nodes .entry)) → w .copies ≡ chunks mostTransactions tableSize (now (copies .entry)) →
+        w .watches ≡ watchesOf (now (watches .entry)) → w .transactions ≡ transactionsOf (now (transactions .entry)) →
+        Handled (committing w k (transactionOf (now (transactions .entry)) k))
+        (tables (now (nodes .exit)) (itsCopies w) (itsWatches w) (now (transactions .exit)) (itsDomains w)) (now (reply .entry)) (now (reply .exit))
+        (now (events .entry)) (now (events .exit)) r) ⌝ }
 {
     let from = k * TABLE_SIZE;
     let copied = &copies[from..from + TABLE_SIZE];
@@ -117,8 +124,10 @@ pub fn end(
     events: &mut [u8],
 ) -> Outcome
     requires { ⌜ Committable (now nodes) (now copies) (now watches) (now transactions) (now reply) (now events) ⌝ }
-    ensures { λ r. ⌜ ((w : World) → w .nodes ≡ tableOf (now (nodes .entry)) → w .copies ≡ chunks mostTransactions tableSize (now (copies .entry)) → w .watches ≡ watchesOf (now (watches .entry)) → w .transactions ≡ transactionsOf (now (transactions .entry)) →
-        Handled (ending w c tx commits) (tables (now (nodes .exit)) (itsCopies w) (itsWatches w) (now (transactions .exit)) (itsDomains w)) (now (reply .entry)) (now (reply .exit)) (now (events .entry)) (now (events .exit)) r) ⌝ }
+    ensures { λ r. ⌜ ((w : World) → w .nodes ≡ tableOf (now (nodes .entry)) → w .copies ≡ chunks mostTransactions tableSize (now (copies .entry)) →
+        w .watches ≡ watchesOf (now (watches .entry)) → w .transactions ≡ transactionsOf (now (transactions .entry)) →
+        Handled (ending w c tx commits) (tables (now (nodes .exit)) (itsCopies w) (itsWatches w) (now (transactions .exit)) (itsDomains w))
+        (now (reply .entry)) (now (reply .exit)) (now (events .entry)) (now (events .exit)) r) ⌝ }
 {
     if !is_held(transactions, c, tx) {
         return with_events(Reply::Refused(Errno::NoEntry), 0);

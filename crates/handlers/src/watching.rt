@@ -36,7 +36,8 @@ use watches::places::watched;
 // Whether a watch of a path, or of an event's name, fits with its token.
 fn is_short(path: &[u8], special: bool, token: &[u8]) -> bool
     requires { ⌜ PlacedAs special (now path) ⌝ }
-    ensures { λ r. ⌜ ((w : World) (relative : Bool) → r ≡ (placeFits w (placeIn relative (now (path .entry))) && leb (length (now (token .entry))) longestToken)) ⌝ }
+    ensures { λ r. ⌜ ((w : World) (relative : Bool) →
+        r ≡ (placeFits w (placeIn relative (now (path .entry))) && leb (length (now (token .entry))) longestToken)) ⌝ }
 {
     if LONGEST_TOKEN < token.len() {
         return false;
@@ -59,9 +60,12 @@ pub fn watch(
     reply: &mut [u8],
     events: &mut [u8],
 ) -> Outcome
-    requires { ⌜ KeptWatches (now watches) × (c < 65536) × PlacedAs special (now path) × NamedSo special relative × (entryOr 0 (depthMeant depth) < 256) × (length (now reply) ≡ replySize) × (length (now events) ≡ eventsSize) ⌝ }
+    requires { ⌜ KeptWatches (now watches) × (c < 65536) × PlacedAs special (now path) × NamedSo special relative × (entryOr 0 (depthMeant depth) < 256) ×
+        (length (now reply) ≡ replySize) × (length (now events) ≡ eventsSize) ⌝ }
     ensures { λ r. ⌜ ((w : World) → w .watches ≡ watchesOf (now (watches .entry)) →
-        Handled (watching w c (placeIn relative (now (path .entry))) (now (token .entry)) (depthMeant depth)) (tables (itsNodes w) (itsCopies w) (now (watches .exit)) (itsTransactions w) (itsDomains w)) (now (reply .entry)) (now (reply .exit)) (now (events .entry)) (now (events .exit)) r) ⌝ }
+        Handled (watching w c (placeIn relative (now (path .entry))) (now (token .entry)) (depthMeant depth))
+        (tables (itsNodes w) (itsCopies w) (now (watches .exit)) (itsTransactions w) (itsDomains w)) (now (reply .entry)) (now (reply .exit))
+        (now (events .entry)) (now (events .exit)) r) ⌝ }
 {
     if watched(watches, c, path, token) {
         return with_events(Reply::Refused(Errno::Exists), 0);
@@ -82,7 +86,8 @@ pub fn watch(
 pub fn unwatch(watches: &mut [u8], c: u32, path: &[u8], token: &[u8], reply: &mut [u8]) -> Outcome
     requires { ⌜ KeptWatches (now watches) × (length (now reply) ≡ replySize) ⌝ }
     ensures { λ r. ⌜ ((w : World) → w .watches ≡ watchesOf (now (watches .entry)) → (p : Place) → placeText p ≡ now (path .entry) → (events : Octets) →
-        Handled (unwatching w c p (now (token .entry))) (tables (itsNodes w) (itsCopies w) (now (watches .exit)) (itsTransactions w) (itsDomains w)) (now (reply .entry)) (now (reply .exit)) events events r) ⌝ }
+        Handled (unwatching w c p (now (token .entry))) (tables (itsNodes w) (itsCopies w) (now (watches .exit)) (itsTransactions w) (itsDomains w))
+        (now (reply .entry)) (now (reply .exit)) events events r) ⌝ }
 {
     if !watched(watches, c, path, token) {
         return with_events(Reply::Refused(Errno::NoEntry), 0);
@@ -94,8 +99,10 @@ pub fn unwatch(watches: &mut [u8], c: u32, path: &[u8], token: &[u8], reply: &mu
 // Drops a connection's watches and transactions.
 pub fn reset(watches: &mut [u8], transactions: &mut [u8], c: u32, reply: &mut [u8]) -> Outcome
     requires { ⌜ KeptWatches (now watches) × KeptTransactions (now transactions) × (length (now reply) ≡ replySize) ⌝ }
-    ensures { λ r. ⌜ ((w : World) → w .watches ≡ watchesOf (now (watches .entry)) → w .transactions ≡ transactionsOf (now (transactions .entry)) → (events : Octets) →
-        Handled (resetting w c) (tables (itsNodes w) (itsCopies w) (now (watches .exit)) (now (transactions .exit)) (itsDomains w)) (now (reply .entry)) (now (reply .exit)) events events r) ⌝ }
+    ensures { λ r. ⌜ ((w : World) → w .watches ≡ watchesOf (now (watches .entry)) → w .transactions ≡ transactionsOf (now (transactions .entry)) →
+        (events : Octets) →
+        Handled (resetting w c) (tables (itsNodes w) (itsCopies w) (now (watches .exit)) (now (transactions .exit)) (itsDomains w)) (now (reply .entry))
+        (now (reply .exit)) events events r) ⌝ }
 {
     remove_of(watches, c);
     end_all_of(transactions, c);

@@ -33,7 +33,8 @@ pub fn names_length(t: &[u8], list: &[u8], n: usize) -> usize
 
 // Writes the names of n slots, each with a nul, from a place of a buffer on; answers the place behind them.
 pub fn put_names(t: &[u8], list: &[u8], n: usize, into: &mut [u8], at: usize) -> usize
-    requires { ⌜ (n ≤ length (now list)) × AllAsked (now t) (take n (now list)) × (at + length (nameList (tableOf (now t)) (take n (now list))) ≤ length (now into)) ⌝ }
+    requires { ⌜ (n ≤ length (now list)) × AllAsked (now t) (take n (now list)) ×
+        (at + length (nameList (tableOf (now t)) (take n (now list))) ≤ length (now into)) ⌝ }
     ensures { λ r. ⌜ Put at (nameList (tableOf (now (t .entry))) (take n (now (list .entry)))) (now (into .entry)) (now (into .exit)) r ⌝ }
 {
     let mut to = at;
@@ -80,7 +81,8 @@ fn put_entry(into: &mut [u8], at: usize, access: u32, domain: u32) -> usize
 // Writes a node's entries, the owner's first, from a place of a buffer on; answers the place behind them.
 pub fn put_entries(t: &[u8], i: usize, into: &mut [u8], at: usize) -> usize
     requires { ⌜ Asked (now t) i × (at + 64 ≤ length (now into)) ⌝ }
-    ensures { λ r. ⌜ Put at (flatMap entryText (nodeAt (tableOf (now (t .entry))) i .owner ∷ nodeAt (tableOf (now (t .entry))) i .others)) (now (into .entry)) (now (into .exit)) r ⌝ }
+    ensures { λ r. ⌜ Put at (flatMap entryText (nodeAt (tableOf (now (t .entry))) i .owner ∷ nodeAt (tableOf (now (t .entry))) i .others))
+        (now (into .entry)) (now (into .exit)) r ⌝ }
 {
     let count = entry_count(t, i);
     let mut to = at;

@@ -46,8 +46,10 @@ fn visit_list(
     out: &mut [u8],
     n: usize,
 ) -> usize
-    requires { ⌜ (count ≤ length (now list)) × AllAsked (now t) (take count (now list)) × (n + length (ownedAmong depth (tableOf (now t)) domain (drop k (take count (now list)))) ≤ length (now out)) ⌝ }
-    ensures { λ r. ⌜ Entered (now (out .entry)) n (ownedAmong depth (tableOf (now (t .entry))) domain (drop k (take count (now (list .entry))))) (now (out .exit)) r ⌝ }
+    requires { ⌜ (count ≤ length (now list)) × AllAsked (now t) (take count (now list)) ×
+        (n + length (ownedAmong depth (tableOf (now t)) domain (drop k (take count (now list)))) ≤ length (now out)) ⌝ }
+    ensures { λ r. ⌜ Entered (now (out .entry)) n (ownedAmong depth (tableOf (now (t .entry))) domain (drop k (take count (now (list .entry)))))
+        (now (out .exit)) r ⌝ }
 {
     if count <= k {
         return n;

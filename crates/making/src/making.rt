@@ -18,8 +18,11 @@ use slots::writing::put_node;
 
 // Puts a new node into the lowest free slot, and returns that slot.
 fn make_one(t: &mut [u8], parent: usize, name: &[u8], value: &[u8], domain: u32) -> usize
-    requires { ⌜ (parent < slots) × Canonical (now t) × (isUsed (slotAt (now t) parent) ≡ true) × Room (length (now name)) (length (now value)) domain × (1 ≤ freeCount (tableOf (now t))) ⌝ }
-    ensures { λ r. ⌜ (r ≡ lowest (tableOf (now (t .entry)))) × (now (t .exit) ≡ tableBytes (set (tableOf (now (t .entry))) r (some (newNode domain (tableOf (now (t .entry))) parent (now (name .entry)) (now (value .entry)))))) ⌝ }
+    requires { ⌜ (parent < slots) × Canonical (now t) × (isUsed (slotAt (now t) parent) ≡ true) × Room (length (now name)) (length (now value)) domain ×
+        (1 ≤ freeCount (tableOf (now t))) ⌝ }
+    ensures { λ r. ⌜ (r ≡ lowest (tableOf (now (t .entry)))) ×
+        (now (t .exit) ≡ tableBytes (set (tableOf (now (t .entry))) r
+        (some (newNode domain (tableOf (now (t .entry))) parent (now (name .entry)) (now (value .entry)))))) ⌝ }
 {
     let i = lowest_free(t);
     put_node(t, i, parent, name, value, domain);
@@ -28,7 +31,8 @@ fn make_one(t: &mut [u8], parent: usize, name: &[u8], value: &[u8], domain: u32)
 
 // Makes the names of a full path's text from `at` on, where a name begins, below a slot: parents first, each in the lowest free slot, the value in the last.
 pub fn make(t: &mut [u8], slot: usize, path: &[u8], at: usize, domain: u32, value: &[u8])
-    requires { ⌜ (slot < slots) × Canonical (now t) × (isUsed (slotAt (now t) slot) ≡ true) ⌝ ∗ ⌜ shortNames (leftAt (now path) at) ≡ true ⌝ ∗ ⌜ length (leftAt (now path) at) ≤ freeCount (tableOf (now t)) ⌝ ∗ ⌜ (length (now value) ≤ longestValue) × (domain < 65536) ⌝ }
+    requires { ⌜ (slot < slots) × Canonical (now t) × (isUsed (slotAt (now t) slot) ≡ true) ⌝ ∗ ⌜ shortNames (leftAt (now path) at) ≡ true ⌝
+        ∗ ⌜ length (leftAt (now path) at) ≤ freeCount (tableOf (now t)) ⌝ ∗ ⌜ (length (now value) ≤ longestValue) × (domain < 65536) ⌝ }
     ensures { λ _. ⌜ now (t .exit) ≡ tableBytes (made (leftAt (now (path .entry)) at) slot domain (now (value .entry)) (tableOf (now (t .entry)))) ⌝ }
 {
     let mut parent = slot;

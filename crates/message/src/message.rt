@@ -95,7 +95,8 @@ pub fn message<'a>(
     into: &mut [u8],
 ) -> Sent
     requires { ⌜ SoundWatches (now watches) × (length (now events) ≡ eventsSize) × (length (now into) ≡ messageSize) ⌝ }
-    ensures { λ r. ⌜ sentAs r (now (into .exit)) ≡ sentOver (now (into .entry)) (messageOf (watchesOf (now (watches .entry))) (now (events .entry)) count «record» watch) ⌝ }
+    ensures { λ r. ⌜ sentAs r (now (into .exit)) ≡ sentOver (now (into .entry))
+        (messageOf (watchesOf (now (watches .entry))) (now (events .entry)) count «record» watch) ⌝ }
 {
     if count <= record {
         return Sent::Nothing;

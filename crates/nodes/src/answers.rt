@@ -23,7 +23,8 @@ pub fn answer(
     reply: &mut [u8],
 ) -> Answer
     requires { ⌜ Ready (now t) (now path) (now reply) domain × Askable ask count (now access) (now domains) ⌝ }
-    ensures { λ r. ⌜ AnsweredAs domain ask (now (value .entry)) count (now (access .entry)) (now (domains .entry)) (now (path .entry)) (now (t .entry)) (now (t .exit)) (now (reply .entry)) (now (reply .exit)) r ⌝ }
+    ensures { λ r. ⌜ AnsweredAs domain ask (now (value .entry)) count (now (access .entry)) (now (domains .entry)) (now (path .entry)) (now (t .entry))
+        (now (t .exit)) (now (reply .entry)) (now (reply .exit)) r ⌝ }
 {
     match ask {
         Ask::Directory => directory(t, domain, path, reply),

@@ -58,7 +58,8 @@ pub fn names_left(path: &[u8], at: usize) -> usize
 // Whether what is left of a path can be made, with a value.
 fn has_room(t: &[u8], path: &[u8], at: usize, value: &[u8]) -> bool
     requires { ⌜ Standing (now t) (now path) × (at < length (now path)) ⌝ }
-    ensures { λ r. ⌜ ((d : Domain) → r ≡ room d (namesIn (now (path .entry))) (tableOf (now (t .entry))) (leftAt (now (path .entry)) at) (now (value .entry))) ⌝ }
+    ensures { λ r. ⌜ ((d : Domain) → r ≡ room d (namesIn (now (path .entry))) (tableOf (now (t .entry))) (leftAt (now (path .entry)) at)
+        (now (value .entry))) ⌝ }
 {
     if LONGEST_VALUE < value.len() {
         return false;
@@ -80,7 +81,9 @@ fn create(
     reply: &mut [u8],
 ) -> Answer
     requires { ⌜ Ready (now t) (now path) (now reply) domain × Reaches (now t) (now path) i at × (at < length (now path)) ⌝ }
-    ensures { λ r. ⌜ Answers (namesIn (now (path .entry))) (created domain (namesIn (now (path .entry))) (tableOf (now (t .entry))) (reach (tableOf (now (t .entry))) (namesIn (now (path .entry)))) (now (value .entry))) (now (t .exit)) (now (reply .entry)) (now (reply .exit)) r ⌝ }
+    ensures { λ r. ⌜ Answers (namesIn (now (path .entry)))
+        (created domain (namesIn (now (path .entry))) (tableOf (now (t .entry))) (reach (tableOf (now (t .entry))) (namesIn (now (path .entry))))
+        (now (value .entry))) (now (t .exit)) (now (reply .entry)) (now (reply .exit)) r ⌝ }
 {
     if !may_write(t, i, domain) {
         return refusal(Errno::Access);
@@ -94,7 +97,8 @@ fn create(
 
 pub fn write(t: &mut [u8], domain: u32, path: &[u8], value: &[u8], reply: &mut [u8]) -> Answer
     requires { ⌜ Ready (now t) (now path) (now reply) domain ⌝ }
-    ensures { λ r. ⌜ Answered domain (write (now (value .entry))) (now (path .entry)) (now (t .entry)) (now (t .exit)) (now (reply .entry)) (now (reply .exit)) r ⌝ }
+    ensures { λ r. ⌜ Answered domain (write (now (value .entry))) (now (path .entry)) (now (t .entry)) (now (t .exit)) (now (reply .entry))
+        (now (reply .exit)) r ⌝ }
 {
     let reached = reach(t, path);
     let slot = reached.slot;

@@ -21,7 +21,8 @@ use slots::writing::put_entries;
 // Whether a domain may give slot i entries whose first names an owner.
 fn may_set(t: &[u8], i: usize, domain: u32, owner: u32) -> bool
     requires { ⌜ Asked (now t) i ⌝ }
-    ensures { λ r. ⌜ ((ns : Names) (o : Entry) → o .domain ≡ owner → r ≡ maySet domain ns (tableOf (now (t .entry))) (nodeAt (tableOf (now (t .entry))) i) o) ⌝ }
+    ensures { λ r. ⌜ ((ns : Names) (o : Entry) → o .domain ≡ owner →
+        r ≡ maySet domain ns (tableOf (now (t .entry))) (nodeAt (tableOf (now (t .entry))) i) o) ⌝ }
 {
     if !may_own(t, i, domain) {
         return false;
@@ -43,7 +44,8 @@ pub fn set_perms(
     reply: &mut [u8],
 ) -> Answer
     requires { ⌜ Ready (now t) (now path) (now reply) domain × Stored count (now access) (now domains) ⌝ }
-    ensures { λ r. ⌜ Permitted domain count (now (access .entry)) (now (domains .entry)) (now (path .entry)) (now (t .entry)) (now (t .exit)) (now (reply .entry)) (now (reply .exit)) r ⌝ }
+    ensures { λ r. ⌜ Permitted domain count (now (access .entry)) (now (domains .entry)) (now (path .entry)) (now (t .entry)) (now (t .exit))
+        (now (reply .entry)) (now (reply .exit)) r ⌝ }
 {
     let reached = reach(t, path);
     let slot = reached.slot;

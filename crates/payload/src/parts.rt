@@ -20,7 +20,8 @@ pub enum Parts {
 // What follows two strings that end at a and b.
 fn after_two(s: &[u8], a: usize, b: usize, rest: Cursor) -> Parts
     requires { ⌜ (a < b) × (b < length (now s)) × (rest .at ≡ b + 1) ⌝ }
-    ensures { λ r. ⌜ r ≡ partsOf (prepended (part 0 a (now (s .entry))) (prepended (part (a + 1) b (now (s .entry))) (strings (drop (b + 1) (now (s .entry)))))) ⌝ }
+    ensures { λ r. ⌜ r ≡ partsOf (prepended (part 0 a (now (s .entry)))
+        (prepended (part (a + 1) b (now (s .entry))) (strings (drop (b + 1) (now (s .entry)))))) ⌝ }
 {
     match rest.next(s) {
         Taken::String {

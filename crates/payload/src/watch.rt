@@ -36,7 +36,8 @@ fn watch_all(s: &[u8], a: usize, b: usize) -> Request
 // A path that ends at a, a token that ends at b and a depth that ends at c.
 fn watch_to(s: &[u8], a: usize, b: usize, c: usize) -> Request
     requires { ⌜ (a < b) × (b < c) × (c < length (now s)) ⌝ }
-    ensures { λ r. ⌜ Means (now (s .entry)) r (λ (d : Domain). watchPayload d (some (take a (now (s .entry)) ∷ part (a + 1) b (now (s .entry)) ∷ part (b + 1) c (now (s .entry)) ∷ []))) ⌝ }
+    ensures { λ r. ⌜ Means (now (s .entry)) r (λ (d : Domain). watchPayload d
+        (some (take a (now (s .entry)) ∷ part (a + 1) b (now (s .entry)) ∷ part (b + 1) c (now (s .entry)) ∷ []))) ⌝ }
 {
     let Named::At(path) = placed(s, a) else {
         return Request::Invalid;

@@ -14,7 +14,7 @@ use Rattle.rules.specs.Octets.{Octets, chunks}
 use Rattle.rules.specs.Domain.{Connection}
 use Rattle.rules.specs.Payload.{parse}
 use Rattle.rules.specs.Answer.{EACCES, refused}
-use Rattle.rules.specs.Layout.{transactionsOf, domainsOf}
+use Rattle.rules.specs.Layout.{opened, transactionsOf, domainsOf}
 use Rattle.rules.specs.Sound.{known, soundTable, soundDomains, soundWatches, soundTransactions}
 use Rattle.rules.specs.World as W
 use Rattle.rules.specs.World.{World, left, forControl}
@@ -30,7 +30,7 @@ use Rattle.slots.proofs.Canonical.{sound-canonical}
 use Rattle.transactions.specs.Checks.{soundEntries}
 use Rattle.domains.specs.Kept.{KeptDomains}
 use Rattle.watches.specs.Watch.{KeptWatches}
-use Rattle.transactions.specs.Transaction.{KeptTransactions, opened}
+use Rattle.transactions.specs.Transaction.{KeptTransactions}
 use Rattle.domains.proofs.Search.{taken-some}
 use Rattle.domains.proofs.Laws as domains
 use Rattle.watches.proofs.Written as watches

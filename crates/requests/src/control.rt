@@ -29,9 +29,12 @@ pub fn introduce_by(
     reply: &mut [u8],
     events: &mut [u8],
 ) -> Outcome
-    requires { ⌜ KeptWatches (now watches) × KeptDomains (now domains) × (domain ≤ lastDomain) × (length (now reply) ≡ replySize) × (length (now events) ≡ eventsSize) ⌝ }
+    requires { ⌜ KeptWatches (now watches) × KeptDomains (now domains) × (domain ≤ lastDomain) × (length (now reply) ≡ replySize) ×
+        (length (now events) ≡ eventsSize) ⌝ }
     ensures { λ r. ⌜ ((w : World) → w .watches ≡ watchesOf (now (watches .entry)) → w .domains ≡ domainsOf (now (domains .entry)) →
-        Handled (forControl w c (introducing w domain page channel)) (leaves.tables (itsNodes w) (itsCopies w) (itsWatches w) (itsTransactions w) (now (domains .exit))) (now (reply .entry)) (now (reply .exit)) (now (events .entry)) (now (events .exit)) r) ⌝ }
+        Handled (forControl w c (introducing w domain page channel))
+        (leaves.tables (itsNodes w) (itsCopies w) (itsWatches w) (itsTransactions w) (now (domains .exit))) (now (reply .entry)) (now (reply .exit))
+        (now (events .entry)) (now (events .exit)) r) ⌝ }
 {
     if c != 0 {
         return with_events(Reply::Refused(Errno::Access), 0);
@@ -50,9 +53,13 @@ pub fn release_by(
     reply: &mut [u8],
     events: &mut [u8],
 ) -> Outcome
-    requires { ⌜ Releasable (now nodes) (now watches) (now transactions) (now domains) (now events) × (1 ≤ domain) × (domain ≤ lastDomain) × (length (now reply) ≡ replySize) ⌝ }
-    ensures { λ r. ⌜ ((w : World) → w .nodes ≡ tableOf (now (nodes .entry)) → w .watches ≡ watchesOf (now (watches .entry)) → w .transactions ≡ transactionsOf (now (transactions .entry)) → w .domains ≡ domainsOf (now (domains .entry)) →
-        Handled (forControl w c (releasing w domain)) (leaves.tables (now (nodes .exit)) (itsCopies w) (now (watches .exit)) (now (transactions .exit)) (now (domains .exit))) (now (reply .entry)) (now (reply .exit)) (now (events .entry)) (now (events .exit)) r) ⌝ }
+    requires { ⌜ Releasable (now nodes) (now watches) (now transactions) (now domains) (now events) × (1 ≤ domain) × (domain ≤ lastDomain) ×
+        (length (now reply) ≡ replySize) ⌝ }
+    ensures { λ r. ⌜ ((w : World) → w .nodes ≡ tableOf (now (nodes .entry)) → w .watches ≡ watchesOf (now (watches .entry)) →
+        w .transactions ≡ transactionsOf (now (transactions .entry)) → w .domains ≡ domainsOf (now (domains .entry)) →
+        Handled (forControl w c (releasing w domain))
+        (leaves.tables (now (nodes .exit)) (itsCopies w) (now (watches .exit)) (now (transactions .exit)) (now (domains .exit))) (now (reply .entry))
+        (now (reply .exit)) (now (events .entry)) (now (events .exit)) r) ⌝ }
 {
     if c != 0 {
         return with_events(Reply::Refused(Errno::Access), 0);

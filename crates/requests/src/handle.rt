@@ -41,7 +41,10 @@ pub fn handle(
     events: &mut [u8],
 ) -> Outcome
     requires { ⌜ Served (leaves.tables (now nodes) (now copies) (now watches) (now transactions) (now domains)) c (now reply) (now events) (now s) ⌝ }
-    ensures { λ r. ⌜ Handled (outcomeOf (worldOf (leaves.tables (now (nodes .entry)) (now (copies .entry)) (now (watches .entry)) (now (transactions .entry)) (now (domains .entry)))) c tx (rules.parse c kind tx (now (s .entry)))) (leaves.tables (now (nodes .exit)) (now (copies .exit)) (now (watches .exit)) (now (transactions .exit)) (now (domains .exit))) (now (reply .entry)) (now (reply .exit)) (now (events .entry)) (now (events .exit)) r ⌝ }
+    ensures { λ r. ⌜ Handled (outcomeOf (worldOf (leaves.tables (now (nodes .entry)) (now (copies .entry)) (now (watches .entry))
+        (now (transactions .entry)) (now (domains .entry)))) c tx (rules.parse c kind tx (now (s .entry))))
+        (leaves.tables (now (nodes .exit)) (now (copies .exit)) (now (watches .exit)) (now (transactions .exit)) (now (domains .exit))) (now (reply .entry))
+        (now (reply .exit)) (now (events .entry)) (now (events .exit)) r ⌝ }
 {
     let r = parse(kind, tx, s);
     match r {
@@ -97,9 +100,13 @@ fn domain_or_node(
     reply: &mut [u8],
     events: &mut [u8],
 ) -> Outcome
-    requires { ⌜ Served (leaves.tables (now nodes) (now copies) (now watches) (now transactions) (now domains)) c (now reply) (now events) (now s) × OfDomainOrNode r × ((type : ℕ) × Means (now s) r (λ (d : Connection). kept (rules.parse d type tx (now s)))) ⌝ }
+    requires { ⌜ Served (leaves.tables (now nodes) (now copies) (now watches) (now transactions) (now domains)) c (now reply) (now events) (now s) ×
+        OfDomainOrNode r × ((type : ℕ) × Means (now s) r (λ (d : Connection). kept (rules.parse d type tx (now s)))) ⌝ }
     ensures { λ o. ⌜ ((type : ℕ) → Means (now (s .entry)) r (λ (d : Connection). kept (rules.parse d type tx (now (s .entry)))) →
-        Handled (outcomeOf (worldOf (leaves.tables (now (nodes .entry)) (now (copies .entry)) (now (watches .entry)) (now (transactions .entry)) (now (domains .entry)))) c tx (rules.parse c type tx (now (s .entry)))) (leaves.tables (now (nodes .exit)) (now (copies .exit)) (now (watches .exit)) (now (transactions .exit)) (now (domains .exit))) (now (reply .entry)) (now (reply .exit)) (now (events .entry)) (now (events .exit)) o) ⌝ }
+        Handled (outcomeOf (worldOf (leaves.tables (now (nodes .entry)) (now (copies .entry)) (now (watches .entry)) (now (transactions .entry))
+        (now (domains .entry)))) c tx (rules.parse c type tx (now (s .entry))))
+        (leaves.tables (now (nodes .exit)) (now (copies .exit)) (now (watches .exit)) (now (transactions .exit)) (now (domains .exit)))
+        (now (reply .entry)) (now (reply .exit)) (now (events .entry)) (now (events .exit)) o) ⌝ }
 {
     match r {
         Request::Introduce {

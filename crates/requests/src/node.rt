@@ -48,9 +48,14 @@ fn asked(
     reply: &mut [u8],
     events: &mut [u8],
 ) -> Outcome
-    requires { ⌜ Committable (now nodes) (now copies) (now watches) (now transactions) (now reply) (now events) × Asking c ask (now path) (now value) count (now access) (now domains) ⌝ }
-    ensures { λ r. ⌜ ((w : World) → w .nodes ≡ tableOf (now (nodes .entry)) → w .copies ≡ chunks mostTransactions tableSize (now (copies .entry)) → w .watches ≡ watchesOf (now (watches .entry)) → w .transactions ≡ transactionsOf (now (transactions .entry)) → (a : P.Ask) → Asks ask (now (value .entry)) count (now (access .entry)) (now (domains .entry)) a → GoodAsk a →
-        Handled (W.asked w c tx a (namesIn (now (path .entry)))) (leaves.tables (now (nodes .exit)) (now (copies .exit)) (itsWatches w) (now (transactions .exit)) (itsDomains w)) (now (reply .entry)) (now (reply .exit)) (now (events .entry)) (now (events .exit)) r) ⌝ }
+    requires { ⌜ Committable (now nodes) (now copies) (now watches) (now transactions) (now reply) (now events) ×
+        Asking c ask (now path) (now value) count (now access) (now domains) ⌝ }
+    ensures { λ r. ⌜ ((w : World) → w .nodes ≡ tableOf (now (nodes .entry)) → w .copies ≡ chunks mostTransactions tableSize (now (copies .entry)) →
+        w .watches ≡ watchesOf (now (watches .entry)) → w .transactions ≡ transactionsOf (now (transactions .entry)) → (a : P.Ask) →
+        Asks ask (now (value .entry)) count (now (access .entry)) (now (domains .entry)) a → GoodAsk a →
+        Handled (W.asked w c tx a (namesIn (now (path .entry))))
+        (leaves.tables (now (nodes .exit)) (now (copies .exit)) (itsWatches w) (now (transactions .exit)) (itsDomains w)) (now (reply .entry))
+        (now (reply .exit)) (now (events .entry)) (now (events .exit)) r) ⌝ }
 {
     if tx == 0 {
         return plainly(
@@ -101,9 +106,14 @@ fn request_at(
     reply: &mut [u8],
     events: &mut [u8],
 ) -> Outcome
-    requires { ⌜ Committable (now nodes) (now copies) (now watches) (now transactions) (now reply) (now events) × (c ≤ lastDomain) × ((type : ℕ) × Stated (now s) type tx a) × (now path ≡ pathText (namesAt c (now s) (a .path))) ⌝ }
-    ensures { λ r. ⌜ ((type : ℕ) → Stated (now (s .entry)) type tx a → (w : World) → w .nodes ≡ tableOf (now (nodes .entry)) → w .copies ≡ chunks mostTransactions tableSize (now (copies .entry)) → w .watches ≡ watchesOf (now (watches .entry)) → w .transactions ≡ transactionsOf (now (transactions .entry)) →
-        Handled (outcomeOf w c tx (P.parse c type tx (now (s .entry)))) (leaves.tables (now (nodes .exit)) (now (copies .exit)) (itsWatches w) (now (transactions .exit)) (itsDomains w)) (now (reply .entry)) (now (reply .exit)) (now (events .entry)) (now (events .exit)) r) ⌝ }
+    requires { ⌜ Committable (now nodes) (now copies) (now watches) (now transactions) (now reply) (now events) × (c ≤ lastDomain) ×
+        ((type : ℕ) × Stated (now s) type tx a) × (now path ≡ pathText (namesAt c (now s) (a .path))) ⌝ }
+    ensures { λ r. ⌜ ((type : ℕ) → Stated (now (s .entry)) type tx a → (w : World) → w .nodes ≡ tableOf (now (nodes .entry)) →
+        w .copies ≡ chunks mostTransactions tableSize (now (copies .entry)) → w .watches ≡ watchesOf (now (watches .entry)) →
+        w .transactions ≡ transactionsOf (now (transactions .entry)) →
+        Handled (outcomeOf w c tx (P.parse c type tx (now (s .entry))))
+        (leaves.tables (now (nodes .exit)) (now (copies .exit)) (itsWatches w) (now (transactions .exit)) (itsDomains w)) (now (reply .entry))
+        (now (reply .exit)) (now (events .entry)) (now (events .exit)) r) ⌝ }
 {
     let es = a.entries;
     let from = a.value;
@@ -151,9 +161,14 @@ fn relative_request(
     reply: &mut [u8],
     events: &mut [u8],
 ) -> Outcome
-    requires { ⌜ Committable (now nodes) (now copies) (now watches) (now transactions) (now reply) (now events) × (c ≤ lastDomain) × (length (now s) ≤ longestPayload) × ((type : ℕ) × Stated (now s) type tx a) ⌝ }
-    ensures { λ r. ⌜ ((type : ℕ) → Stated (now (s .entry)) type tx a → (w : World) → w .nodes ≡ tableOf (now (nodes .entry)) → w .copies ≡ chunks mostTransactions tableSize (now (copies .entry)) → w .watches ≡ watchesOf (now (watches .entry)) → w .transactions ≡ transactionsOf (now (transactions .entry)) →
-        Handled (outcomeOf w c tx (P.parse c type tx (now (s .entry)))) (leaves.tables (now (nodes .exit)) (now (copies .exit)) (itsWatches w) (now (transactions .exit)) (itsDomains w)) (now (reply .entry)) (now (reply .exit)) (now (events .entry)) (now (events .exit)) r) ⌝ }
+    requires { ⌜ Committable (now nodes) (now copies) (now watches) (now transactions) (now reply) (now events) × (c ≤ lastDomain) ×
+        (length (now s) ≤ longestPayload) × ((type : ℕ) × Stated (now s) type tx a) ⌝ }
+    ensures { λ r. ⌜ ((type : ℕ) → Stated (now (s .entry)) type tx a → (w : World) → w .nodes ≡ tableOf (now (nodes .entry)) →
+        w .copies ≡ chunks mostTransactions tableSize (now (copies .entry)) → w .watches ≡ watchesOf (now (watches .entry)) →
+        w .transactions ≡ transactionsOf (now (transactions .entry)) →
+        Handled (outcomeOf w c tx (P.parse c type tx (now (s .entry))))
+        (leaves.tables (now (nodes .exit)) (now (copies .exit)) (itsWatches w) (now (transactions .exit)) (itsDomains w)) (now (reply .entry))
+        (now (reply .exit)) (now (events .entry)) (now (events .exit)) r) ⌝ }
 {
     let mut text = [0u8; PATH_ROOM];
     let n = full_path(s, a.path, c, &mut text);
@@ -186,9 +201,14 @@ pub fn node_request(
     reply: &mut [u8],
     events: &mut [u8],
 ) -> Outcome
-    requires { ⌜ Committable (now nodes) (now copies) (now watches) (now transactions) (now reply) (now events) × (c ≤ lastDomain) × (length (now s) ≤ longestPayload) × ((type : ℕ) × Stated (now s) type tx a) ⌝ }
-    ensures { λ r. ⌜ ((type : ℕ) → Stated (now (s .entry)) type tx a → (w : World) → w .nodes ≡ tableOf (now (nodes .entry)) → w .copies ≡ chunks mostTransactions tableSize (now (copies .entry)) → w .watches ≡ watchesOf (now (watches .entry)) → w .transactions ≡ transactionsOf (now (transactions .entry)) →
-        Handled (outcomeOf w c tx (P.parse c type tx (now (s .entry)))) (leaves.tables (now (nodes .exit)) (now (copies .exit)) (itsWatches w) (now (transactions .exit)) (itsDomains w)) (now (reply .entry)) (now (reply .exit)) (now (events .entry)) (now (events .exit)) r) ⌝ }
+    requires { ⌜ Committable (now nodes) (now copies) (now watches) (now transactions) (now reply) (now events) × (c ≤ lastDomain) ×
+        (length (now s) ≤ longestPayload) × ((type : ℕ) × Stated (now s) type tx a) ⌝ }
+    ensures { λ r. ⌜ ((type : ℕ) → Stated (now (s .entry)) type tx a → (w : World) → w .nodes ≡ tableOf (now (nodes .entry)) →
+        w .copies ≡ chunks mostTransactions tableSize (now (copies .entry)) → w .watches ≡ watchesOf (now (watches .entry)) →
+        w .transactions ≡ transactionsOf (now (transactions .entry)) →
+        Handled (outcomeOf w c tx (P.parse c type tx (now (s .entry))))
+        (leaves.tables (now (nodes .exit)) (now (copies .exit)) (itsWatches w) (now (transactions .exit)) (itsDomains w)) (now (reply .entry))
+        (now (reply .exit)) (now (events .entry)) (now (events .exit)) r) ⌝ }
 {
     let path = a.path;
     let form = path.form;

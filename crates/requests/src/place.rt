@@ -103,9 +103,13 @@ pub fn watch_place(
     reply: &mut [u8],
     events: &mut [u8],
 ) -> Outcome
-    requires { ⌜ KeptWatches (now watches) × (c < 65536) × WatchSound (now s) path start end depth × (length (now s) ≤ longestPayload) × (length (now reply) ≡ replySize) × (length (now events) ≡ eventsSize) ⌝ }
+    requires { ⌜ KeptWatches (now watches) × (c < 65536) × WatchSound (now s) path start end depth × (length (now s) ≤ longestPayload) ×
+        (length (now reply) ≡ replySize) × (length (now events) ≡ eventsSize) ⌝ }
     ensures { λ r. ⌜ ((w : World) → w .watches ≡ watchesOf (now (watches .entry)) →
-        Handled (forPlace w c (placeAt c (now (s .entry)) path) (watching w c (placeAt c (now (s .entry)) path) (part start end (now (s .entry))) (payload.depthMeant depth))) (leaves.tables (itsNodes w) (itsCopies w) (now (watches .exit)) (itsTransactions w) (itsDomains w)) (now (reply .entry)) (now (reply .exit)) (now (events .entry)) (now (events .exit)) r) ⌝ }
+        Handled (forPlace w c (placeAt c (now (s .entry)) path)
+        (watching w c (placeAt c (now (s .entry)) path) (part start end (now (s .entry))) (payload.depthMeant depth)))
+        (leaves.tables (itsNodes w) (itsCopies w) (now (watches .exit)) (itsTransactions w) (itsDomains w)) (now (reply .entry)) (now (reply .exit))
+        (now (events .entry)) (now (events .exit)) r) ⌝ }
 {
     let form = path.form;
     let special = is_special(form);
@@ -138,9 +142,12 @@ pub fn unwatch_place(
     end: usize,
     reply: &mut [u8],
 ) -> Outcome
-    requires { ⌜ KeptWatches (now watches) × WatchSound (now s) path start end Depth.None × (length (now s) ≤ longestPayload) × (length (now reply) ≡ replySize) ⌝ }
+    requires { ⌜ KeptWatches (now watches) × WatchSound (now s) path start end Depth.None × (length (now s) ≤ longestPayload) ×
+        (length (now reply) ≡ replySize) ⌝ }
     ensures { λ r. ⌜ ((w : World) → w .watches ≡ watchesOf (now (watches .entry)) → (events : Octets) →
-        Handled (forPlace w c (placeAt c (now (s .entry)) path) (unwatching w c (placeAt c (now (s .entry)) path) (part start end (now (s .entry))))) (leaves.tables (itsNodes w) (itsCopies w) (now (watches .exit)) (itsTransactions w) (itsDomains w)) (now (reply .entry)) (now (reply .exit)) events events r) ⌝ }
+        Handled (forPlace w c (placeAt c (now (s .entry)) path) (unwatching w c (placeAt c (now (s .entry)) path) (part start end (now (s .entry)))))
+        (leaves.tables (itsNodes w) (itsCopies w) (now (watches .exit)) (itsTransactions w) (itsDomains w)) (now (reply .entry))
+        (now (reply .exit)) events events r) ⌝ }
 {
     let form = path.form;
     if is_foreign(is_special(form), c) {

@@ -98,7 +98,8 @@ fn entry_number(t: &[u8], i: usize, k: usize) -> u32
 // The 18 bits of entry k of `count` that are given, 0 where it is none of them.
 fn given_number(access: &[u32], domain: &[u32], count: usize, k: usize) -> u32
     requires { ⌜ Given count (now access) (now domain) × (k < mostEntries) ⌝ }
-    ensures { λ r. ⌜ (r ≡ entryNumber (entryIn (now (access .entry)) (now (domain .entry)) 0 ∷ othersIn count (now (access .entry)) (now (domain .entry))) k) × (r < 262144) ⌝ }
+    ensures { λ r. ⌜ (r ≡ entryNumber (entryIn (now (access .entry)) (now (domain .entry)) 0 ∷ othersIn count (now (access .entry)) (now (domain .entry)))
+        k) × (r < 262144) ⌝ }
 {
     if k < count {
         return access[k] * 65536 + domain[k];
@@ -120,7 +121,8 @@ fn inherited(number: u32, domain: u32) -> u32
 // Puts the entries of `parent` into slot i, with the domain as owner unless it is 0.
 fn put_heirs(t: &mut [u8], i: usize, parent: usize, domain: u32)
     requires { ⌜ (i < slots) × (parent < slots) × Canonical (now t) × (isUsed (slotAt (now t) parent) ≡ true) × (domain < 65536) ⌝ }
-    ensures { λ _. ⌜ now (t .exit) ≡ paste (i * slotSize + fieldsSize) (entriesBytes (heir domain (nodeAt (tableOf (now (t .entry))) parent .owner)) (nodeAt (tableOf (now (t .entry))) parent .others)) (now (t .entry)) ⌝ }
+    ensures { λ _. ⌜ now (t .exit) ≡ paste (i * slotSize + fieldsSize)
+        (entriesBytes (heir domain (nodeAt (tableOf (now (t .entry))) parent .owner)) (nodeAt (tableOf (now (t .entry))) parent .others)) (now (t .entry)) ⌝ }
 {
     let a = inherited(entry_number(t, parent, 0), domain);
     let b = entry_number(t, parent, 1);
@@ -132,7 +134,8 @@ fn put_heirs(t: &mut [u8], i: usize, parent: usize, domain: u32)
 // Puts given entries.
 fn put_given(t: &mut [u8], at: usize, count: usize, access: &[u32], domain: &[u32])
     requires { ⌜ (at + entriesSize ≤ length (now t)) × Given count (now access) (now domain) ⌝ }
-    ensures { λ _. ⌜ now (t .exit) ≡ paste at (entriesBytes (entryIn (now (access .entry)) (now (domain .entry)) 0) (othersIn count (now (access .entry)) (now (domain .entry)))) (now (t .entry)) ⌝ }
+    ensures { λ _. ⌜ now (t .exit) ≡ paste at (entriesBytes (entryIn (now (access .entry)) (now (domain .entry)) 0)
+        (othersIn count (now (access .entry)) (now (domain .entry)))) (now (t .entry)) ⌝ }
 {
     let a = given_number(access, domain, count, 0);
     let b = given_number(access, domain, count, 1);
@@ -144,7 +147,8 @@ fn put_given(t: &mut [u8], at: usize, count: usize, access: &[u32], domain: &[u3
 // Gives slot i other permission entries: the first `count` of two arrays, the owner's first.
 pub fn put_entries(t: &mut [u8], i: usize, count: usize, access: &[u32], domain: &[u32])
     requires { ⌜ (i < slots) × Canonical (now t) × (isUsed (slotAt (now t) i) ≡ true) × Given count (now access) (now domain) ⌝ }
-    ensures { λ _. ⌜ now (t .exit) ≡ tableBytes (withEntries (tableOf (now (t .entry))) i (entryIn (now (access .entry)) (now (domain .entry)) 0) (othersIn count (now (access .entry)) (now (domain .entry)))) ⌝ }
+    ensures { λ _. ⌜ now (t .exit) ≡ tableBytes (withEntries (tableOf (now (t .entry))) i (entryIn (now (access .entry)) (now (domain .entry)) 0)
+        (othersIn count (now (access .entry)) (now (domain .entry)))) ⌝ }
 {
     let above = parent(t, i);
     let name = name_length(t, i);
@@ -156,8 +160,10 @@ pub fn put_entries(t: &mut [u8], i: usize, count: usize, access: &[u32], domain:
 
 // Puts a new node into slot i, a child of slot `parent`: its parent's entries, with the domain as owner unless it is 0.
 pub fn put_node(t: &mut [u8], i: usize, parent: usize, name: &[u8], value: &[u8], domain: u32)
-    requires { ⌜ (i < slots) × (parent < slots) × Canonical (now t) × (isUsed (slotAt (now t) parent) ≡ true) × Room (length (now name)) (length (now value)) domain ⌝ }
-    ensures { λ _. ⌜ now (t .exit) ≡ tableBytes (set (tableOf (now (t .entry))) i (some (newNode domain (tableOf (now (t .entry))) parent (now (name .entry)) (now (value .entry))))) ⌝ }
+    requires { ⌜ (i < slots) × (parent < slots) × Canonical (now t) × (isUsed (slotAt (now t) parent) ≡ true) ×
+        Room (length (now name)) (length (now value)) domain ⌝ }
+    ensures { λ _. ⌜ now (t .exit) ≡ tableBytes (set (tableOf (now (t .entry))) i
+        (some (newNode domain (tableOf (now (t .entry))) parent (now (name .entry)) (now (value .entry))))) ⌝ }
 {
     let entries = entry_count(t, parent);
     let at = i * SLOT_SIZE;

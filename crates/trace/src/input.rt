@@ -13,6 +13,8 @@ const MESSAGE_AT: usize = 2;
 
 pub const HEAD_SIZE: usize = MESSAGE_AT + HEADER_SIZE;
 
+const LENGTH_AT: usize = MESSAGE_AT + LEN_AT;
+
 pub const INPUT_SIZE: usize = HEAD_SIZE + LONGEST_PAYLOAD;
 
 const MOST_PAYLOAD: u32 = LONGEST_PAYLOAD as u32;
@@ -45,7 +47,7 @@ fn fill(buf: &mut [u8]) -> bool {
 
 // Whether the message's len is above 4,096.
 pub fn is_oversize(input: &[u8; INPUT_SIZE]) -> bool {
-    MOST_PAYLOAD < number32(input, MESSAGE_AT + LEN_AT)
+    MOST_PAYLOAD < number32(input, LENGTH_AT)
 }
 
 pub fn sender(high: u8, low: u8) -> u32 {
@@ -61,7 +63,7 @@ pub fn read_message(input: &mut [u8]) -> usize
     if !fill(&mut input[..HEAD_SIZE]) {
         return 0;
     }
-    let len = number32(input, MESSAGE_AT + LEN_AT);
+    let len = number32(input, LENGTH_AT);
     if MOST_PAYLOAD < len {
         return HEAD_SIZE;
     }

@@ -14,13 +14,13 @@ use Rattle.rules.specs.Size.{transactionsSize}
 use Rattle.rules.specs.Octets.{Octets, same}
 use Rattle.rules.specs.Path.{domainOf, fits, pathText, namesIn, isFull}
 use Rattle.rules.specs.Answer.{Change}
-use Rattle.rules.specs.Layout.{Domains, Transaction, Transactions, transactionsBytes, transactionsOf}
+use Rattle.rules.specs.Layout.{opened, Domains, Transaction, Transactions, transactionsBytes, transactionsOf}
 use Rattle.rules.specs.Sound.{known, goodChange, goodChanges, goodTransactions, soundTransactions, soundTable}
 use Rattle.rules.proofs.Compare.{both-true, same-eq}
 use Rattle.rules.proofs.PathLaws.{text-full, text-names}
 use Rattle.rules.proofs.TransactionLayouts.{ChangeFits}
 use Rattle.domains.specs.Entry.{taken, entryOr}
-use Rattle.transactions.specs.Transaction.{KeptTransactions, opened, noChange}
+use Rattle.transactions.specs.Transaction.{KeptTransactions, noChange}
 use Rattle.transactions.specs.Checks.{goodOpen, allOpenGood, soundEntries, soundCopies}
 use Rattle.domains.proofs.Search.{free-none, taken-some}
 

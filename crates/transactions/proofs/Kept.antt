@@ -13,7 +13,7 @@ use borrow.Author.Tests.{le-leb, lt-leb}
 use Rattle.rules.specs.Size.{mostTransactions, changesAt, transactionSize, transactionsSize, mostChanges, changeSize, changesSize}
 use Rattle.rules.specs.Octets.{Octets, same, allZero, padded, chunks, field, bitsAt, bit}
 use Rattle.rules.specs.Answer.{Change}
-use Rattle.rules.specs.Layout.{Transaction, changeBytes, changeIn, transactionBytes, transactionIn, transactionAt, transactionsBytes, transactionsOf}
+use Rattle.rules.specs.Layout.{opened, Transaction, changeBytes, changeIn, transactionBytes, transactionIn, transactionAt, transactionsBytes, transactionsOf}
 use Rattle.rules.proofs.Compare.{same-eq, eq-same}
 use Rattle.rules.proofs.Places.{is-false}
 use Rattle.rules.proofs.Fields.{field-three, bit-small}
@@ -22,7 +22,6 @@ use Rattle.rules.proofs.TransactionLayouts.{TransactionFits, transaction-at}
 use Rattle.octets.specs.Two.{Bytes}
 use Rattle.domains.specs.Kept.{keptAt}
 use Rattle.octets.specs.Numbers.{restZero}
-use Rattle.transactions.specs.Transaction.{opened}
 use Rattle.transactions.specs.Checks.{changesKept}
 use Rattle.domains.proofs.Search.{free-none, taken-some}
 use Rattle.rules.proofs.Reencoding.{same-zeros, same-append}

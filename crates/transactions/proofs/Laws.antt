@@ -12,14 +12,14 @@ use lib.Dec.{eqb, leb, lit<, lit≤}
 use borrow.Author.Tests.{eq-eqb, ne-eqb, leb-true, leb-false}
 use Rattle.rules.specs.Size.{mostTransactions, changesAt, transactionSize, transactionsSize, mostChanges, changesSize}
 use Rattle.rules.specs.Octets.{Octets, field, bitsAt, bigEndian, bit, padded, pack, packFrom, _bits_}
-use Rattle.rules.specs.Layout.{Transaction, changeBytes, transactionBytes, transactionIn, transactionAt, transactionsOf}
+use Rattle.rules.specs.Layout.{opened, Transaction, changeBytes, transactionBytes, transactionIn, transactionAt, transactionsOf}
 use Rattle.rules.proofs.Fields.{field-part, field-three, bit-small, bit-back}
 use Rattle.rules.proofs.Cases.{cond-case}
 use Rattle.rules.proofs.DecodedEntries.{transaction-decoded}
 use Rattle.rules.proofs.TransactionLayouts.{TransactionFits, MaybeTransaction, transaction-width, transaction-at}
 use Rattle.domains.specs.Entry.{taken, entryOr}
 use Rattle.octets.specs.Two.{Bytes, Two}
-use Rattle.transactions.specs.Transaction.{KeptTransactions, opened, transactionOf}
+use Rattle.transactions.specs.Transaction.{KeptTransactions, transactionOf}
 use Rattle.domains.proofs.Tests.{agree, taken-cond, entry-cond}
 use Rattle.domains.proofs.Search.{taken-some}
 use Rattle.domains.proofs.Rows.{length-table, listed-from, place-bytes}

@@ -12,7 +12,7 @@ use lib.Seq.{set-getD}
 use Rattle.rules.specs.Size.{mostTransactions, changesAt, transactionSize, changesSize}
 use Rattle.rules.specs.Octets.{Octets, paste, padded}
 use Rattle.rules.specs.Entries.{without}
-use Rattle.rules.specs.Layout.{Transaction, Transactions, changeBytes, transactionBytes, transactionIn, transactionsBytes, transactionsOf}
+use Rattle.rules.specs.Layout.{opened, Transaction, Transactions, changeBytes, transactionBytes, transactionIn, transactionsBytes, transactionsOf}
 use Rattle.rules.specs.World.{staled}
 use Rattle.rules.proofs.Paste.{paste-sets, paste-append, length-paste}
 use Rattle.rules.proofs.Tables.{each-at}
@@ -20,7 +20,7 @@ use Rattle.rules.proofs.DecodedEntries.{decoded-transactions-fit}
 use Rattle.rules.proofs.TransactionLayouts.{TransactionFits, MaybeTransaction, transaction-width, transaction-read}
 use Rattle.rules.proofs.Joined.{set-paste}
 use Rattle.domains.specs.Entry.{taken, passes, droppedIf}
-use Rattle.transactions.specs.Transaction.{KeptTransactions, opened, transactionOf, staleOf}
+use Rattle.transactions.specs.Transaction.{KeptTransactions, transactionOf, staleOf}
 use Rattle.domains.proofs.Search.{free-none, taken-some, swept, swept-all}
 use Rattle.domains.proofs.Rows.{Writable, wrote, wrote-kept, swept-kept, freed, left, dropped-kept, without-kept}
 use Rattle.transactions.proofs.Parts.{paste-row}
@@ -50,11 +50,10 @@ stale-bytes x f b e =
     ∙ sym (transaction-parts (record { holder = x .holder; stale = true; changes = x .changes }) (f .holder) (f .few))
 
 opened-fits : (o : ℕ) → o < 65536 → MaybeTransaction (some (opened o))
-unfolding opened
 opened-fits o h = record { holder = h; few = lit≤ tt; changes = tt }
 
 opened-bytes : (o : ℕ) → o < 65536 → transactionBytes (some (opened o)) ≡ (128 ∷ (o / 256 % 256) ∷ (o % 256) ∷ []) ++ replicate changesSize 0
-unfolding opened padded flatMap
+unfolding padded flatMap
 opened-bytes o h = transaction-parts (opened o) h (lit≤ tt)
 
 staled-map : (xs : Transactions) → map staleOf xs ≡ staled xs

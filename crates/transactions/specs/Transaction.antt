@@ -10,17 +10,13 @@ use Rattle.rules.specs.Size.{mostTransactions, transactionSize, mostChanges, lo
 use Rattle.rules.specs.Octets.{Octets}
 use Rattle.rules.specs.Path.{Connection, isFull, namesIn}
 use Rattle.rules.specs.Answer.{Change}
-use Rattle.rules.specs.Layout.{Transaction, transactionBytes, transactionIn, transactionsOf}
+use Rattle.rules.specs.Layout.{Transaction, opened, transactionBytes, transactionIn, transactionsOf}
 use Rattle.domains.specs.Entry.{taken, entryOr}
 use Rattle.domains.specs.Kept.{Kept}
 
 -- bytes that re-encode to themselves
 abbrev pub KeptTransactions : Octets → Type 0
 KeptTransactions = Kept mostTransactions transactionSize transactionBytes transactionIn
-
--- a transaction as it starts
-unfoldable pub opened : Connection → Transaction
-opened c = record { holder = c; stale = false; changes = [] }
 
 -- the transaction in place k
 abbrev pub transactionOf : Octets → ℕ → Transaction

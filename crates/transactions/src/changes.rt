@@ -7,11 +7,11 @@ ghost use lib.Dec.{eqb};
 ghost use lib.ListN.{length, getD, set};
 ghost use Rattle.rules.specs.Size.{mostTransactions, changeSize, longestPath};
 ghost use Rattle.rules.specs.Octets.{paste, bit};
-ghost use Rattle.rules.specs.Layout.{changeBytes, transactionsBytes, transactionsOf};
+ghost use Rattle.rules.specs.Layout.{opened, changeBytes, transactionsBytes, transactionsOf};
 ghost use Rattle.rules.specs.Path.{isFull};
 ghost use Rattle.rules.specs.World.{staled, withoutTransactions};
 ghost use Rattle.domains.specs.Entry.{droppedIf};
-ghost use Rattle.transactions.specs.Transaction.{KeptTransactions, opened, transactionOf, heldBy, staleOf, changeGiven, changedBy, Room};
+ghost use Rattle.transactions.specs.Transaction.{KeptTransactions, transactionOf, heldBy, staleOf, changeGiven, changedBy, Room};
 use crate::places::changes;
 use crate::places::held;
 use crate::places::is_open;
@@ -69,7 +69,8 @@ fn put_change(s: &mut [u8], at: usize, removed: bool, path: &[u8])
 // Adds a change to the transaction in place k.
 pub fn add_change(s: &mut [u8], k: usize, removed: bool, path: &[u8])
     requires { ⌜ Room (now s) k (now path) ⌝ }
-    ensures { λ _. ⌜ now (s .exit) ≡ transactionsBytes (set (transactionsOf (now (s .entry))) k (some (changedBy (transactionOf (now (s .entry)) k) removed (now (path .entry))))) ⌝ }
+    ensures { λ _. ⌜ now (s .exit) ≡ transactionsBytes
+        (set (transactionsOf (now (s .entry))) k (some (changedBy (transactionOf (now (s .entry)) k) removed (now (path .entry))))) ⌝ }
 {
     let at = k * TRANSACTION_SIZE;
     let first = s[at];
@@ -104,7 +105,8 @@ pub fn stale_all(s: &mut [u8])
 // Closes place k, if it has a transaction of connection c.
 fn close_held(s: &mut [u8], k: usize, c: u32)
     requires { ⌜ (k < mostTransactions) × KeptTransactions (now s) ⌝ }
-    ensures { λ _. ⌜ now (s .exit) ≡ transactionsBytes (set (transactionsOf (now (s .entry))) k (droppedIf (heldBy c) (getD (transactionsOf (now (s .entry))) k none))) ⌝ }
+    ensures { λ _. ⌜ now (s .exit) ≡ transactionsBytes
+        (set (transactionsOf (now (s .entry))) k (droppedIf (heldBy c) (getD (transactionsOf (now (s .entry))) k none))) ⌝ }
 {
     if held(s, k, c) {
         clear(s, k * TRANSACTION_SIZE, TRANSACTION_SIZE);

@@ -48,7 +48,8 @@ fn levels(depth: Depth) -> u8
 // Puts the fields of a watch into the six bytes from `at` on.
 fn put_fields(s: &mut [u8], at: usize, first: u8, depth: u8, c: u32, path: usize, token: usize)
     requires { ⌜ (at + watchFieldsSize ≤ length (now s)) × (token ≤ longestToken) ⌝ }
-    ensures { λ _. ⌜ now (s .exit) ≡ paste at (first ∷ depth ∷ (c / 256 % 256) ∷ (c % 256) ∷ (path / 2 % 256) ∷ (path % 2 * 128 + token) ∷ []) (now (s .entry)) ⌝ }
+    ensures { λ _. ⌜ now (s .exit) ≡ paste at (first ∷ depth ∷ (c / 256 % 256) ∷ (c % 256) ∷ (path / 2 % 256) ∷ (path % 2 * 128 + token) ∷ [])
+        (now (s .entry)) ⌝ }
 {
     s[at] = first;
     s[at + 1] = depth;
@@ -61,7 +62,8 @@ fn put_fields(s: &mut [u8], at: usize, first: u8, depth: u8, c: u32, path: usize
 // Puts a watch into place k.
 pub fn add(s: &mut [u8], k: usize, c: u32, path: &[u8], relative: bool, depth: Depth, token: &[u8])
     requires { ⌜ (k < mostWatches) × KeptWatches (now s) × FitWatch c (now path) relative (now token) ⌝ }
-    ensures { λ _. ⌜ now (s .exit) ≡ watchesBytes (set (watchesOf (now (s .entry))) k (some (watchGiven c (now (path .entry)) relative depth (now (token .entry))))) ⌝ }
+    ensures { λ _. ⌜ now (s .exit) ≡ watchesBytes
+        (set (watchesOf (now (s .entry))) k (some (watchGiven c (now (path .entry)) relative depth (now (token .entry))))) ⌝ }
 {
     let at = k * WATCH_SIZE;
     put_text(s, at + TOKEN_AT, token, LONGEST_TOKEN);
@@ -80,7 +82,8 @@ pub fn add(s: &mut [u8], k: usize, c: u32, path: &[u8], relative: bool, depth: D
 // Frees place k, if it has the watch of connection c with a path and a token.
 fn free_twin(s: &mut [u8], k: usize, c: u32, p: &[u8], t: &[u8])
     requires { ⌜ (k < mostWatches) × KeptWatches (now s) ⌝ }
-    ensures { λ _. ⌜ now (s .exit) ≡ watchesBytes (set (watchesOf (now (s .entry))) k (droppedIf (twin c (now (p .entry)) (now (t .entry))) (getD (watchesOf (now (s .entry))) k none))) ⌝ }
+    ensures { λ _. ⌜ now (s .exit) ≡ watchesBytes
+        (set (watchesOf (now (s .entry))) k (droppedIf (twin c (now (p .entry)) (now (t .entry))) (getD (watchesOf (now (s .entry))) k none))) ⌝ }
 {
     if is_twin(s, k, c, p, t) {
         clear(s, k * WATCH_SIZE, WATCH_SIZE);

@@ -182,7 +182,8 @@ fn good_place(c: u32, depth: Depth, relative: bool, x: &[u8]) -> bool
 // Whether place k is free, or has a good watch that no later place has too.
 fn place_good(s: &[u8], domains: &[u8], k: usize) -> bool
     requires { ⌜ (k < mostWatches) × KeptWatches (now s) × (length (now domains) ≡ domainsSize) ⌝ }
-    ensures { λ r. ⌜ r ≡ goodWatchAt (domainsOf (now (domains .entry))) (getD (watchesOf (now (s .entry))) k none) (drop (k + 1) (watchesOf (now (s .entry)))) ⌝ }
+    ensures { λ r. ⌜ r ≡ goodWatchAt (domainsOf (now (domains .entry))) (getD (watchesOf (now (s .entry))) k none)
+        (drop (k + 1) (watchesOf (now (s .entry)))) ⌝ }
 {
     if !used(s, k) {
         return true;

@@ -1,7 +1,8 @@
 use mathlib.Core.Path.{sym, ap, _∙_}
 use lib.Dec.{eqb}
 use borrow.Author.Tests.{not-true, not-false}
-use Rattle.transactions.specs.Transaction.{heldBy, opened}
+use Rattle.rules.specs.Layout.{opened}
+use Rattle.transactions.specs.Transaction.{heldBy}
 use Rattle.domains.proofs.Search.{passes-free, passes-taken}
 use Rattle.transactions.proofs.places.held.Statement.{statement}
 use Rattle.transactions.proofs.places.held.Tie as tie

@@ -6,8 +6,7 @@ use lib.ListN.{drop}
 use borrow.Author.Tests.{not-true, not-false}
 use Rattle.rules.specs.Size.{mostTransactions}
 use Rattle.rules.specs.Entries.{lowest}
-use Rattle.rules.specs.Layout.{transactionsOf}
-use Rattle.transactions.specs.Transaction.{opened}
+use Rattle.rules.specs.Layout.{opened, transactionsOf}
 use Rattle.domains.proofs.Search.{lowest-here, lowest-further, lowest-over}
 use Rattle.transactions.proofs.Laws.{length-transactionsOf}
 use Rattle.transactions.proofs.places.lowest_free.Statement.{statement}

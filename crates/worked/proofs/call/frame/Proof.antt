@@ -3,6 +3,7 @@ use Prim.Native.Nat.{ℕ, _+_, _≤_, _-_}
 use native.Mathlib.Omega.{arith}
 use lib.ListN.{length}
 use lib.Seq.{length-take-le}
+use Rattle.rules.specs.Size.{replySize}
 use Rattle.rules.specs.Octets.{Octets}
 use Rattle.io.specs.Counts.{Counts}
 use borrow.Author.Needs.{needs}
