@@ -22,10 +22,12 @@ use Rattle.domains.specs.Entry.{taken, passes, entryOr, droppedIf}
 use Rattle.octets.specs.Two.{Bytes, Two}
 use Rattle.domains.specs.Kept.{keptAt, KeptDomains}
 use Rattle.domains.specs.Checks.{goodDomain}
-use Rattle.domains.proofs.Tests.{agree, taken-cond, entry-cond}
+use Rattle.domains.proofs.Tests.{taken-cond, entry-cond}
+use Rattle.octets.proofs.Bytes.{agree}
 use Rattle.domains.proofs.Search.{free-none, taken-some, goods-next, swept}
 use Rattle.rules.proofs.Reencoding.{same-zeros}
-use Rattle.domains.proofs.Rows.{length-table, same-first, listed-from, keptFrom, kept-start, kept-next, kept-end, Writable, wrote, freed, left, dropped-kept}
+use Rattle.domains.proofs.Rows.{length-table, same-first, listed-from, keptFrom, kept-start, kept-next, kept-end}
+use Rattle.domains.proofs.Rows.{Writable, wrote, freed, left, dropped-kept}
 
 pub domain-wide : (m : Option Domain) → length (domainBytes m) ≡ domainSize
 unfolding domainBytes

@@ -21,7 +21,7 @@ use Rattle.rules.specs.Entries.{without}
 use Rattle.rules.proofs.Reencoding.{same-zeros, same-append}
 use Rattle.domains.specs.Entry.{passes, droppedIf}
 use Rattle.domains.specs.Kept.{Kept, keptAt}
-use Rattle.domains.proofs.Tests.{agree}
+use Rattle.octets.proofs.Bytes.{agree}
 use Rattle.domains.proofs.Search.{dropped-is, dropped-not, swept, swept-next, without-map}
 
 pub eqb-swap : (x y : ℕ) → eqb x y ≡ eqb y x

@@ -1,13 +1,8 @@
 -- Tests of two things, and what a choice between an entry and none says.
-use mathlib.Core.Path.{_≡_, refl, sym}
+use mathlib.Core.Path.{_≡_, refl}
 use mathlib.Core.Bool.{Bool, true, false, cond, _&&_}
 use mathlib.Core.Option.{none, some}
 use Rattle.domains.specs.Entry.{taken, entryOr}
-
--- two tests agree where each of the first one's answers decides the second's
-pub agree : {x y : Bool} → (x ≡ true → y ≡ true) → (x ≡ false → y ≡ false) → x ≡ y
-agree {x = true} p q = sym (p refl)
-agree {x = false} p q = sym (q refl)
 
 pub taken-cond : {A : Type 0} (b : Bool) (x : A) → taken (cond b (some x) none) ≡ b
 unfolding taken

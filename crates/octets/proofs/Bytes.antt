@@ -1,5 +1,6 @@
--- Bytes: the numbers of a slice are, and numbers made of them give them back.
-use mathlib.Core.Path.{_≡_, refl}
+-- The numbers of a slice are bytes, numbers made of bytes give them back, and when two tests of them agree.
+use mathlib.Core.Path.{_≡_, refl, sym}
+use mathlib.Core.Bool.{Bool, true, false}
 use Prim.Native.Nat.{ℕ, zero, suc, _+_, _*_, _/_, _%_, _<_}
 use native.Mathlib.Omega.{arith}
 use lib.Dec.{eqb}
@@ -19,3 +20,8 @@ bit-of (suc (suc x)) h = absurd (omega arith)
 
 pub pair-forward : (x y : ℕ) → x < 256 → y < 256 → ((x * 256 + y) / 256 % 256 ≡ x) × ((x * 256 + y) % 256 ≡ y)
 pair-forward x y hx hy = (omega arith, omega arith)
+
+-- two tests agree where each of the first one's answers decides the second's
+pub agree : {x y : Bool} → (x ≡ true → y ≡ true) → (x ≡ false → y ≡ false) → x ≡ y
+agree {x = true} p q = sym (p refl)
+agree {x = false} p q = sym (q refl)

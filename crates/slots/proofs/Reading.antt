@@ -9,19 +9,15 @@ use lib.ListN.{length, getD, take, drop}
 use lib.Dec.{eqb, leb}
 use borrow.Author.Tests.{eq-eqb, ne-eqb, leb-true, leb-false}
 use lib.Seq.{drop-drop, take-take}
-use mir.Val.{Fits}
-use mir.Syntax.{w8}
 use Rattle.rules.specs.Size.{slots, slotSize, tableSize, nameAt, valueAt, longestName, longestValue, fieldsSize, entriesSize}
 use Rattle.rules.specs.Octets.{Octets, field, bitsAt}
 use Rattle.rules.specs.Node.{Node, Table, root, nodeAt}
 use Rattle.rules.specs.Layout.{tableOf, slotOf, nodeOf, textAt, entryAt}
 use Rattle.rules.proofs.Fields.{field-part, field-three, field-split, field-bound, take-drop-take}
 use Rattle.rules.proofs.Slots.{slot-at}
-use Rattle.slots.specs.Slot.{Bytes, slotAt, isUsed, head, nameLength, valueLength, entryCount, entryOf}
-
--- what is known of a slice of bytes
-pub known : (t : Octets) → ((k : ℕ) → Fits w8 (getD t k 0)) → Bytes t
-known t f k = omega (arith, f k)
+use Rattle.octets.specs.Two.{Bytes}
+use Rattle.octets.proofs.Bytes.{agree}
+use Rattle.slots.specs.Slot.{slotAt, isUsed, head, nameLength, valueLength, entryCount, entryOf}
 
 -- the bytes of slot i
 abbrev pub chunk : Octets → ℕ → Octets
@@ -48,11 +44,6 @@ is-used false n = refl
 pub node-some : (ts : Table) (i : ℕ) (n : Node) → getD ts i none ≡ some n → nodeAt ts i ≡ n
 unfolding nodeAt
 node-some ts i n e = ap (λ (o : Option Node). elim o as (λ (x : Option Node). Node) [ none ↦ root | some m ↦ m ]) e
-
--- two tests agree where each of the first one's answers decides the second's
-pub agree : {x y : Bool} → (x ≡ true → y ≡ true) → (x ≡ false → y ≡ false) → x ≡ y
-agree {x = true} p q = sym (p refl)
-agree {x = false} p q = sym (q refl)
 
 module _ (t : Octets) (i : ℕ) (h : i < slots) where
   pub used-slot : isUsed (slotAt t i) ≡ true → slotAt t i ≡ some (meant t i)

@@ -2,16 +2,12 @@
 use mathlib.Core.Path.{_≡_}
 use mathlib.Core.Bool.{Bool, true, false}
 use mathlib.Core.Option.{Option, none, some}
-use Prim.Native.Nat.{ℕ, _+_, _*_, _-_, _<_}
+use Prim.Native.Nat.{ℕ, _+_, _*_, _-_}
 use lib.ListN.{length, getD}
 use Rattle.rules.specs.Size.{slotSize, fieldsSize, entriesSize, tableSize, mostEntries}
 use Rattle.rules.specs.Octets.{Octets, field, bitsAt}
 use Rattle.rules.specs.Node.{Entry, Node}
 use Rattle.rules.specs.Layout.{tableOf, tableBytes, entryAt}
-
--- the numbers of a slice are bytes
-abbrev pub Bytes : Octets → Type 0
-Bytes t = (k : ℕ) → getD t k 0 < 256
 
 -- slot i of a table's bytes
 abbrev pub slotAt : Octets → ℕ → Option Node

@@ -7,7 +7,8 @@ ghost use Rattle.rules.specs.Size.{slots, tableSize, longestName, longestValue,
 ghost use Rattle.rules.specs.Octets.{field};
 ghost use Rattle.rules.specs.Layout.{tableOf};
 ghost use Rattle.rules.specs.Node.{nodeAt};
-ghost use Rattle.slots.specs.Slot.{Bytes, slotAt, isUsed, nameLength, valueLength, entryCount, entryOf};
+ghost use Rattle.octets.specs.Two.{Bytes};
+ghost use Rattle.slots.specs.Slot.{slotAt, isUsed, nameLength, valueLength, entryCount, entryOf};
 use octets::sizes::FIELDS_SIZE;
 use octets::sizes::NAME_AT;
 use octets::sizes::SLOT_SIZE;

@@ -20,7 +20,8 @@ use Rattle.rules.proofs.Fields.{length-big, take-drop-take, field-part, field-s
 use Rattle.rules.proofs.Slots.{NodeFits, head-bound, length-padded}
 use Rattle.rules.proofs.Fitting.{nodeAt-fits, decoded-fits}
 use Rattle.rules.proofs.Reencoding.{both-ways, same-append, same-padded, same-zeros, same-big, bytes-take}
-use Rattle.slots.specs.Slot.{Bytes, slotAt, isUsed, head, nameLength, valueLength, entryCount}
+use Rattle.octets.specs.Two.{Bytes}
+use Rattle.slots.specs.Slot.{slotAt, isUsed, head, nameLength, valueLength, entryCount}
 use Rattle.slots.proofs.Reading.{chunk, meant, head-bytes, used-slot, used-node, used-byte}
 use Rattle.soundness.specs.Parts.{fair, goodSlot, sized, keptEntries, lowDomains, zeroBehind, nameKept}
 use Rattle.soundness.proofs.Tests.{both}

@@ -21,7 +21,8 @@ use Rattle.rules.proofs.Compare.{both-true, same-eq, eq-same}
 use Rattle.rules.proofs.Slots.{length-tableOf}
 use Rattle.rules.proofs.Reencoding.{both-ways, slots-kept, kept-slot}
 use Rattle.rules.proofs.GoodTables.{node-at, at-node}
-use Rattle.slots.specs.Slot.{Bytes, slotAt, isUsed, nameLength, entryOf}
+use Rattle.octets.specs.Two.{Bytes}
+use Rattle.slots.specs.Slot.{slotAt, isUsed, nameLength, entryOf}
 use Rattle.slots.proofs.Reading.{node-some}
 use Rattle.slots.proofs.Canonical.{entry-is, used-some}
 use Rattle.soundness.specs.declared.answer.Walk.{Walk}

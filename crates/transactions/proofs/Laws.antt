@@ -20,7 +20,8 @@ use Rattle.rules.proofs.TransactionLayouts.{TransactionFits, MaybeTransaction, 
 use Rattle.domains.specs.Entry.{taken, entryOr}
 use Rattle.octets.specs.Two.{Bytes, Two}
 use Rattle.transactions.specs.Transaction.{KeptTransactions, transactionOf}
-use Rattle.domains.proofs.Tests.{agree, taken-cond, entry-cond}
+use Rattle.domains.proofs.Tests.{taken-cond, entry-cond}
+use Rattle.octets.proofs.Bytes.{agree}
 use Rattle.domains.proofs.Search.{taken-some}
 use Rattle.domains.proofs.Rows.{length-table, listed-from, place-bytes}
 

@@ -24,7 +24,8 @@ use Rattle.domains.specs.Entry.{taken, passes, entryOr}
 use Rattle.octets.specs.Two.{Bytes, Two}
 use Rattle.watches.specs.Watch.{KeptWatches, nobody, ownedBy, watchOf, pathLength, tokenLength}
 use Rattle.watches.specs.Checks.{depthSame, fieldsSame}
-use Rattle.domains.proofs.Tests.{agree, taken-cond, entry-cond}
+use Rattle.domains.proofs.Tests.{taken-cond, entry-cond}
+use Rattle.octets.proofs.Bytes.{agree}
 use Rattle.domains.proofs.Search.{taken-some}
 use Rattle.domains.proofs.Rows.{listed-from, partAt, text-part, place-bytes}
 use Rattle.watches.proofs.Bytes.{place-short, place-whole, marks-back, lengths-back, sixOf, watch-parts, read-narrow, watch-wide}

@@ -1,4 +1,5 @@
-use Rattle.slots.proofs.Reading.{known, entry-count-byte}
+use Rattle.octets.proofs.Bytes.{bytes-known}
+use Rattle.slots.proofs.Reading.{entry-count-byte}
 use borrow.Author.Needs.{needs}
 use Rattle.slots.proofs.fields.entry_count.Statement.{statement}
 use Rattle.slots.proofs.fields.entry_count.Tie as tie
@@ -16,7 +17,7 @@ cast-result : tie.Need-cast-result
 cast-result c = search needs
 
 returns : tie.Need-returns
-returns c = entry-count-byte (c .before .args .t .now) (known (c .before .args .t .now) (c .shared-slice-known .given)) (c .before .pre .1) _ (c .before .pre .0)
+returns c = entry-count-byte (c .before .args .t .now) (bytes-known (c .before .args .t .now) (c .shared-slice-known .given)) (c .before .pre .1) _ (c .before .pre .0)
 
 pub entry-count-spec : {M : Type 1} → statement M
 entry-count-spec =

@@ -1,6 +1,7 @@
 use Prim.Native.Nat.{_+_, _*_}
 use Rattle.rules.specs.Size.{slotSize}
-use Rattle.slots.proofs.Reading.{known, name-length-byte}
+use Rattle.octets.proofs.Bytes.{bytes-known}
+use Rattle.slots.proofs.Reading.{name-length-byte}
 use native.Mathlib.Omega.{arith}
 use borrow.Author.Needs.{needs}
 use Rattle.slots.proofs.fields.name_length.Statement.{statement}
@@ -19,7 +20,7 @@ cast-result : tie.Need-cast-result
 cast-result c = omega (arith, c .shared-slice-known .given (c .before .args .i * slotSize + 1))
 
 returns : tie.Need-returns
-returns c = name-length-byte (c .before .args .t .now) (known (c .before .args .t .now) (c .shared-slice-known .given)) (c .before .pre .1) _ (c .before .pre .0)
+returns c = name-length-byte (c .before .args .t .now) (bytes-known (c .before .args .t .now) (c .shared-slice-known .given)) (c .before .pre .1) _ (c .before .pre .0)
 
 pub name-length-spec : {M : Type 1} → statement M
 name-length-spec =

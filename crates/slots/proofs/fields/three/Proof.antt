@@ -1,5 +1,5 @@
-use Rattle.slots.specs.Slot.{Bytes}
-use Rattle.slots.proofs.Reading.{known}
+use Rattle.octets.specs.Two.{Bytes}
+use Rattle.octets.proofs.Bytes.{bytes-known}
 use Prim.Native.Nat.{_+_}
 use native.Mathlib.Omega.{arith}
 use Rattle.rules.proofs.Fields.{field-three}
@@ -47,7 +47,7 @@ returns : tie.Need-returns
 returns c =
     let b = c .before .before .before in
     let e = field-three (b .args .t .now) (b .args .at) (b .pre) in
-    let bytes : Bytes (b .args .t .now) = known (b .args .t .now) (c .shared-slice-known3 .given) in
+    let bytes : Bytes (b .args .t .now) = bytes-known (b .args .t .now) (c .shared-slice-known3 .given) in
     let high = bytes (b .args .at) in
     let middle = bytes (b .args .at + 1) in
     let low = bytes (b .args .at + 2) in

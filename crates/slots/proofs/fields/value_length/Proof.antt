@@ -1,6 +1,7 @@
 use Prim.Native.Nat.{_+_, _*_}
 use Rattle.rules.specs.Size.{slotSize}
-use Rattle.slots.proofs.Reading.{known, value-length-bytes}
+use Rattle.octets.proofs.Bytes.{bytes-known}
+use Rattle.slots.proofs.Reading.{value-length-bytes}
 use native.Mathlib.Omega.{arith}
 use borrow.Author.Needs.{needs}
 use Rattle.slots.proofs.fields.value_length.Statement.{statement}
@@ -37,7 +38,7 @@ add-result : tie.Need-add-result
 add-result c = omega (arith, c .shared-slice-known2 .given (c .before .before .args .i * slotSize + 2))
 
 returns : tie.Need-returns
-returns c = value-length-bytes (c .before .before .args .t .now) (known (c .before .before .args .t .now) (c .shared-slice-known2 .given)) (c .before .before .pre .1) _ (c .before .before .pre .0)
+returns c = value-length-bytes (c .before .before .args .t .now) (bytes-known (c .before .before .args .t .now) (c .shared-slice-known2 .given)) (c .before .before .pre .1) _ (c .before .before .pre .0)
 
 pub value-length-spec : {M : Type 1} → statement M
 value-length-spec =

@@ -2,7 +2,7 @@ use mathlib.Core.Path.{refl, _∙_}
 use Prim.Native.Nat.{_+_}
 use native.Mathlib.Omega.{arith}
 use borrow.Author.Tests.{eq-eqb, ne-eqb}
-use Rattle.slots.proofs.Reading.{known}
+use Rattle.octets.proofs.Bytes.{bytes-known}
 use Rattle.soundness.proofs.Tests.{stop, pass}
 use Rattle.soundness.proofs.LoneEntry.{entry-high, entry-bits, entry-rest}
 use borrow.Author.Needs.{needs}
@@ -49,13 +49,13 @@ returns : tie.Need-returns
 returns c =
     let b = c .before .before .before .before .before in
     let t = b .args .t .now in
-    entry-high t (known t (c .before .shared-slice-known4 .given)) (b .args .at) (b .pre) (c .if1 .taken)
+    entry-high t (bytes-known t (c .before .shared-slice-known4 .given)) (b .args .at) (b .pre) (c .if1 .taken)
 
 returns-2 : tie.Need-returns-2
 returns-2 c =
     let b = c .before .before .before .before .before .before in
     let t = b .args .t .now in
-    entry-bits t (known t (c .before .before .shared-slice-known4 .given)) (b .args .at) (b .pre) (c .if2 .taken)
+    entry-bits t (bytes-known t (c .before .before .shared-slice-known4 .given)) (b .args .at) (b .pre) (c .if2 .taken)
 
 add-four : tie.Need-add-four
 add-four c = search needs
@@ -68,7 +68,7 @@ returns-3 c =
     let b = c .before .before .before .before .before .before .before .before in
     let t = b .args .t .now in
     stop _ (ne-eqb _ 0 (c .if3 .taken))
-    ∙ entry-rest t (known t (c .before .before .before .before .shared-slice-known4 .given)) (b .args .at) (b .pre) _ (c .before .four .ensures .0) (c .before .before .before .if1 .left) (c .before .before .if2 .left)
+    ∙ entry-rest t (bytes-known t (c .before .before .before .before .shared-slice-known4 .given)) (b .args .at) (b .pre) _ (c .before .four .ensures .0) (c .before .before .before .if1 .left) (c .before .before .if2 .left)
 
 add-result : tie.Need-add-result
 add-result c = search needs
@@ -100,7 +100,7 @@ returns-4 c =
     let t = b .args .t .now in
     let f = c .before .before .before in
     pass (eq-eqb (f .four .result) 0 (c .before .before .if3 .left)) refl
-    ∙ entry-rest t (known t (c .shared-slice-known6 .given)) (b .args .at) (b .pre) _ (f .four .ensures .0) (f .before .before .if1 .left) (f .before .if2 .left)
+    ∙ entry-rest t (bytes-known t (c .shared-slice-known6 .given)) (b .args .at) (b .pre) _ (f .four .ensures .0) (f .before .before .if1 .left) (f .before .if2 .left)
 
 pub lone-entry-spec : {M : Type 1} → statement M
 lone-entry-spec =

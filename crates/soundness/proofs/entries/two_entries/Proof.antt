@@ -2,7 +2,7 @@ use mathlib.Core.Path.{ap, _∙_}
 use Prim.Native.Nat.{ℕ, _+_}
 use native.Mathlib.Omega.{arith}
 use lib.Dec.{eqb}
-use Rattle.slots.proofs.Reading.{known}
+use Rattle.octets.proofs.Bytes.{bytes-known}
 use Rattle.soundness.proofs.TwoEntries.{two-first, two-second, two-bits, two-rest}
 use borrow.Author.Needs.{needs}
 use Rattle.soundness.proofs.entries.two_entries.Statement.{statement}
@@ -74,7 +74,7 @@ returns : tie.Need-returns
 returns c =
     let b = c .before .before .before .before .before .before .before in
     let t = b .args .t .now in
-    two-first t (known t (c .before .shared-slice-known6 .given)) (b .args .at) (b .pre) (c .if1 .taken)
+    two-first t (bytes-known t (c .before .shared-slice-known6 .given)) (b .args .at) (b .pre) (c .if1 .taken)
 
 mul-if2 : tie.Need-mul-if2
 mul-if2 c = search needs
@@ -98,13 +98,13 @@ returns-2 : tie.Need-returns-2
 returns-2 c =
     let b = c .before .before .before .before .before .before .before .before in
     let t = b .args .t .now in
-    two-second t (known t (c .before .before .shared-slice-known6 .given)) (b .args .at) (b .pre) (c .if2 .taken)
+    two-second t (bytes-known t (c .before .before .shared-slice-known6 .given)) (b .args .at) (b .pre) (c .if2 .taken)
 
 returns-3 : tie.Need-returns-3
 returns-3 c =
     let b = c .before .before .before .before .before .before .before .before .before in
     let t = b .args .t .now in
-    two-bits t (known t (c .before .before .before .shared-slice-known6 .given)) (b .args .at) (b .pre) (c .if3 .taken)
+    two-bits t (bytes-known t (c .before .before .before .shared-slice-known6 .given)) (b .args .at) (b .pre) (c .if3 .taken)
 
 add-four : tie.Need-add-four
 add-four c = search needs
@@ -117,7 +117,7 @@ returns-4 c =
     let b = c .before .before .before .before .before .before .before .before .before .before in
     let t = b .args .t .now in
     ap (λ (n : ℕ). eqb n 0) (c .four .ensures .0)
-    ∙ two-rest t (known t (c .before .before .before .before .shared-slice-known6 .given)) (b .args .at) (b .pre) (c .before .before .before .if1 .left) (c .before .before .if2 .left) (c .before .if3 .left)
+    ∙ two-rest t (bytes-known t (c .before .before .before .before .shared-slice-known6 .given)) (b .args .at) (b .pre) (c .before .before .before .if1 .left) (c .before .before .if2 .left) (c .before .if3 .left)
 
 pub two-entries-spec : {M : Type 1} → statement M
 two-entries-spec =

@@ -1,5 +1,5 @@
 use mathlib.Core.Path.{sym, _∙_}
-use Rattle.slots.proofs.Reading.{known}
+use Rattle.octets.proofs.Bytes.{bytes-known}
 use Rattle.soundness.proofs.SlotLaws.{unused-root, unused-other}
 use borrow.Author.Needs.{needs}
 use Rattle.soundness.proofs.slot.good_slot.Statement.{statement}
@@ -18,7 +18,7 @@ returns-2 : tie.Need-returns-2
 returns-2 c =
     let k = c .before .before .before in
     let b = k .before in
-    unused-root (b .args .t .now) (known (b .args .t .now) (k .shared-slice-known .given)) (b .pre .1) (b .args .i) (b .pre .0) (sym (c .before .before .used .ensures) ∙ c .before .if1 .left) (c .if2 .taken)
+    unused-root (b .args .t .now) (bytes-known (b .args .t .now) (k .shared-slice-known .given)) (b .pre .1) (b .args .i) (b .pre .0) (sym (c .before .before .used .ensures) ∙ c .before .if1 .left) (c .if2 .taken)
 
 mul-from : tie.Need-mul-from
 mul-from c = search needs
@@ -42,7 +42,7 @@ returns-3 : tie.Need-returns-3
 returns-3 c =
     let k = c .before .before .before .before .before in
     let b = k .before in
-    unused-other (b .args .t .now) (known (b .args .t .now) (k .shared-slice-known .given)) (b .pre .1) (b .args .i) (b .pre .0) (sym (c .before .before .before .before .used .ensures) ∙ c .before .before .before .if1 .left) (c .before .before .if2 .left) (c .all-zero .ensures)
+    unused-other (b .args .t .now) (bytes-known (b .args .t .now) (k .shared-slice-known .given)) (b .pre .1) (b .args .i) (b .pre .0) (sym (c .before .before .before .before .used .ensures) ∙ c .before .before .before .if1 .left) (c .before .before .if2 .left) (c .all-zero .ensures)
 
 pub good-slot-spec : {M : Type 1} → statement M
 good-slot-spec =
