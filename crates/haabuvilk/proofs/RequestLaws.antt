@@ -22,9 +22,9 @@ use Rattle.rules.specs.World as W
 use Rattle.rules.specs.Call.{Verdict, handled, wrongSize, unsound, stranger, broken, overlong, noEvent, callNumber, isHandled, Tables, sizedTables, sound, worldOf, typeOf, txOf, lenOf, payloadOf, frameVerdict, requestVerdict, outcomeOf, outcome, turnedAway, delivered, requestBy, requestCall}
 use Rattle.rules.proofs.Compare.{both-true}
 use Rattle.rules.proofs.Fields.{length-big}
-use Rattle.nodes.specs.declared.kinds.Reply.{Reply}
-use Rattle.nodes.specs.declared.kinds.Reply.the-variants.{Done, Refused}
-use Rattle.nodes.proofs.Readings.{payload-fits}
+use Rattle.replies.specs.declared.kinds.Reply.{Reply}
+use Rattle.replies.specs.declared.kinds.Reply.the-variants.{Done, Refused}
+use Rattle.replies.proofs.Payloads.{payload-fits}
 use Rattle.replies.specs.Framed.{Told, Held, Framed}
 use Rattle.replies.specs.Handled.{Handled}
 use Rattle.replies.specs.declared.kinds.Outcome.{Outcome}

@@ -15,7 +15,7 @@ use Rattle.rules.specs.Sound.{known}
 use Rattle.rules.specs.World.{World, introducedText}
 use Rattle.rules.proofs.Joined.{paste-behind, set-paste}
 use Rattle.octets.specs.Numbers.{Put}
-use Rattle.nodes.specs.declared.kinds.Reply.the-variants.{Done}
+use Rattle.replies.specs.declared.kinds.Reply.the-variants.{Done}
 use Rattle.replies.specs.Framed.{Told}
 
 -- `T` or `F`, as the domains say

@@ -29,9 +29,9 @@ use Rattle.transactions.specs.Transaction.{transactionOf, changeGiven, changedB
 use Rattle.transactions.proofs.Written.{kept-transactions}
 use Rattle.nodes.specs.Answers.{effectMeant, Replies, Answers, Asks, AnsweredAs}
 use Rattle.nodes.specs.declared.kinds.Ask.{Ask}
-use Rattle.nodes.specs.declared.kinds.Errno.the-variants.{NoSpace}
-use Rattle.nodes.specs.declared.kinds.Reply.{Reply}
-use Rattle.nodes.specs.declared.kinds.Reply.the-variants.{Refused}
+use Rattle.replies.specs.declared.kinds.Errno.the-variants.{NoSpace}
+use Rattle.replies.specs.declared.kinds.Reply.{Reply}
+use Rattle.replies.specs.declared.kinds.Reply.the-variants.{Refused}
 use Rattle.nodes.specs.declared.kinds.Effect.{Effect}
 use Rattle.nodes.specs.declared.kinds.Effect.the-variants.{Nothing}
 use Rattle.nodes.specs.declared.kinds.Answer.{Answer}

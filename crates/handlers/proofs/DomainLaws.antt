@@ -18,7 +18,7 @@ use Rattle.rules.specs.Sound.{introduced}
 use Rattle.rules.specs.World as W
 use Rattle.rules.specs.World.{World, left, introducing, withDomains}
 use Rattle.rules.specs.Call.{Tables, tablesOf}
-use Rattle.nodes.specs.declared.kinds.Reply.{Reply}
+use Rattle.replies.specs.declared.kinds.Reply.{Reply}
 use Rattle.replies.specs.Framed.{Told}
 use Rattle.replies.specs.Handled.{Handled}
 use Rattle.replies.specs.declared.kinds.Outcome.{Outcome}

@@ -35,7 +35,7 @@ use Rattle.events.specs.Records as Events
 use Rattle.events.specs.Stores.{Stores, removalOf, eventName}
 use Rattle.events.proofs.ChangeLaws.{heard-few}
 use Rattle.events.proofs.RecordLaws.{recorded-more, recorded-length}
-use Rattle.nodes.specs.declared.kinds.Reply.{Reply}
+use Rattle.replies.specs.declared.kinds.Reply.{Reply}
 use Rattle.replies.specs.Framed.{Told}
 use Rattle.replies.specs.Handled.{Handled}
 use Rattle.replies.specs.declared.kinds.Outcome.{Outcome}

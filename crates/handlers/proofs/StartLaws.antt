@@ -19,7 +19,7 @@ use Rattle.rules.proofs.Tables.{length-chunks}
 use Rattle.rules.proofs.EntryLayouts.{whole, copy-written, rows-sized, rows-joined}
 use Rattle.octets.specs.Numbers.{Put}
 use Rattle.slots.specs.Slot.{Canonical}
-use Rattle.nodes.specs.declared.kinds.Reply.the-variants.{Done}
+use Rattle.replies.specs.declared.kinds.Reply.the-variants.{Done}
 use Rattle.replies.specs.Framed.{Told}
 use Rattle.handlers.proofs.AboutLaws.{number-ended}
 

@@ -12,10 +12,10 @@ use Rattle.rules.specs.World as W
 use Rattle.rules.specs.World.{World, left, to}
 use Rattle.rules.specs.Call.{Tables, tablesOf}
 use Rattle.rules.proofs.Paste.{paste-nil}
-use Rattle.nodes.specs.Answers.{errnoMeant}
-use Rattle.nodes.specs.declared.kinds.Errno.{Errno}
-use Rattle.nodes.specs.declared.kinds.Reply.{Reply}
-use Rattle.nodes.specs.declared.kinds.Reply.the-variants.{Refused}
+use Rattle.replies.specs.Meant.{errnoMeant}
+use Rattle.replies.specs.declared.kinds.Errno.{Errno}
+use Rattle.replies.specs.declared.kinds.Reply.{Reply}
+use Rattle.replies.specs.declared.kinds.Reply.the-variants.{Refused}
 use Rattle.replies.specs.Framed.{Told}
 use Rattle.replies.specs.Handled.{Handled}
 use Rattle.replies.specs.declared.kinds.Outcome.{Outcome}

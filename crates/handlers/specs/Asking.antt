@@ -24,7 +24,7 @@ use Rattle.events.specs.Records.{Mask}
 use Rattle.nodes.specs.Answers.{Askable, Asks}
 use Rattle.nodes.specs.declared.kinds.Ask.{Ask}
 use Rattle.nodes.specs.declared.kinds.Ask.the-variants.{Directory, Read, GetPerms, Write, Mkdir, Rm, SetPerms}
-use Rattle.nodes.specs.declared.kinds.Reply.{Reply}
+use Rattle.replies.specs.declared.kinds.Reply.{Reply}
 use Rattle.replies.specs.declared.kinds.Outcome.{Outcome}
 
 -- the bytes of copy k

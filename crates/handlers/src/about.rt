@@ -11,10 +11,10 @@ ghost use Rattle.rules.specs.Layout.{domainsOf};
 ghost use Rattle.rules.specs.World.{World, introducedText};
 ghost use Rattle.replies.specs.Framed.{Told};
 use domains::places::known;
-use nodes::kinds::Reply;
 use octets::parts::copy;
 use octets::sizes::HEADER_SIZE;
 use octets::written::put_decimal;
+use replies::kinds::Reply;
 
 // Where a domain's id stands in its base's path.
 const ID_AT: usize = 14;

@@ -2,4 +2,3 @@ pub mod Outcomes
 pub mod LookingLaws
 pub mod RoomLaws
 pub mod ChangingLaws
-pub mod Readings

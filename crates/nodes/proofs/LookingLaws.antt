@@ -14,10 +14,11 @@ use Rattle.rules.specs.Answer.{done, refused, E2BIG, listed, listing, nameList,
 use Rattle.rules.specs.Layout.{tableOf}
 use Rattle.slots.proofs.Canonical.{sound-canonical}
 use Rattle.lookup.specs.Rights.{Asked}
-use Rattle.nodes.specs.Answers.{errnoMeant, Standing, Answered}
+use Rattle.nodes.specs.Answers.{Standing, Answered}
+use Rattle.replies.specs.Meant.{errnoMeant}
 use Rattle.nodes.specs.Sights.{lookedAt, Sees}
-use Rattle.nodes.specs.declared.kinds.Errno.{Errno}
-use Rattle.nodes.specs.declared.kinds.Reply.the-variants.{Done, Refused}
+use Rattle.replies.specs.declared.kinds.Errno.{Errno}
+use Rattle.replies.specs.declared.kinds.Reply.the-variants.{Done, Refused}
 use Rattle.nodes.specs.declared.kinds.Effect.the-variants.{Nothing}
 use Rattle.nodes.specs.declared.kinds.Answer.{Answer}
 use Rattle.nodes.specs.declared.looking.Seen.{Seen}

@@ -20,9 +20,10 @@ use Rattle.paths.specs.Names.{firstPiece, otherPieces}
 use Rattle.rules.specs.Sound.{soundTable}
 use Rattle.lookup.proofs.ReachLaws.{left-first}
 use Rattle.slots.proofs.LeftLaws.{left-over}
-use Rattle.nodes.specs.Answers.{errnoMeant, effectMeant, okay, Answers}
-use Rattle.nodes.specs.declared.kinds.Errno.{Errno}
-use Rattle.nodes.specs.declared.kinds.Reply.the-variants.{Done, Refused}
+use Rattle.nodes.specs.Answers.{effectMeant, okay, Answers}
+use Rattle.replies.specs.Meant.{errnoMeant}
+use Rattle.replies.specs.declared.kinds.Errno.{Errno}
+use Rattle.replies.specs.declared.kinds.Reply.the-variants.{Done, Refused}
 use Rattle.nodes.specs.declared.kinds.Effect.{Effect}
 use Rattle.nodes.specs.declared.kinds.Effect.the-variants.{Nothing}
 use Rattle.nodes.specs.declared.kinds.Answer.{Answer}

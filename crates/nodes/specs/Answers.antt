@@ -15,10 +15,9 @@ use Rattle.rules.specs.Answer.{done, refused}
 use Rattle.rules.specs.Layout.{tableOf, tableBytes}
 use Rattle.rules.specs.Sound.{soundTable}
 use Rattle.slots.specs.Written.{entryIn, othersIn, Given}
-use Rattle.nodes.specs.declared.kinds.Errno.{Errno}
-use Rattle.nodes.specs.declared.kinds.Errno.the-variants.{Invalid, Access, Exists, NoEntry, NoSpace, TooBig, Again, NoSystem}
-use Rattle.nodes.specs.declared.kinds.Reply.{Reply}
-use Rattle.nodes.specs.declared.kinds.Reply.the-variants.{Done, Refused}
+use Rattle.replies.specs.Meant.{refusalMeant}
+use Rattle.replies.specs.declared.kinds.Reply.{Reply}
+use Rattle.replies.specs.declared.kinds.Reply.the-variants.{Done, Refused}
 use Rattle.nodes.specs.declared.kinds.Effect.{Effect}
 use Rattle.nodes.specs.declared.kinds.Effect.the-variants.{Nothing, Wrote, Removed}
 use Rattle.nodes.specs.declared.kinds.Ask.{Ask}
@@ -70,20 +69,6 @@ Askable Rm n access domains = Unit {0}
 Askable SetPerms n access domains = Stored n access domains
 
 -- ── what is answered ──
-
-abbrev pub errnoMeant : Errno → A.Errno
-errnoMeant Invalid = A.EINVAL
-errnoMeant Access = A.EACCES
-errnoMeant Exists = A.EEXIST
-errnoMeant NoEntry = A.ENOENT
-errnoMeant NoSpace = A.ENOSPC
-errnoMeant TooBig = A.E2BIG
-errnoMeant Again = A.EAGAIN
-errnoMeant NoSystem = A.ENOSYS
-
-abbrev pub refusalMeant : Reply → Option A.Errno
-refusalMeant (Done n) = none
-refusalMeant (Refused e) = some (errnoMeant e)
 
 -- a change names the path that was asked for
 abbrev pub effectMeant : Effect → Names → Option A.Change

@@ -7,7 +7,7 @@ use Rattle.rules.specs.Node.{reach}
 use Rattle.rules.specs.Answer as A
 use Rattle.rules.specs.Layout.{tableOf}
 use Rattle.lookup.specs.Rights.{Asked}
-use Rattle.nodes.specs.Answers.{errnoMeant}
+use Rattle.replies.specs.Meant.{errnoMeant}
 use Rattle.nodes.specs.declared.looking.Seen.{Seen}
 use Rattle.nodes.specs.declared.looking.Seen.the-variants.{At, Not}
 

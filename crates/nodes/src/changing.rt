@@ -14,17 +14,16 @@ ghost use Rattle.lookup.specs.Reach.{Reaches};
 ghost use Rattle.nodes.specs.Answers.{okay, Standing, Ready, Answers, Answered};
 use crate::kinds::Answer;
 use crate::kinds::Effect;
-use crate::kinds::Errno;
-use crate::kinds::Reply;
 use crate::looking::refusal;
 use lookup::reach::reach;
 use lookup::rights::may_write;
 use making::free::free_count;
 use making::making::make;
-use octets::parts::copy;
-use octets::sizes::HEADER_SIZE;
 use octets::sizes::LONGEST_VALUE;
 use paths::names::fits;
+use replies::kinds::Errno;
+use replies::kinds::Reply;
+use replies::kinds::okay;
 use slots::writing::put_value;
 
 // Success with nothing to tell: `OK` and a nul.
@@ -32,9 +31,9 @@ pub fn success(reply: &mut [u8], effect: Effect) -> Answer
     requires { ⌜ length (now reply) ≡ replySize ⌝ }
     ensures { λ r. ⌜ (r ≡ record { reply = Reply.Done 3; effect = effect }) × (now (reply .exit) ≡ paste headerSize okay (now (reply .entry))) ⌝ }
 {
-    copy(reply, HEADER_SIZE, b"OK\0");
+    let told = okay(reply);
     Answer {
-        reply: Reply::Done(3),
+        reply: told,
         effect,
     }
 }

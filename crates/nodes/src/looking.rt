@@ -5,12 +5,11 @@ ghost use Rattle.rules.specs.Payload.{directory, read, getPerms};
 ghost use Rattle.rules.specs.Answer.{absent};
 ghost use Rattle.rules.specs.Layout.{tableOf};
 ghost use Rattle.lookup.specs.Rights.{Asked};
-ghost use Rattle.nodes.specs.Answers.{errnoMeant, Standing, Ready, Answered};
+ghost use Rattle.nodes.specs.Answers.{Standing, Ready, Answered};
+ghost use Rattle.replies.specs.Meant.{errnoMeant};
 ghost use Rattle.nodes.specs.Sights.{Sees};
 use crate::kinds::Answer;
 use crate::kinds::Effect;
-use crate::kinds::Errno;
-use crate::kinds::Reply;
 use lookup::children::children;
 use lookup::listing::names_length;
 use lookup::listing::put_entries;
@@ -21,6 +20,8 @@ use octets::parts::copy;
 use octets::sizes::HEADER_SIZE;
 use octets::sizes::LONGEST_PAYLOAD;
 use octets::sizes::SLOTS;
+use replies::kinds::Errno;
+use replies::kinds::Reply;
 use slots::fields::value;
 
 // The slot that a reading request may read, or why it may not.

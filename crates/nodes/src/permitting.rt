@@ -9,12 +9,12 @@ ghost use Rattle.nodes.specs.Answers.{Ready, Stored, Permitted};
 use crate::changing::success;
 use crate::kinds::Answer;
 use crate::kinds::Effect;
-use crate::kinds::Errno;
 use crate::looking::absent;
 use crate::looking::refusal;
 use lookup::reach::reach;
 use lookup::rights::may_own;
 use octets::sizes::MOST_ENTRIES;
+use replies::kinds::Errno;
 use slots::fields::entry_at;
 use slots::writing::put_entries;
 

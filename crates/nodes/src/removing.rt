@@ -8,13 +8,13 @@ use crate::changing::names_left;
 use crate::changing::success;
 use crate::kinds::Answer;
 use crate::kinds::Effect;
-use crate::kinds::Errno;
 use crate::looking::absent;
 use crate::looking::refusal;
 use lookup::reach::reach;
 use lookup::rights::may_read;
 use lookup::rights::may_write;
 use making::removing::remove;
+use replies::kinds::Errno;
 
 // RM of an absent path, of which the names from `at` on are left.
 fn remove_absent(

@@ -13,11 +13,11 @@ use Rattle.rules.specs.Answer.{done, refused, errnoText}
 use Rattle.rules.specs.Call.{replyTo, replyType, replyPayload, typeOf}
 use Rattle.rules.proofs.Paste.{paste-append}
 use Rattle.rules.proofs.Joined as Joined
-use Rattle.nodes.proofs.Readings.{payload-fits}
-use Rattle.nodes.specs.Answers.{errnoMeant, refusalMeant}
-use Rattle.nodes.specs.declared.kinds.Errno.{Errno}
-use Rattle.nodes.specs.declared.kinds.Reply.{Reply}
-use Rattle.nodes.specs.declared.kinds.Reply.the-variants.{Done, Refused}
+use Rattle.replies.proofs.Payloads.{payload-fits}
+use Rattle.replies.specs.Meant.{errnoMeant, refusalMeant}
+use Rattle.replies.specs.declared.kinds.Errno.{Errno}
+use Rattle.replies.specs.declared.kinds.Reply.{Reply}
+use Rattle.replies.specs.declared.kinds.Reply.the-variants.{Done, Refused}
 use Rattle.replies.specs.Framed.{Written, Held, header, Framed}
 
 -- ── the header ──

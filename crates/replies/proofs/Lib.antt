@@ -1,1 +1,2 @@
+pub mod Payloads
 pub mod FrameLaws

@@ -9,9 +9,9 @@ use Rattle.rules.specs.Octets.{Octets, nul, paste, fourBytes}
 use Rattle.rules.specs.Answer as A
 use Rattle.rules.specs.Answer.{done, refused, errnoText}
 use Rattle.rules.specs.Call.{replyTo}
-use Rattle.nodes.specs.Answers.{refusalMeant}
-use Rattle.nodes.specs.declared.kinds.Reply.{Reply}
-use Rattle.nodes.specs.declared.kinds.Reply.the-variants.{Done, Refused}
+use Rattle.replies.specs.Meant.{refusalMeant}
+use Rattle.replies.specs.declared.kinds.Reply.{Reply}
+use Rattle.replies.specs.declared.kinds.Reply.the-variants.{Done, Refused}
 
 -- a payload behind the header, and its length
 pub record Written (s before after : Octets) (n : ℕ) : Type 0 where

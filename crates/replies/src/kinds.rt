@@ -4,9 +4,26 @@ ghost use lib.ListN.{length};
 ghost use Rattle.rules.specs.Size.{replySize};
 ghost use Rattle.rules.specs.Answer.{OK};
 ghost use Rattle.replies.specs.Framed.{Told};
-use nodes::kinds::Reply;
 use octets::parts::copy;
 use octets::sizes::HEADER_SIZE;
+
+// EINVAL, EACCES, EEXIST, ENOENT, ENOSPC, E2BIG, EAGAIN and ENOSYS.
+pub enum Errno {
+    Invalid,
+    Access,
+    Exists,
+    NoEntry,
+    NoSpace,
+    TooBig,
+    Again,
+    NoSystem,
+}
+
+// How long the payload is that stands behind the reply's header, or the error.
+pub enum Reply {
+    Done(usize),
+    Refused(Errno),
+}
 
 // The reply, how many event records it made, and the page and the channel of an INTRODUCE that succeeded.
 pub struct Outcome {

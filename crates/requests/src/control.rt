@@ -13,9 +13,9 @@ ghost use Rattle.handlers.specs.Leaves as leaves;
 ghost use Rattle.handlers.specs.Leaves.{itsNodes, itsCopies, itsWatches, itsTransactions};
 use handlers::introducing::introduce;
 use handlers::introducing::release;
-use nodes::kinds::Errno;
-use nodes::kinds::Reply;
+use replies::kinds::Errno;
 use replies::kinds::Outcome;
+use replies::kinds::Reply;
 use replies::kinds::with_events;
 
 // A connection's INTRODUCE.

@@ -19,11 +19,11 @@ use handlers::about::is_introduced;
 use handlers::transacting::end as end_transaction;
 use handlers::transacting::start as start_transaction;
 use handlers::watching::reset;
-use nodes::kinds::Errno;
-use nodes::kinds::Reply;
 use payload::answer::Request;
 use payload::parse::parse;
+use replies::kinds::Errno;
 use replies::kinds::Outcome;
+use replies::kinds::Reply;
 use replies::kinds::with_events;
 
 // What a connection's message of a type, a transaction and a payload does to the tables.

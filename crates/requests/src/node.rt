@@ -25,10 +25,10 @@ use handlers::asking::inside;
 use handlers::asking::plainly;
 use handlers::transacting::is_held;
 use nodes::kinds::Ask;
-use nodes::kinds::Errno;
-use nodes::kinds::Reply;
 use paths::answer::Form;
+use replies::kinds::Errno;
 use replies::kinds::Outcome;
+use replies::kinds::Reply;
 use replies::kinds::with_events;
 
 // What a connection asks for a full path: on the store, or in its transaction.

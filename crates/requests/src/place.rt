@@ -24,13 +24,13 @@ use crate::path::PATH_ROOM;
 use crate::path::full_path;
 use handlers::watching::unwatch;
 use handlers::watching::watch;
-use nodes::kinds::Errno;
-use nodes::kinds::Reply;
 use octets::parts::copy;
 use paths::answer::Form;
 use payload::answer::Depth;
 use payload::answer::Path;
+use replies::kinds::Errno;
 use replies::kinds::Outcome;
+use replies::kinds::Reply;
 use replies::kinds::with_events;
 
 // Whether a path is an event's name.

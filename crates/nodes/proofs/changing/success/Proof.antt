@@ -1,22 +1,24 @@
-use mathlib.Core.Path.{refl}
+use mathlib.Core.Path.{ap}
 use Rattle.rules.specs.Octets.{text}
+use Rattle.rules.specs.Answer.{OK}
+use Rattle.replies.specs.declared.kinds.Reply.{Reply}
+use Rattle.nodes.specs.declared.kinds.Answer.{Answer}
 use Rattle.nodes.specs.Answers.{okay}
 use borrow.Author.Needs.{needs}
 use Rattle.nodes.proofs.changing.success.Statement.{statement}
 use Rattle.nodes.proofs.changing.success.Tie as tie
 
-slice-aggregate-copy : tie.Need-slice-aggregate-copy
-slice-aggregate-copy c = search needs
-
-copy-requires : tie.Need-copy-requires
-copy-requires c κs = search needs
+okay-requires : tie.Need-okay-requires
+okay-requires c κs = search needs
 
 same-length : tie.Need-same-length
 same-length c = search needs
 
 returns : tie.Need-returns
-unfolding okay text
-returns c = (refl, c .before .before .copy .ensures)
+unfolding OK okay text
+returns c =
+    let at-okay = c .before .before .okay .ensures in
+    (ap (λ (r : Reply). record { reply = r; effect = c .before .before .before .before .before .args .effect }) (at-okay .0), at-okay .1)
 
 pub success-spec : {M : Type 1} → statement M
-success-spec = tie.close (tie.spec slice-aggregate-copy copy-requires same-length returns)
+success-spec = tie.close (tie.spec okay-requires same-length returns)

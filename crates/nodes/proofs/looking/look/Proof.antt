@@ -1,7 +1,7 @@
 use mathlib.Core.Path.{sym, _∙_}
 use Rattle.rules.specs.Path.{namesIn}
 use Rattle.rules.specs.Layout.{tableOf}
-use Rattle.nodes.specs.Answers.{errnoMeant}
+use Rattle.replies.specs.Meant.{errnoMeant}
 use Rattle.nodes.proofs.Outcomes.{whole, short, asked, looked-there, looked-hidden, looked-short}
 use Rattle.nodes.proofs.looking.look.Statement.{statement}
 use Rattle.nodes.proofs.looking.look.Tie as tie

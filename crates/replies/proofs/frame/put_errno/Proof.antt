@@ -1,4 +1,4 @@
-use Rattle.nodes.specs.declared.kinds.Errno.the-variants.{Invalid, Access, Exists, NoEntry, NoSpace, TooBig, Again, NoSystem}
+use Rattle.replies.specs.declared.kinds.Errno.the-variants.{Invalid, Access, Exists, NoEntry, NoSpace, TooBig, Again, NoSystem}
 use Rattle.rules.specs.Answer.{errnoText}
 use Rattle.rules.specs.Octets.{text}
 use mathlib.Core.Path.{refl}
