@@ -20,7 +20,7 @@ use Rattle.rules.proofs.Paste.{paste-whole}
 use Rattle.domains.specs.Entry.{taken, passes, entryOr}
 use Rattle.transactions.specs.Transaction.{KeptTransactions, transactionOf, heldBy, OpenTransaction}
 use Rattle.slots.proofs.Canonical.{sound-canonical}
-use Rattle.nodes.specs.declared.kinds.Reply as Reply
+use Rattle.replies.specs.declared.kinds.Reply as Reply
 use Rattle.events.specs.Records as Events
 use Rattle.events.specs.Stores.{Stores}
 use Rattle.replies.specs.Framed.{Told}
