@@ -32,6 +32,7 @@ use Rattle.rules.proofs.Compare.{same-refl}
 use Rattle.laws.specs.Gone.{Gone, Hears, GoneIsGone}
 use Rattle.rules.proofs.SoundWorld.{SoundWorld}
 use Rattle.rules.proofs.SoundEntries.{NotRoot, owned-fine, unstaled}
+use Rattle.rules.proofs.Senders.{control-zero}
 use Rattle.laws.specs.History.{run}
 use Rattle.laws.proofs.Calls.{served-is, request-good}
 use Rattle.laws.proofs.SoundCalls.{fresh-sound, run-keeps}
@@ -250,7 +251,7 @@ refused-gone w d e h = absurd (nothing {A = ℕ} {y = 0} cc)
 event-owner : (c : Connection) (k : Option ℕ) (p : Place) (e : Octets) → goodPlace c k p ≡ true → p ≡ event e → domainOf c ≡ 0
 unfolding goodPlace
 event-owner c k p e h q =
-    eqb-true _ _ (and-eq-true-iff (isControl (domainOf c)) (eventDepth k) .0
+    control-zero _ (and-eq-true-iff (isControl (domainOf c)) (eventDepth k) .0
     (and-eq-true-iff (leb 1 (length e)) (isControl (domainOf c) && eventDepth k) .0 (rw (q, goodPlace) at h) .1) .0)
 
 released-gone : (w : World) (d : Domain) → SoundWorld w → 1 ≤ d → GoneBy w d (releasing w d)

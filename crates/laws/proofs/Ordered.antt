@@ -25,6 +25,7 @@ use Rattle.laws.specs.History.{after}
 use Rattle.laws.specs.Order.{Single, node, then, replay, Agrees, Logs, added}
 use Rattle.rules.proofs.Places.{nothing, some-is, at-set, set-cases, at-without, length-without, has-at}
 use Rattle.rules.proofs.OpenTransactions.{getD-staled, length-staledIf}
+use Rattle.rules.proofs.Senders.{control-zero}
 use Rattle.laws.proofs.Answers.{Shape, stays, alters-to, answer-shape}
 
 -- ── singles one after the other ──
@@ -179,7 +180,7 @@ unfolding known introduced
 small-known ds d s e = go (isControl d) refl e
   where
     go : (b : Bool) → isControl d ≡ b → (b || has (eqb d) ds) ≡ true → d < 65536
-    go true p q = omega (arith, eqb-true d 0 p)
+    go true p q = omega (arith, control-zero d p)
     go false p q =
         let r = has-at (eqb d) ds q in
         omega (arith, eqb-true d (r .1) (r .3), s (r .0) (r .1) (r .2))

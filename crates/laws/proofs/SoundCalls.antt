@@ -12,6 +12,7 @@ use Rattle.rules.specs.Size.{mostTransactions, mostWatches, mostDomains, tableS
 use Rattle.rules.specs.Octets.{Octets, same}
 use Rattle.rules.specs.Entries.{has}
 use Rattle.rules.specs.Path.{Connection, domainOf}
+use Rattle.rules.specs.Domain.{isControl}
 use Rattle.rules.specs.Node.{root, freshTable, nodeAt}
 use Rattle.rules.specs.Layout.{domainsOf}
 use Rattle.rules.specs.Sound.{goodEntries, reachesRoot, goodName, goodNode, goodNodes, goodRoot, distinct, goodTable, known}
@@ -31,7 +32,7 @@ use Rattle.rules.proofs.SoundBytes.{encoded, world-back, decoded, bytes-back}
 -- ── the fresh store ──
 
 fresh-good : goodTable freshTable ≡ true
-unfolding goodTable freshTable goodNodes goodNode goodName goodEntries reachesRoot goodRoot nodeAt root distinct has same
+unfolding goodTable freshTable goodNodes goodNode goodName goodEntries reachesRoot goodRoot nodeAt root distinct has same isControl
 fresh-good = refl
 
 pub fresh-sound : SoundWorld freshWorld

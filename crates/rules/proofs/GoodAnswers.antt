@@ -24,6 +24,7 @@ use Rattle.rules.proofs.Fitting.{Fitting, roomy, slotAt-fits}
 use Rattle.rules.proofs.GoodTables.{Good, nodeAt-is, IsChild, child-some, child-none}
 use Rattle.rules.proofs.RootWays.{reaches-node, node-reaches, root-reaches, reaches-zero}
 use Rattle.rules.proofs.GoodNodes.{rewritten, NoChild, made-good, removed-good}
+use Rattle.rules.proofs.Senders.{control-zero}
 
 -- ── where a path leads ──
 
@@ -150,7 +151,7 @@ module _ (d : Domain) (ns : Names) (t : Table) (hd : d ≤ lastDomain) (g : Good
   answered-good rm h p (n ∷ l) i e = g
   answered-good (setPerms o es) h p [] i e =
       cond-case Fine (maySet d ns t (nodeAt t i) o) _ _
-      (cond-case Fine (leb (suc (length es)) mostEntries) _ _ (let f = subst (Found t ns 0 0) e here in entries-good i (f .node) o es (f .used) h (λ z. eqb-true _ _ (at-root (setPerms o es) i p e z))) g)
+      (cond-case Fine (leb (suc (length es)) mostEntries) _ _ (let f = subst (Found t ns 0 0) e here in entries-good i (f .node) o es (f .used) h (λ z. control-zero _ (at-root (setPerms o es) i p e z))) g)
       g
   answered-good (setPerms o es) h p (n ∷ l) i e = g
 

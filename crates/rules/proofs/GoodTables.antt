@@ -17,6 +17,7 @@ use Rattle.rules.specs.Node.{Node, Table, nodeAt, isChild, childFrom, ch
 use Rattle.rules.specs.Sound.{goodEntries, reachesRoot, goodName, goodNode, goodNodes, goodRoot, clash, distinct, goodTable}
 use Rattle.rules.proofs.Compare.{same-eq, eq-same}
 use Rattle.rules.proofs.Places.{nothing, some-is, At, at-below, apart, related-one, one-related}
+use Rattle.rules.proofs.Senders.{control-zero, zero-control}
 
 -- a good table, place by place
 pub record Good (t : Table) : Type 0 where
@@ -110,7 +111,7 @@ good-of t l h = go (getD t 0 none) refl (rw (zero-add 0) at (node-at t 0 t (p .0
           used = e;
           nameless = same-eq _ _ (good-at t (p .0) 0 r e .name);
           own-parent = eqb-true _ _ (y .0);
-          control = eqb-true _ _ (y .1);
+          control = control-zero _ (y .1);
           named = λ i n a. good-at t (p .0) (suc i) n a .name;
           entries = λ i n a. good-at t (p .0) i n a .entries;
           reaches = λ i n a. good-at t (p .0) i n a .reaches;
@@ -137,7 +138,7 @@ of-good t g =
         (name i n e, and-eq-true-iff (goodEntries (n .owner ∷ n .others)) (reachesRoot deepest t i) .1 (g .entries i n e, g .reaches i n e))
 
     rooted : goodRoot (nodeAt t 0) ≡ true
-    rooted = rw (nodeAt-is t 0 (g .root) (g .used)) (and-eq-true-iff (eqb (g .root .parent) 0) (isControl (g .root .owner .domain)) .1 (eq-eqb _ _ (g .own-parent), eq-eqb _ _ (g .control)))
+    rooted = rw (nodeAt-is t 0 (g .root) (g .used)) (and-eq-true-iff (eqb (g .root .parent) 0) (isControl (g .root .owner .domain)) .1 (eq-eqb _ _ (g .own-parent), zero-control _ (g .control)))
 
 -- ── looking up a child ──
 

@@ -6,6 +6,7 @@ pub mod Tables
 pub mod Fields
 pub mod Slots
 pub mod Cases
+pub mod Senders
 pub mod Fitting
 pub mod Parsing
 pub mod Places

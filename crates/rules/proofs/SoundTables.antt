@@ -21,6 +21,7 @@ use Rattle.rules.proofs.Places.{nothing, some-is, At, every, apart, eve
 use Rattle.rules.proofs.EntryLayouts.{DomainFits, MaybeWatch}
 use Rattle.rules.proofs.TransactionLayouts.{MaybeTransaction}
 use Rattle.rules.proofs.SoundWorld.{DomainsSound, twins, WatchesSound, TransactionsSound, known-range}
+use Rattle.rules.proofs.Senders.{connection-fits}
 
 -- ── entries one by one ──
 
@@ -117,7 +118,7 @@ watches-good ds ws s =
 pub watches-fit : (ds : Domains) (ws : Watches) → DomainsSound ds → WatchesSound ds ws → Each MaybeWatch ws
 watches-fit ds ws d s = each-of MaybeWatch ws tt λ i v q.
     let w = s .each i v q in
-    record { owner = omega (arith, known-range ds (domainOf (v .owner)) d (w .known)); depth = w .depth-fits; token = w .token-fits; place = w .place-fits }
+    record { owner = connection-fits (v .owner) (known-range ds (domainOf (v .owner)) d (w .known)); depth = w .depth-fits; token = w .token-fits; place = w .place-fits }
 
 -- ── transactions ──
 
@@ -171,4 +172,4 @@ good-transactions ds (some y ∷ xs) (c ∷ cs) h l k x e =
 pub transactions-fit : (ds : Domains) (xs : Transactions) (cs : List Octets) → DomainsSound ds → TransactionsSound ds xs cs → Each MaybeTransaction xs
 transactions-fit ds xs cs d s = each-of MaybeTransaction xs tt λ k x q.
     let w = s .each k x q in
-    record { holder = omega (arith, known-range ds (domainOf (x .holder)) d (w .known)); few = w .few; changes = w .fit }
+    record { holder = connection-fits (x .holder) (known-range ds (domainOf (x .holder)) d (w .known)); few = w .few; changes = w .fit }

@@ -30,6 +30,7 @@ use Rattle.rules.proofs.GoodAnswers.{answer-good}
 use Rattle.rules.proofs.GoodRequests.{AskedGood}
 use Rattle.rules.proofs.EntryLayouts.{PlaceFits, DepthFits}
 use Rattle.rules.proofs.TransactionLayouts.{ChangeFits}
+use Rattle.rules.proofs.Senders.{control-zero}
 
 -- ── what soundness says ──
 
@@ -129,7 +130,7 @@ unfolding known introduced
 known-range ds c s h = go (isControl c) refl h
   where
     go : (b : Bool) → isControl c ≡ b → (b || has (eqb c) ds) ≡ true → c ≤ lastDomain
-    go true e q = omega (arith, eqb-true c 0 e)
+    go true e q = omega (arith, control-zero c e)
     go false e q =
         let r = has-at (eqb c) ds q in
         omega (arith, eqb-true c (r .1) (r .3), s .range (r .0) (r .1) (r .2) .1)

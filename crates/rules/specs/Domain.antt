@@ -11,8 +11,8 @@ abbrev pub Connection : Type 0
 Connection = ℕ
 
 -- the domain that a connection speaks for: each domain has one connection, of its own number
-abbrev pub domainOf : Connection → Domain
+unfoldable pub domainOf : Connection → Domain
 domainOf c = c
 
-abbrev pub isControl : Domain → Bool
+unfoldable pub isControl : Domain → Bool
 isControl d = eqb d 0
