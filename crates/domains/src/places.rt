@@ -6,6 +6,7 @@ ghost use Prim.Native.Nat.{_<_, _≤_};
 ghost use lib.Dec.{eqb};
 ghost use lib.ListN.{length, getD, drop};
 ghost use Rattle.rules.specs.Size.{mostDomains, domainsSize};
+ghost use Rattle.rules.specs.Domain.{domainOf};
 ghost use Rattle.rules.specs.Entries.{lowest, has};
 ghost use Rattle.rules.specs.Layout.{domainsOf};
 ghost use Rattle.rules.specs.Sound.{introduced, known};
@@ -13,6 +14,8 @@ ghost use Rattle.domains.specs.Entry.{taken, passes, entryOr};
 use octets::numbers::two;
 use octets::sizes::DOMAIN_SIZE;
 use octets::sizes::DOMAINS;
+use senders::domain_of;
+use senders::is_control;
 
 // Whether place k is taken.
 pub fn used(s: &[u8], k: usize) -> bool
@@ -63,15 +66,23 @@ pub fn introduced(s: &[u8], d: u32) -> bool
     introduced_from(s, 0, d)
 }
 
-// Whether d is domain 0 or an introduced one.
+// Whether d is the control domain or an introduced one.
 pub fn known(s: &[u8], d: u32) -> bool
     requires { ⌜ length (now s) ≡ domainsSize ⌝ }
     ensures { λ r. ⌜ r ≡ known d (domainsOf (now (s .entry))) ⌝ }
 {
-    if d == 0 {
+    if is_control(d) {
         return true;
     }
     introduced(s, d)
+}
+
+// Whether a connection speaks for a known domain.
+pub fn known_sender(s: &[u8], connection: u32) -> bool
+    requires { ⌜ length (now s) ≡ domainsSize ⌝ }
+    ensures { λ r. ⌜ r ≡ known (domainOf connection) (domainsOf (now (s .entry))) ⌝ }
+{
+    known(s, domain_of(connection))
 }
 
 // The lowest free place, or the number of places where none is free.

@@ -13,7 +13,8 @@ use lib.Pow.{pow-add, pow-pos}
 use lib.Seq.{drop-cons}
 use borrow.Author.Tests.{le-leb, lt-leb}
 use Rattle.rules.specs.Octets.{Octets, pack, packFrom, bit}
-use Rattle.rules.specs.Path.{Domain, Names, beyond}
+use Rattle.rules.specs.Domain.{Domain, domainOf}
+use Rattle.rules.specs.Path.{Names, beyond}
 use Rattle.rules.specs.Node.{Table}
 use Rattle.rules.specs.Rights.{readable}
 use Rattle.rules.specs.Payload.{Place, path, event}
@@ -47,14 +48,14 @@ module _ (b a : Table) where
       by : Table → Table → Option Names → Option Names → Bool
       by u v m n =
           elim m as (λ m. Bool) [
-            | some rest ↦ deepEnough (w .depth) (length rest) && mayHear u v (w .owner) (c .names)
-            | none ↦ elim n as (λ n. Bool) [ none ↦ false | some rest ↦ c .removal && mayHear u v (w .owner) wn ]
+            | some rest ↦ deepEnough (w .depth) (length rest) && mayHear u v (domainOf (w .owner)) (c .names)
+            | none ↦ elim n as (λ n. Bool) [ none ↦ false | some rest ↦ c .removal && mayHear u v (domainOf (w .owner)) wn ]
           ]
 
       go : (m n : Option Names) → (by b b m n || by a a m n) ≡ by b a m n
-      go (some rest) n = but-for (deepEnough (w .depth) (length rest)) (w .owner) (c .names)
+      go (some rest) n = but-for (deepEnough (w .depth) (length rest)) (domainOf (w .owner)) (c .names)
       go none none = refl
-      go none (some rest) = but-for (c .removal) (w .owner) wn
+      go none (some rest) = but-for (c .removal) (domainOf (w .owner)) wn
 
   pub hears-either : (c : Change) (w : Watch) → (hears b b c w || hears a a c w) ≡ hears b a c w
   unfolding hears

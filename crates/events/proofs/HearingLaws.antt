@@ -11,7 +11,8 @@ use borrow.Author.Tests.{not-false}
 use Rattle.rules.specs.Size.{mostWatches, longestPath}
 use Rattle.rules.specs.Octets.{Octets, same, text}
 use Rattle.rules.specs.Entries.{isEmpty}
-use Rattle.rules.specs.Path.{Domain, Names, isFull, namesIn, slashed, pathText, beyond, special, given, introduceName, releaseName}
+use Rattle.rules.specs.Domain.{Domain, domainOf}
+use Rattle.rules.specs.Path.{Names, isFull, namesIn, slashed, pathText, beyond, special, given, introduceName, releaseName}
 use Rattle.rules.specs.Node.{Table, nodeAt}
 use Rattle.rules.specs.Rights.{mayRead, readable}
 use Rattle.rules.specs.Payload.{Place, path, event}
@@ -99,27 +100,26 @@ module _ (b a : Table) (d : Domain) (own names : Names) (removed : Bool) where
   unfolding hearsAbove
   above-other l = sym (ap aboveBy (beside-none _ l))
 
-module _ (b a : Table) (w : Watch) (own : Names) (c : Change) where
-  abbrev atBy : Option Names → Bool
-  atBy m = elim m as (λ m. Bool) [ some rest ↦ deepEnough (w .depth) (length rest) && mayHear b a (w .owner) (c .names) | none ↦ hearsAbove b a (w .owner) own (c .names) (c .removal) ]
+module _ (b a : Table) (w : Watch) (own : Names) (c : Change) {d : Domain} {m : Option ℕ} (o : d ≡ domainOf (w .owner)) (e : m ≡ w .depth) where
+  abbrev atBy : Domain → Option ℕ → Option Names → Bool
+  atBy x y l =
+      elim l as (λ l. Bool) [
+        | some rest ↦ deepEnough y (length rest) && mayHear b a x (c .names)
+        | none ↦ hearsAbove b a x own (c .names) (c .removal)
+      ]
 
-  at-is : hearsAt b a w own c ≡ atBy (beyond own (c .names))
+  at-is : (l : Option Names) → beyond own (c .names) ≡ l → hearsAt b a w own c ≡ atBy d m l
   unfolding hearsAt hearsAbove
-  at-is = refl
+  at-is l q = sym (ap₂ (λ (x : Domain) (y : Option ℕ). atBy x y (beyond own (c .names))) o e) ∙ ap (atBy d m) q
 
-  pub too-deep : (n : ℕ) → levelsOf (beyond own (c .names)) ≡ Levels n → deepEnough (w .depth) n ≡ false → false ≡ hearsAt b a w own c
-  too-deep n l e = let f = levelled _ n l in sym (at-is ∙ ap atBy (f .found) ∙ rw (← f .levels, e))
+  pub too-deep : (n : ℕ) → levelsOf (beyond own (c .names)) ≡ Levels n → deepEnough m n ≡ false → false ≡ hearsAt b a w own c
+  too-deep n l k = let f = levelled _ n l in sym (at-is _ (f .found) ∙ rw (← f .levels, k))
 
-  pub within-depth : (n : ℕ) → levelsOf (beyond own (c .names)) ≡ Levels n → deepEnough (w .depth) n ≡ true → mayHear b a (w .owner) (c .names) ≡ hearsAt b a w own c
-  within-depth n l e = let f = levelled _ n l in sym (at-is ∙ ap atBy (f .found) ∙ rw (← f .levels, e))
+  pub within-depth : (n : ℕ) → levelsOf (beyond own (c .names)) ≡ Levels n → deepEnough m n ≡ true → mayHear b a d (c .names) ≡ hearsAt b a w own c
+  within-depth n l k = let f = levelled _ n l in sym (at-is _ (f .found) ∙ rw (← f .levels, k))
 
-  pub not-below : levelsOf (beyond own (c .names)) ≡ Not → hearsAbove b a (w .owner) own (c .names) (c .removal) ≡ hearsAt b a w own c
-  not-below l = sym (at-is ∙ ap atBy (beside-none _ l))
-
--- only the owner and the depth of a watch are asked
-pub same-hearing : (b a : Table) (v w : Watch) (own : Names) (c : Change) → v .owner ≡ w .owner → v .depth ≡ w .depth → hearsAt b a v own c ≡ hearsAt b a w own c
-unfolding hearsAt
-same-hearing b a v w own c e f = ap₂ (λ (d : Domain) (m : Option ℕ). hearsAt b a (record { owner = d; place = w .place; depth = m; token = w .token }) own c) e f
+  pub not-below : levelsOf (beyond own (c .names)) ≡ Not → hearsAbove b a d own (c .names) (c .removal) ≡ hearsAt b a w own c
+  not-below l = sym (at-is _ (beside-none _ l))
 
 -- ── a watch's place ──
 
@@ -194,9 +194,9 @@ module _ (s : Octets) (k : ℕ) (h : TakenWatch s k) (own : Octets) (o : own ≡
         go (path r ns) e = absurd (f (rw (o ∙ ap placeText e) (slash-first ns)))
         go (event x) e = refl
 
-    pub hears-so : OnPath → (d : ℕ) (depth : Depth) → d ≡ w .owner → depthMeant depth ≡ w .depth → hearsAt b a (watchGiven d own true depth []) (namesIn own) c ≡ passes (hears b a c) (getD (watchesOf s) k none)
-    unfolding watchGiven hears
-    hears-so f d depth p q = same-hearing b a (watchGiven d own true depth []) w (namesIn own) c p q ∙ sym (ap hearsBy (f .place)) ∙ here
+    pub hears-so : OnPath → hearsAt b a w (namesIn own) c ≡ passes (hears b a c) (getD (watchesOf s) k none)
+    unfolding hears
+    hears-so f = sym (ap hearsBy (f .place)) ∙ here
 
   -- a watch on the event of a release, or of an introduction
   pub event-hears : (released : Bool) → same (eventName released) own ≡ passes (isEvent (eventName released)) (getD (watchesOf s) k none)

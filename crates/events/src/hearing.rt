@@ -1,18 +1,18 @@
 // Whether a watch hears a change.
 ghost use mathlib.Core.Path.{_≡_};
 ghost use mathlib.Core.Bool.{true};
-ghost use mathlib.Core.List.{[]};
 ghost use mathlib.Core.Option.{none};
 ghost use Prim.Native.Nat.{_<_};
 ghost use lib.ListN.{getD};
 ghost use Rattle.rules.specs.Size.{mostWatches};
+ghost use Rattle.rules.specs.Domain.{domainOf};
 ghost use Rattle.rules.specs.Path.{isFull, namesIn};
 ghost use Rattle.rules.specs.Rights.{readable};
-ghost use Rattle.rules.specs.Event.{deepEnough, hearsAt, hears};
+ghost use Rattle.rules.specs.Event.{Watch, deepEnough, hearsAt, hears};
 ghost use Rattle.rules.specs.Layout.{tableOf, watchesOf};
 ghost use Rattle.rules.specs.Sound.{soundTable};
 ghost use Rattle.domains.specs.Entry.{passes};
-ghost use Rattle.watches.specs.Watch.{depthMeant, watchGiven};
+ghost use Rattle.watches.specs.Watch.{depthMeant};
 ghost use Rattle.transactions.specs.Transaction.{changeGiven};
 ghost use Rattle.events.specs.Stores.{Store, hearsAbove};
 use lookup::reach::reach;
@@ -21,7 +21,7 @@ use paths::answer::Beyond;
 use paths::relation::beyond;
 use watches::Depth;
 use watches::places::depth;
-use watches::places::owner;
+use watches::places::domain;
 use watches::places::path;
 use watches::places::used;
 
@@ -64,8 +64,8 @@ fn hears_above(t: &[u8], domain: u32, own: &[u8], path: &[u8], removed: bool) ->
 // Whether a watch of a domain on the full path `own` hears a change of a full path.
 fn hears_on(t: &[u8], domain: u32, own: &[u8], depth: Depth, path: &[u8], removed: bool) -> bool
     requires { ⌜ (soundTable (now t) ≡ true) × (isFull (now own) ≡ true) × (isFull (now path) ≡ true) ⌝ }
-    ensures { λ r. ⌜ r ≡ hearsAt (tableOf (now (t .entry))) (tableOf (now (t .entry))) (watchGiven domain (now (own .entry)) true depth [])
-        (namesIn (now (own .entry))) (changeGiven removed (now (path .entry))) ⌝ }
+    ensures { λ r. ⌜ ((w : Watch) → domain ≡ domainOf (w .owner) → depthMeant depth ≡ w .depth →
+        r ≡ hearsAt (tableOf (now (t .entry))) (tableOf (now (t .entry))) w (namesIn (now (own .entry))) (changeGiven removed (now (path .entry)))) ⌝ }
 {
     match beyond(own, path) {
         Beyond::Levels(levels) => {
@@ -96,7 +96,7 @@ pub fn hears(t: &[u8], watches: &[u8], k: usize, changed: &[u8], removed: bool) 
     }
     hears_on(
         t,
-        owner(watches, k),
+        domain(watches, k),
         own,
         depth(watches, k),
         changed,

@@ -1,5 +1,6 @@
 -- Rights, entry by entry.
 use mathlib.Core.Path.{_≡_, refl, sym, ap, _∙_}
+use mathlib.Core.Bool.{true, false}
 use mathlib.Core.Option.{some}
 use mathlib.Core.List.{List, _∷_}
 use Prim.Native.Nat.{ℕ, zero, suc, _+_, _-_, _≤_, _<_}
@@ -9,7 +10,7 @@ use lib.ListN.{length, getD, drop, drop-of-length-le}
 use lib.Seq.{drop-cons}
 use borrow.Author.Tests.{eq-eqb, ne-eqb}
 use Rattle.rules.specs.Octets.{Octets}
-use Rattle.rules.specs.Path.{Domain}
+use Rattle.rules.specs.Domain.{Domain, isControl}
 use Rattle.rules.specs.Node.{Entry, Node, nodeAt}
 use Rattle.rules.specs.Rights.{accessOf, named, control, owner, entry, default}
 use Rattle.rules.specs.Layout.{tableOf}
@@ -83,14 +84,14 @@ module _ (t : Octets) (i : ℕ) (a : Asked t i) where
 -- ── whose access it is ──
 
 module _ (d : Domain) (n : Node) where
-  pub by-control : d ≡ 0 → accessOf d n ≡ record { access = 3; ground = control }
+  pub by-control : isControl d ≡ true → accessOf d n ≡ record { access = 3; ground = control }
   unfolding accessOf
-  by-control e = rw (eq-eqb d 0 e)
+  by-control e = rw e
 
-  pub by-owner : (d ≡ 0 → ⊥) → d ≡ n .owner .domain → accessOf d n ≡ record { access = 3; ground = owner }
+  pub by-owner : isControl d ≡ false → d ≡ n .owner .domain → accessOf d n ≡ record { access = 3; ground = owner }
   unfolding accessOf
-  by-owner z e = rw (ne-eqb d 0 z, eq-eqb d (n .owner .domain) e)
+  by-owner z e = rw (z, eq-eqb d (n .owner .domain) e)
 
-  pub by-others : (d ≡ 0 → ⊥) → (d ≡ n .owner .domain → ⊥) → accessOf d n ≡ named d (n .owner .access) 1 (n .others)
+  pub by-others : isControl d ≡ false → (d ≡ n .owner .domain → ⊥) → accessOf d n ≡ named d (n .owner .access) 1 (n .others)
   unfolding accessOf
-  by-others z e = rw (ne-eqb d 0 z, ne-eqb d (n .owner .domain) e)
+  by-others z e = rw (z, ne-eqb d (n .owner .domain) e)

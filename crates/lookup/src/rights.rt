@@ -9,10 +9,11 @@ ghost use Rattle.rules.specs.Layout.{tableOf};
 ghost use Rattle.rules.specs.Sound.{soundTable};
 ghost use Rattle.slots.specs.Slot.{slotAt, isUsed};
 ghost use Rattle.lookup.specs.Rights.{Asked, accessMeant};
+use senders::is_control;
 use slots::fields::entry_at;
 use slots::fields::entry_count;
 
-// Why the access is what it is: domain 0, the owner, the later entry of that place, or none of these.
+// Why the access is what it is: the control domain, the owner, the later entry of that place, or none of these.
 pub enum Ground {
     Control,
     Owner,
@@ -53,7 +54,7 @@ pub fn access_of(t: &[u8], i: usize, domain: u32) -> Access
     requires { ⌜ Asked (now t) i ⌝ }
     ensures { λ r. ⌜ accessMeant r ≡ accessOf domain (nodeAt (tableOf (now (t .entry))) i) ⌝ }
 {
-    if domain == 0 {
+    if is_control(domain) {
         return Access {
             access: 3,
             ground: Ground::Control,
@@ -83,12 +84,12 @@ pub fn may_write(t: &[u8], i: usize, domain: u32) -> bool
     2 <= access_of(t, i, domain).access
 }
 
-// Domain 0 and the owner.
+// The control domain and the owner.
 pub fn may_own(t: &[u8], i: usize, domain: u32) -> bool
     requires { ⌜ Asked (now t) i ⌝ }
     ensures { λ r. ⌜ r ≡ mayOwn domain (nodeAt (tableOf (now (t .entry))) i) ⌝ }
 {
-    if domain == 0 {
+    if is_control(domain) {
         return true;
     }
     domain == entry_at(t, i, 0).domain

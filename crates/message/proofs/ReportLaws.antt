@@ -11,7 +11,8 @@ use lib.Dec.{eqb, ltb}
 use borrow.Author.Tests.{eq-eqb, ne-eqb}
 use Rattle.rules.specs.Size.{longestPath}
 use Rattle.rules.specs.Octets.{Octets, text, same, begins, decimal, numberIn}
-use Rattle.rules.specs.Path.{Domain, Connection, Name, Names, special, given, introduceName, releaseName, base, slashed, pathText, fits, beyond, isBelow}
+use Rattle.rules.specs.Domain.{Domain, Connection, domainOf}
+use Rattle.rules.specs.Path.{Name, Names, special, given, introduceName, releaseName, base, slashed, pathText, fits, beyond, isBelow}
 use Rattle.rules.specs.Payload.{Place, path, event}
 use Rattle.rules.specs.Event.{Watch, placeText}
 use Rattle.rules.specs.Layout.{isRelative}
@@ -130,7 +131,7 @@ module _ (p : Octets) where
   unfolding reported placeText
   report-own w s e = go (w .place) (w .depth) s e
     where
-      go : (l : Place) (m : Option ℕ) → begins (47 ∷ []) (placeText l) ≡ false → m ≡ none → placeText l ≡ reportedBy l m (w .owner)
+      go : (l : Place) (m : Option ℕ) → begins (47 ∷ []) (placeText l) ≡ false → m ≡ none → placeText l ≡ reportedBy l m (domainOf (w .owner))
       go (path r ns) m s e = absurd (true≢false (sym (path-text ns) ∙ s))
       go (event f) none s e = refl
       go (event f) (some k) s e = absurd (nothing (sym e))
@@ -139,27 +140,27 @@ module _ (p : Octets) where
   unfolding reported placeText
   report-record w k s e = go (w .place) (w .depth) s e
     where
-      go : (l : Place) (m : Option ℕ) → begins (47 ∷ []) (placeText l) ≡ false → m ≡ some k → p ≡ reportedBy l m (w .owner)
+      go : (l : Place) (m : Option ℕ) → begins (47 ∷ []) (placeText l) ≡ false → m ≡ some k → p ≡ reportedBy l m (domainOf (w .owner))
       go (path r ns) m s e = absurd (true≢false (sym (path-text ns) ∙ s))
       go (event f) none s e = absurd (nothing e)
       go (event f) (some j) s e = refl
 
   report-path : (w : Watch) → PlaceFits (w .place) → begins (47 ∷ []) (placeText (w .place)) ≡ true
-      → cut (isRelative (w .place)) (w .owner) (nearer (placeText (w .place)) p) ≡ reported w p
+      → cut (isRelative (w .place)) (domainOf (w .owner)) (nearer (placeText (w .place)) p) ≡ reported w p
   unfolding reported placeText isRelative
   report-path w f s = go (w .place) f s
     where
-      go : (l : Place) → PlaceFits l → begins (47 ∷ []) (placeText l) ≡ true → cut (isRelative l) (w .owner) (nearer (placeText l) p) ≡ reportedBy l (w .depth) (w .owner)
+      go : (l : Place) → PlaceFits l → begins (47 ∷ []) (placeText l) ≡ true → cut (isRelative l) (domainOf (w .owner)) (nearer (placeText l) p) ≡ reportedBy l (w .depth) (domainOf (w .owner))
       go (path r ns) f s = refl
       go (event g) f s = absurd (true≢false (sym s ∙ event-text g (f .0)))
 
   pub report-nearer : (w : Watch) → PlaceFits (w .place) → begins (47 ∷ []) (placeText (w .place)) ≡ true → isBelow p (placeText (w .place)) ≡ true
-      → cut (isRelative (w .place)) (w .owner) (placeText (w .place)) ≡ reported w p
+      → cut (isRelative (w .place)) (domainOf (w .owner)) (placeText (w .place)) ≡ reported w p
   unfolding nearer
   report-nearer w f s b = sym (rw b) ∙ report-path w f s
 
   pub report-further : (w : Watch) → PlaceFits (w .place) → begins (47 ∷ []) (placeText (w .place)) ≡ true → isBelow p (placeText (w .place)) ≡ false
-      → cut (isRelative (w .place)) (w .owner) p ≡ reported w p
+      → cut (isRelative (w .place)) (domainOf (w .owner)) p ≡ reported w p
   unfolding nearer
   report-further w f s b = sym (rw b) ∙ report-path w f s
 
@@ -173,10 +174,10 @@ pub reported-short : (w : Watch) (p : Octets) → PlaceFits (w .place) → lengt
 unfolding reported nearer
 reported-short w p f h = go (w .place) (w .depth) f
   where
-    go : (l : Place) (m : Option ℕ) → PlaceFits l → length (reportedBy p l m (w .owner)) ≤ longestPath
+    go : (l : Place) (m : Option ℕ) → PlaceFits l → length (reportedBy p l m (domainOf (w .owner))) ≤ longestPath
     go (path q ns) m f =
         let n : length (nearer (pathText ns) p) ≤ longestPath = cond-case (λ (x : Octets). length x ≤ longestPath) (isBelow p (pathText ns)) _ _ (f .1) h in
-        omega (arith, cut-short q (w .owner) (nearer (pathText ns) p))
+        omega (arith, cut-short q (domainOf (w .owner)) (nearer (pathText ns) p))
     go (event g) none f = f .1
     go (event g) (some j) f = h
 
@@ -200,7 +201,7 @@ slashed-long : (n : Name) (ms : Names) → 1 ≤ length (slashed (n ∷ ms))
 unfolding slashed
 slashed-long n ms = omega arith
 
-base-before : (c : Connection) (ns : Names) (m : Option Names) → beyond (base c) ns ≡ m → strictlyBelow m ≡ true → length (pathText (base c)) + 1 ≤ length (pathText ns)
+base-before : (c : Domain) (ns : Names) (m : Option Names) → beyond (base c) ns ≡ m → strictlyBelow m ≡ true → length (pathText (base c)) + 1 ≤ length (pathText ns)
 unfolding strictlyBelow pathText base
 base-before c ns none e h = absurd (false≢true h)
 base-before c ns (some []) e h = absurd (false≢true h)
@@ -208,29 +209,29 @@ base-before c ns (some (n ∷ ms)) e h =
     rw (beyond-rest (base c) ns (n ∷ ms) e, slashed-append (base c) (n ∷ ms), length-append) (omega (arith, slashed-long n ms))
 
 -- a relative watch's path is longer than its base and a slash
-room-own : (c : Connection) (m : Option ℕ) (l : Place) → goodPlace c m l ≡ true → isRelative l ≡ true → length (pathText (base c)) + 1 ≤ length (placeText l)
+room-own : (c : Connection) (m : Option ℕ) (l : Place) → goodPlace c m l ≡ true → isRelative l ≡ true → length (pathText (base (domainOf c))) + 1 ≤ length (placeText l)
 unfolding goodPlace isRelative placeText
 room-own c m (path r ns) g e =
-    let q : (not r || strictlyBelow (beyond (base c) ns)) ≡ true = both-true (fits ns) (not r || strictlyBelow (beyond (base c) ns)) g .1 in
-    base-before c ns (beyond (base c) ns) refl (rw e at q)
+    let q : (not r || strictlyBelow (beyond (base (domainOf c)) ns)) ≡ true = both-true (fits ns) (not r || strictlyBelow (beyond (base (domainOf c)) ns)) g .1 in
+    base-before (domainOf c) ns (beyond (base (domainOf c)) ns) refl (rw e at q)
 room-own c m (event f) g e = absurd (false≢true e)
 
 -- and so is the path of a record that concerns it and does not lie above it
 room-record : (p : Octets) (c : Connection) (m : Option ℕ) (l : Place) → goodPlace c m l ≡ true → concerns p l ≡ true → isBelow p (placeText l) ≡ false → isRelative l ≡ true
-    → length (pathText (base c)) + 1 ≤ length p
+    → length (pathText (base (domainOf c))) + 1 ≤ length p
 unfolding concerns isRelative placeText
 room-record p c m (path r ns) g h b e = go (same p (pathText ns)) refl (isBelow (pathText ns) p) refl h
   where
-    own : length (pathText (base c)) + 1 ≤ length (pathText ns)
+    own : length (pathText (base (domainOf c))) + 1 ≤ length (pathText ns)
     own = room-own c m (path r ns) g e
 
-    go : (x : Bool) → same p (pathText ns) ≡ x → (y : Bool) → isBelow (pathText ns) p ≡ y → (x || (y || isBelow p (pathText ns))) ≡ true → length (pathText (base c)) + 1 ≤ length p
+    go : (x : Bool) → same p (pathText ns) ≡ x → (y : Bool) → isBelow (pathText ns) p ≡ y → (x || (y || isBelow p (pathText ns))) ≡ true → length (pathText (base (domainOf c))) + 1 ≤ length p
     go true q y i h = rw (same-eq p (pathText ns) q) own
     go false q true i h = let l = below-long (pathText ns) p i in omega (arith, own)
     go false q false i h = absurd (true≢false (sym h ∙ b))
 room-record p c m (event f) g h b e = absurd (false≢true e)
 
-module _ (w : Watch) (g : goodPlace (w .owner) (w .depth) (w .place) ≡ true) {r : Bool} {d : Domain} (i : r ≡ isRelative (w .place)) (j : d ≡ w .owner) where
+module _ (w : Watch) (g : goodPlace (w .owner) (w .depth) (w .place) ≡ true) {r : Bool} {d : Domain} (i : r ≡ isRelative (w .place)) (j : d ≡ domainOf (w .owner)) where
   pub nearer-room : {x : Octets} → x ≡ placeText (w .place) → Room r d x
   nearer-room k = record { long = λ e. rw (j, k) (room-own (w .owner) (w .depth) (w .place) g (sym i ∙ e)) }
 

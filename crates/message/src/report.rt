@@ -12,7 +12,7 @@ use octets::written::digits;
 use paths::relation::is_below;
 use watches::Depth;
 use watches::places::depth;
-use watches::places::owner;
+use watches::places::domain;
 use watches::places::path;
 use watches::places::relative;
 
@@ -81,7 +81,7 @@ pub fn reported<'a>(watches: &'a [u8], k: usize, p: &'a [u8]) -> &'a [u8]
         }
     }
     let r = relative(watches, k);
-    let d = owner(watches, k);
+    let d = domain(watches, k);
     if is_below(p, own) {
         return cut(r, d, own);
     }

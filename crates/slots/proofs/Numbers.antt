@@ -11,7 +11,7 @@ use lib.Seq.{getD-take, length-take-le}
 use lib.Dec.{eqb}
 use Rattle.rules.specs.Size.{slots, entriesSize}
 use Rattle.rules.specs.Octets.{Octets, paste, bigEndian, pack, packFrom, bitsAt}
-use Rattle.rules.specs.Path.{Domain}
+use Rattle.rules.specs.Domain.{Domain, isControl}
 use Rattle.rules.specs.Node.{Entry, nodeAt, heir}
 use Rattle.rules.specs.Layout.{tableOf, entryBits, entryAt}
 use Rattle.rules.proofs.Tables.{Each}
@@ -139,9 +139,9 @@ module _ (count : ℕ) (access domain : List ℕ) (g : Given count access domain
 -- ── an heir's owner ──
 
 pub heir-number : (o : Entry) (es : List Entry) (d : Domain) {n r : ℕ} → o .domain < 65536 → n ≡ entryNumber (o ∷ es) 0 →
-    r ≡ cond (eqb d 0) n (n / 65536 * 65536 + d) → r ≡ entryNumber (heir d o ∷ es) 0
+    r ≡ cond (isControl d) n (n / 65536 * 65536 + d) → r ≡ entryNumber (heir d o ∷ es) 0
 unfolding heir entryNumber
-heir-number o es d {n} h e q = q ∙ go (eqb d 0)
+heir-number o es d {n} h e q = q ∙ go (isControl d)
   where
     go : (b : Bool) → cond b n (n / 65536 * 65536 + d) ≡ entryNumber (cond b o (record { access = o .access; domain = d }) ∷ es) 0
     go true = e

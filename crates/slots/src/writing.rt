@@ -5,9 +5,9 @@ ghost use mathlib.Core.List.{_∷_};
 ghost use mathlib.Core.Option.{none, some};
 ghost use Prim.Native.Nat.{_+_, _*_, _/_, _≤_, _<_};
 ghost use lib.ListN.{length, set};
-ghost use lib.Dec.{eqb};
 ghost use Rattle.rules.specs.Size.{slots, slotSize, fieldsSize, entriesSize, longestValue, mostEntries};
 ghost use Rattle.rules.specs.Octets.{padded, paste, bigEndian};
+ghost use Rattle.rules.specs.Domain.{isControl};
 ghost use Rattle.rules.specs.Layout.{tableOf, tableBytes};
 ghost use Rattle.rules.specs.Node.{nodeAt, heir, newNode, withValue, withEntries};
 ghost use Rattle.slots.specs.Slot.{Canonical, slotAt, isUsed};
@@ -25,6 +25,7 @@ use octets::sizes::LONGEST_VALUE;
 use octets::sizes::NAME_AT;
 use octets::sizes::SLOT_SIZE;
 use octets::sizes::VALUE_AT;
+use senders::is_control;
 
 // Frees slot i.
 pub fn clear_slot(t: &mut [u8], i: usize)
@@ -107,18 +108,18 @@ fn given_number(access: &[u32], domain: &[u32], count: usize, k: usize) -> u32
     0
 }
 
-// The owner's 18 bits for an heir: the domain is its owner, unless it is 0.
+// The owner's 18 bits for an heir: the domain is its owner, unless it is the control domain.
 fn inherited(number: u32, domain: u32) -> u32
     requires { ⌜ (number < 262144) × (domain < 65536) ⌝ }
-    ensures { λ r. ⌜ (r ≡ cond (eqb domain 0) number (number / 65536 * 65536 + domain)) × (r < 262144) ⌝ }
+    ensures { λ r. ⌜ (r ≡ cond (isControl domain) number (number / 65536 * 65536 + domain)) × (r < 262144) ⌝ }
 {
-    if domain == 0 {
+    if is_control(domain) {
         return number;
     }
     number / 65536 * 65536 + domain
 }
 
-// Puts the entries of `parent` into slot i, with the domain as owner unless it is 0.
+// Puts the entries of `parent` into slot i, with the domain as owner unless it is the control domain.
 fn put_heirs(t: &mut [u8], i: usize, parent: usize, domain: u32)
     requires { ⌜ (i < slots) × (parent < slots) × Canonical (now t) × (isUsed (slotAt (now t) parent) ≡ true) × (domain < 65536) ⌝ }
     ensures { λ _. ⌜ now (t .exit) ≡ paste (i * slotSize + fieldsSize)
@@ -158,7 +159,7 @@ pub fn put_entries(t: &mut [u8], i: usize, count: usize, access: &[u32], domain:
     put_fields(t, at, above, name, value, count);
 }
 
-// Puts a new node into slot i, a child of slot `parent`: its parent's entries, with the domain as owner unless it is 0.
+// Puts a new node into slot i, a child of slot `parent`: its parent's entries, with the domain as owner unless it is the control domain.
 pub fn put_node(t: &mut [u8], i: usize, parent: usize, name: &[u8], value: &[u8], domain: u32)
     requires { ⌜ (i < slots) × (parent < slots) × Canonical (now t) × (isUsed (slotAt (now t) parent) ≡ true) ×
         Room (length (now name)) (length (now value)) domain ⌝ }

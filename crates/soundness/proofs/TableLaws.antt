@@ -14,6 +14,7 @@ use lib.Dec.{eqb}
 use borrow.Author.Tests.{eq-eqb, ne-eqb}
 use Rattle.rules.specs.Size.{slots, slotSize, tableSize, deepest, longestName}
 use Rattle.rules.specs.Octets.{Octets, same}
+use Rattle.rules.specs.Domain.{isControl}
 use Rattle.rules.specs.Node.{Entry, Node, Table, nodeAt}
 use Rattle.rules.specs.Layout.{slotBytes, tableBytes, tableOf}
 use Rattle.rules.specs.Sound.{goodName, goodEntries, reachesRoot, goodNode, goodNodes, goodRoot, distinct, goodTable, soundTable}
@@ -182,10 +183,10 @@ module _ (t : Octets) (k : Used t 0) where
   unfolding goodRoot
   root-parent p e n = rw (← e, ne-eqb p 0 n) refl
 
-  pub root-owner : (p d : ℕ) → p ≡ nodeAt (tableOf t) 0 .parent → p ≡ 0 → d ≡ entryOf t 0 0 .domain → eqb d 0 ≡ goodRoot (nodeAt (tableOf t) 0)
+  pub root-owner : (p d : ℕ) → p ≡ nodeAt (tableOf t) 0 .parent → p ≡ 0 → d ≡ entryOf t 0 0 .domain → isControl d ≡ goodRoot (nodeAt (tableOf t) 0)
   unfolding goodRoot
   root-owner p d e z f =
       let x = used-some (slotAt t 0) (k .used) in
       let n = node-some (tableOf t) 0 (x .0) (x .1) in
       let o : entryOf t 0 0 ≡ nodeAt (tableOf t) 0 .owner = entry-is t 0 (k .below) (x .0) (x .1) 0 (x .0 .owner) (omega arith) ∙ ap Node.owner (sym n) in
-      rw (← e, eq-eqb p 0 z) (ap (λ (m : ℕ). eqb m 0) (f ∙ ap Entry.domain o))
+      rw (← e, eq-eqb p 0 z) (ap isControl (f ∙ ap Entry.domain o))

@@ -12,6 +12,7 @@ use crate::pairs::all_distinct;
 use crate::slot::good_slot;
 use octets::sizes::SLOTS;
 use octets::sizes::TABLE_SIZE;
+use senders::is_control;
 use slots::fields::entry_at;
 use slots::fields::parent;
 
@@ -30,7 +31,7 @@ fn all_good(t: &[u8]) -> bool
     true
 }
 
-// Whether slot 0 is its own parent and owned by domain 0.
+// Whether slot 0 is its own parent and owned by the control domain.
 fn good_root(t: &[u8]) -> bool
     requires { ⌜ Used (now t) 0 ⌝ }
     ensures { λ r. ⌜ r ≡ goodRoot (nodeAt (tableOf (now (t .entry))) 0) ⌝ }
@@ -39,7 +40,7 @@ fn good_root(t: &[u8]) -> bool
         return false;
     }
     let owner = entry_at(t, 0, 0);
-    owner.domain == 0
+    is_control(owner.domain)
 }
 
 // Whether the bytes are a sound node table.

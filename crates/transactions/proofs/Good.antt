@@ -61,14 +61,14 @@ module _ (ds : Domains) (x : Option Transaction) where
   open-free f = rw (free-none x f)
 
   module _ (t : taken x ≡ true) where
-    open-is : goodOpen ds x ≡ (known (entryOr (opened 0) x .holder) ds && goodChanges (entryOr (opened 0) x .changes))
+    open-is : goodOpen ds x ≡ (known (domainOf (entryOr (opened 0) x .holder)) ds && goodChanges (entryOr (opened 0) x .changes))
     unfolding goodOpen
     open-is = ap (goodOpen ds) (taken-some (opened 0) x t)
 
-    pub open-unknown : known (entryOr (opened 0) x .holder) ds ≡ false → goodOpen ds x ≡ false
+    pub open-unknown : known (domainOf (entryOr (opened 0) x .holder)) ds ≡ false → goodOpen ds x ≡ false
     open-unknown k = open-is ∙ rw k
 
-    pub open-known : known (entryOr (opened 0) x .holder) ds ≡ true → goodOpen ds x ≡ goodChanges (entryOr (opened 0) x .changes)
+    pub open-known : known (domainOf (entryOr (opened 0) x .holder)) ds ≡ true → goodOpen ds x ≡ goodChanges (entryOr (opened 0) x .changes)
     open-known k = open-is ∙ rw k
 
 pub entries-next : (ds : Domains) (xs : Transactions) (i : ℕ) → i < length xs → allOpenGood ds (drop i xs) ≡ (goodOpen ds (getD xs i none) && allOpenGood ds (drop (i + 1) xs))

@@ -17,7 +17,7 @@ use crate::places::holder;
 use crate::places::is_open;
 use crate::places::path;
 use crate::places::removed;
-use domains::places::known;
+use domains::places::known_sender;
 use octets::compare::all_zero;
 use octets::compare::rest_zero;
 use octets::numbers::two;
@@ -160,7 +160,7 @@ fn place_good(s: &[u8], domains: &[u8], k: usize) -> bool
     if !is_open(s, k) {
         return true;
     }
-    if !known(domains, holder(s, k)) {
+    if !known_sender(domains, holder(s, k)) {
         return false;
     }
     changes_good(s, k)

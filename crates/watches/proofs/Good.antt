@@ -13,7 +13,8 @@ use lib.Dec.{eqb}
 use borrow.Author.Tests.{eq-eqb, ne-eqb, le-leb}
 use Rattle.rules.specs.Size.{longestAbsolute, mostWatches}
 use Rattle.rules.specs.Octets.{Octets, same, begins, paste, text}
-use Rattle.rules.specs.Path.{Domain, Connection, Names, absolute, special, given, namesIn, isFull, base, slashed, pathText, fits, beyond, isBelow}
+use Rattle.rules.specs.Domain.{Domain, Connection, domainOf, isControl}
+use Rattle.rules.specs.Path.{Names, absolute, special, given, namesIn, isFull, base, slashed, pathText, fits, beyond, isBelow}
 use Rattle.rules.specs.Payload.{event}
 use Rattle.rules.specs.Event.{Watch, Watches, placeText}
 use Rattle.rules.specs.Layout.{Domains, isRelative, placeIn, watchesOf}
@@ -98,7 +99,7 @@ module _ (d : Domain) where
 
 module _ (c : Connection) (m : Option ℕ) (r : Bool) (x : Octets) where
   module _ (f : isFull x ≡ true) where
-    full-is : goodPlace c m (placeIn r x) ≡ (fits (namesIn x) && (not r || strictlyBelow (beyond (base c) (namesIn x))))
+    full-is : goodPlace c m (placeIn r x) ≡ (fits (namesIn x) && (not r || strictlyBelow (beyond (base (domainOf c)) (namesIn x))))
     unfolding goodPlace
     full-is = ap (goodPlace c m) (place-given r x (absolute (namesIn x)) (full-given x f))
 
@@ -108,11 +109,11 @@ module _ (c : Connection) (m : Option ℕ) (r : Bool) (x : Octets) where
     pub good-plain : fits (namesIn x) ≡ true → r ≡ false → goodPlace c m (placeIn r x) ≡ true
     good-plain h e = full-is ∙ rw (h, e)
 
-    pub good-relative : fits (namesIn x) ≡ true → r ≡ true → goodPlace c m (placeIn r x) ≡ strictlyBelow (beyond (base c) (namesIn x))
+    pub good-relative : fits (namesIn x) ≡ true → r ≡ true → goodPlace c m (placeIn r x) ≡ strictlyBelow (beyond (base (domainOf c)) (namesIn x))
     good-relative h e = full-is ∙ rw (h, e)
 
   module _ (e : given x ≡ special x) where
-    special-is : goodPlace c m (placeIn r x) ≡ (eqb c 0 && eventDepth m)
+    special-is : goodPlace c m (placeIn r x) ≡ (isControl (domainOf c) && eventDepth m)
     unfolding goodPlace
     special-is =
         let l : 1 ≤ length x = long (length x) (special-long x e) in
@@ -121,11 +122,11 @@ module _ (c : Connection) (m : Option ℕ) (r : Bool) (x : Octets) where
         long : (n : ℕ) → (n ≡ 0 → ⊥) → 1 ≤ n
         long n h = omega (arith, h)
 
-    pub good-foreign : (c ≡ 0 → ⊥) → goodPlace c m (placeIn r x) ≡ false
-    good-foreign h = special-is ∙ rw (ne-eqb c 0 h)
+    pub good-foreign : isControl (domainOf c) ≡ false → goodPlace c m (placeIn r x) ≡ false
+    good-foreign h = special-is ∙ rw h
 
-    pub good-event : c ≡ 0 → goodPlace c m (placeIn r x) ≡ eventDepth m
-    good-event h = special-is ∙ rw (eq-eqb c 0 h)
+    pub good-event : isControl (domainOf c) ≡ true → goodPlace c m (placeIn r x) ≡ eventDepth m
+    good-event h = special-is ∙ rw h
 
   pub good-nowhere : placeIn r x ≡ event [] → goodPlace c m (placeIn r x) ≡ false
   unfolding goodPlace
@@ -162,24 +163,24 @@ module _ (ds : Domains) (x : Option Watch) (ws : Watches) where
     w = entryOr nobody x
 
     good-is : goodWatchAt ds x ws
-        ≡ (known (w .owner) ds && (noNul (w .token) && (goodPlace (w .owner) (w .depth) (w .place) && not (watched (w .owner) (placeText (w .place)) (w .token) ws))))
+        ≡ (known (domainOf (w .owner)) ds && (noNul (w .token) && (goodPlace (w .owner) (w .depth) (w .place) && not (watched (w .owner) (placeText (w .place)) (w .token) ws))))
     unfolding goodWatchAt goodWatch
     good-is =
         let n = noNul (w .token) in
         let g = goodPlace (w .owner) (w .depth) (w .place) in
         let f = not (watched (w .owner) (placeText (w .place)) (w .token) ws) in
-        ap (λ (y : Option Watch). goodWatchAt ds y ws) (taken-some nobody x t) ∙ and-assoc (known (w .owner) ds) (n && g) f ∙ ap (λ (b : Bool). known (w .owner) ds && b) (and-assoc n g f)
+        ap (λ (y : Option Watch). goodWatchAt ds y ws) (taken-some nobody x t) ∙ and-assoc (known (domainOf (w .owner)) ds) (n && g) f ∙ ap (λ (b : Bool). known (domainOf (w .owner)) ds && b) (and-assoc n g f)
 
-    pub good-unknown : known (w .owner) ds ≡ false → goodWatchAt ds x ws ≡ false
+    pub good-unknown : known (domainOf (w .owner)) ds ≡ false → goodWatchAt ds x ws ≡ false
     good-unknown k = good-is ∙ rw k
 
-    pub good-nul : known (w .owner) ds ≡ true → noNul (w .token) ≡ false → goodWatchAt ds x ws ≡ false
+    pub good-nul : known (domainOf (w .owner)) ds ≡ true → noNul (w .token) ≡ false → goodWatchAt ds x ws ≡ false
     good-nul k n = good-is ∙ rw (k, n)
 
-    pub good-misplaced : known (w .owner) ds ≡ true → noNul (w .token) ≡ true → goodPlace (w .owner) (w .depth) (w .place) ≡ false → goodWatchAt ds x ws ≡ false
+    pub good-misplaced : known (domainOf (w .owner)) ds ≡ true → noNul (w .token) ≡ true → goodPlace (w .owner) (w .depth) (w .place) ≡ false → goodWatchAt ds x ws ≡ false
     good-misplaced k n p = good-is ∙ rw (k, n, p)
 
-    pub good-placed : known (w .owner) ds ≡ true → noNul (w .token) ≡ true → goodPlace (w .owner) (w .depth) (w .place) ≡ true
+    pub good-placed : known (domainOf (w .owner)) ds ≡ true → noNul (w .token) ≡ true → goodPlace (w .owner) (w .depth) (w .place) ≡ true
         → goodWatchAt ds x ws ≡ not (watched (w .owner) (placeText (w .place)) (w .token) ws)
     good-placed k n p = good-is ∙ rw (k, n, p)
 

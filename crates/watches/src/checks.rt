@@ -22,7 +22,7 @@ use crate::places::token;
 use crate::places::token_length;
 use crate::places::used;
 use crate::places::watched_from;
-use domains::places::known;
+use domains::places::known_sender;
 use octets::compare::all_zero;
 use octets::compare::begins;
 use octets::compare::rest_zero;
@@ -37,6 +37,8 @@ use paths::answer::Form;
 use paths::form::form;
 use paths::full::full;
 use paths::names::fits;
+use senders::domain_of;
+use senders::is_control;
 
 // ── bytes that are those of what they mean ──
 
@@ -168,9 +170,9 @@ fn good_place(c: u32, depth: Depth, relative: bool, x: &[u8]) -> bool
         if !relative {
             return true;
         }
-        return below_base(c, x);
+        return below_base(domain_of(c), x);
     }
-    if c != 0 {
+    if !is_control(domain_of(c)) {
         return false;
     }
     match depth {
@@ -189,7 +191,7 @@ fn place_good(s: &[u8], domains: &[u8], k: usize) -> bool
         return true;
     }
     let c = owner(s, k);
-    if !known(domains, c) {
+    if !known_sender(domains, c) {
         return false;
     }
     let t = token(s, k);

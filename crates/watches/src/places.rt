@@ -5,6 +5,7 @@ ghost use mathlib.Core.Option.{none};
 ghost use Prim.Native.Nat.{_+_, _<_, _≤_};
 ghost use lib.ListN.{length, getD, drop};
 ghost use Rattle.rules.specs.Size.{mostWatches, watchesSize};
+ghost use Rattle.rules.specs.Domain.{domainOf};
 ghost use Rattle.rules.specs.Entries.{lowest};
 ghost use Rattle.rules.specs.Event.{placeText};
 ghost use Rattle.rules.specs.Layout.{isRelative, watchesOf};
@@ -18,6 +19,7 @@ use octets::sizes::TOKEN_AT;
 use octets::sizes::WATCH_FIELDS_SIZE;
 use octets::sizes::WATCH_SIZE;
 use octets::sizes::WATCHES;
+use senders::domain_of;
 
 // Whether place k is taken.
 pub fn used(s: &[u8], k: usize) -> bool
@@ -32,6 +34,14 @@ pub fn owner(s: &[u8], k: usize) -> u32
     ensures { λ r. ⌜ r ≡ watchOf (now (s .entry)) k .owner ⌝ }
 {
     two(s, k * WATCH_SIZE + 2)
+}
+
+// The domain that the owner speaks for.
+pub fn domain(s: &[u8], k: usize) -> u32
+    requires { ⌜ TakenWatch (now s) k ⌝ }
+    ensures { λ r. ⌜ r ≡ domainOf (watchOf (now (s .entry)) k .owner) ⌝ }
+{
+    domain_of(owner(s, k))
 }
 
 // Whether the path was given relative to the owner's base.

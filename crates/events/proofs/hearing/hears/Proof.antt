@@ -1,3 +1,4 @@
+-- A watch whose text begins with a slash is on a full path; any other hears no change of a node.
 use mathlib.Core.Path.{sym, _∙_}
 use native.Mathlib.Omega.{arith}
 use borrow.Author.Tests.{not-true}
@@ -31,8 +32,8 @@ returns-3 c =
     let b = a .before .before .before .before .before in
     deaf _ _ (taken-here (b .pre .0) (b .pre .1 .kept) (a .before .used .ensures) (a .if1 .left)) _ (c .before .before .before .path .ensures) _ _ _ (λ f. c .if3 .taken (f .1))
 
-owner-requires : tie.Need-owner-requires
-owner-requires c κs =
+domain-requires : tie.Need-domain-requires
+domain-requires c κs =
     let a = c .before .before .before .before in
     let b = a .before .before .before .before .before in
     taken-here (b .pre .0) (b .pre .1 .kept) (a .before .used .ensures) (a .if1 .left)
@@ -54,7 +55,9 @@ returns-4 c =
     let a = c .before .before .before .before .before .before .before in
     let b = a .before .before .before .before .before in
     let t = taken-here (b .pre .0) (b .pre .1 .kept) (a .before .used .ensures) (a .if1 .left) in
-    c .hears-on .ensures ∙ hears-so _ _ t _ (c .before .before .before .before .before .before .path .ensures) _ _ _ (on-path _ _ t _ (c .before .before .before .before .before .before .path .ensures) (c .before .before .before .before .before .if2 .left) (c .before .before .before .if3 .left)) _ _ (c .before .before .owner .ensures) (c .before .depth .ensures)
+    let own = c .before .before .before .before .before .before .path .ensures in
+    let on = on-path _ _ t _ own (c .before .before .before .before .before .if2 .left) (c .before .before .before .if3 .left) in
+    c .hears-on .ensures _ (c .before .before .domain .ensures) (c .before .depth .ensures) ∙ hears-so _ _ t _ own _ _ _ on
 
 pub hears-spec : {M : Type 1} → statement M
 hears-spec =
@@ -66,7 +69,7 @@ hears-spec =
     returns-2
     shared-slice-read-if3
     returns-3
-    owner-requires
+    domain-requires
     depth-requires
     hears-on-requires
     returns-4)

@@ -1,8 +1,8 @@
+-- The path is at or below the watch's own, deep enough and readable; or it was removed above it.
 use mathlib.Core.Path.{sym, _∙_}
 use borrow.Author.Tests.{not-true, not-false}
 use borrow.Author.Needs.{needs}
 use Rattle.transactions.specs.Transaction.{changeGiven}
-use Rattle.watches.specs.Watch.{watchGiven}
 use Rattle.events.proofs.HearingLaws.{hear-once, too-deep, within-depth, not-below}
 use Rattle.events.proofs.hearing.hears_on.Statement.{statement}
 use Rattle.events.proofs.hearing.hears_on.Tie as tie
@@ -17,8 +17,11 @@ deep-enough-requires : tie.Need-deep-enough-requires
 deep-enough-requires c κs = search needs
 
 returns : tie.Need-returns
-unfolding watchGiven changeGiven
-returns c = too-deep _ _ _ _ _ _ (sym (c .before .before .before .before .before .beyond .ensures) ∙ c .before .before .before .levels .given .1) (sym (c .before .deep-enough .ensures) ∙ not-true _ (c .if1 .taken))
+unfolding changeGiven
+returns c = λ w o d.
+    let l = c .before .before .before in
+    too-deep _ _ w _ _ o d _ (sym (l .before .before .beyond .ensures) ∙ l .levels .given .1)
+    (sym (c .before .deep-enough .ensures) ∙ not-true _ (c .if1 .taken))
 
 readable-requires : tie.Need-readable-requires
 readable-requires c κs = search needs
@@ -30,12 +33,18 @@ hears-above-requires : tie.Need-hears-above-requires
 hears-above-requires c κs = search needs
 
 returns-2 : tie.Need-returns-2
-unfolding watchGiven changeGiven
-returns-2 c = c .readable .ensures ∙ hear-once _ _ _ ∙ within-depth _ _ _ _ _ _ (sym (c .before .before .before .before .before .before .beyond .ensures) ∙ c .before .before .before .before .levels .given .1) (sym (c .before .before .deep-enough .ensures) ∙ not-false _ (c .before .if1 .left))
+unfolding changeGiven
+returns-2 c = λ w o d.
+    let l = c .before .before .before .before in
+    c .readable .ensures ∙ hear-once _ _ _
+    ∙ within-depth _ _ w _ _ o d _ (sym (l .before .before .beyond .ensures) ∙ l .levels .given .1)
+    (sym (c .before .before .deep-enough .ensures) ∙ not-false _ (c .before .if1 .left))
 
 returns-3 : tie.Need-returns-3
-unfolding watchGiven changeGiven
-returns-3 c = c .hears-above .ensures ∙ not-below _ _ _ _ _ (sym (c .before .before .before .beyond .ensures) ∙ c .before .enum-told .given .1)
+unfolding changeGiven
+returns-3 c = λ w o d.
+    c .hears-above .ensures
+    ∙ not-below _ _ w _ _ o d (sym (c .before .before .before .beyond .ensures) ∙ c .before .enum-told .given .1)
 
 pub hears-on-spec : {M : Type 1} → statement M
 hears-on-spec =

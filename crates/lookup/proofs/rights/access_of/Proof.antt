@@ -1,3 +1,4 @@
+-- The control domain, else the owner, else the first entry that names the domain.
 use mathlib.Core.Path.{sym, ap, _∙_}
 use Prim.Native.Nat.{ℕ}
 use Rattle.rules.specs.Node.{Entry, nodeAt}
@@ -9,30 +10,36 @@ use borrow.Author.Needs.{needs}
 use Rattle.lookup.proofs.rights.access_of.Statement.{statement}
 use Rattle.lookup.proofs.rights.access_of.Tie as tie
 
+is-control-requires : tie.Need-is-control-requires
+is-control-requires c κs = search needs
+
 returns : tie.Need-returns
-returns c = sym (by-control _ _ (c .if1 .taken))
+returns c = sym (by-control _ _ (sym (c .before .is-control .ensures) ∙ c .if1 .taken))
 
 entry-at-requires : tie.Need-entry-at-requires
-entry-at-requires c κs = (c .before .before .pre .below, sound-canonical _ (c .before .before .pre .sound) .whole, search needs)
+entry-at-requires c κs = (c .before .before .before .pre .below, sound-canonical _ (c .before .before .before .pre .sound) .whole, search needs)
 
 returns-2 : tie.Need-returns-2
 returns-2 c =
-    let a = c .before .before .before .before .before in
+    let test = c .before .before .before in
+    let a = test .before .before .before in
     let o = owner-is (a .args .t .now) (a .args .i) (a .pre) in
-    sym (by-owner _ _ (c .before .before .before .if1 .left) (c .if2 .taken ∙ c .before .before .entry-at .ensures .1 ∙ ap (λ (e : Entry). e .domain) o))
+    sym (by-owner _ _ (sym (test .before .is-control .ensures) ∙ test .if1 .left) (c .if2 .taken ∙ c .before .before .entry-at .ensures .1 ∙ ap (λ (e : Entry). e .domain) o))
 
 named-requires : tie.Need-named-requires
 named-requires c κs = search needs
 
 returns-3 : tie.Need-returns-3
 returns-3 c =
-    let a = c .before .before .before .before .before .before in
+    let test = c .before .before .before .before in
+    let a = test .before .before .before in
     let o = owner-is (a .args .t .now) (a .args .i) (a .pre) in
     let got = c .before .before .before .entry-at in
     let node = nodeAt (tableOf (a .args .t .now)) (a .args .i) in
     c .named .ensures
     ∙ ap (λ (f : ℕ). named (a .args .domain) f 1 (node .others)) (got .ensures .0 ∙ ap (λ (e : Entry). e .access) o)
-    ∙ sym (by-others (a .args .domain) node (c .before .before .before .before .if1 .left) (λ q. c .before .if2 .left (q ∙ sym (got .ensures .1 ∙ ap (λ (e : Entry). e .domain) o))))
+    ∙ sym (by-others (a .args .domain) node (sym (test .before .is-control .ensures) ∙ test .if1 .left)
+    (λ q. c .before .if2 .left (q ∙ sym (got .ensures .1 ∙ ap (λ (e : Entry). e .domain) o))))
 
 pub access-of-spec : {M : Type 1} → statement M
-access-of-spec = tie.close (tie.spec returns entry-at-requires returns-2 named-requires returns-3)
+access-of-spec = tie.close (tie.spec is-control-requires returns entry-at-requires returns-2 named-requires returns-3)

@@ -62,8 +62,8 @@ returns-2 c = c .before .before .before .before .before .before .path .ensures �
 relative-requires : tie.Need-relative-requires
 relative-requires c κs = used (c .before .before .before)
 
-owner-requires : tie.Need-owner-requires
-owner-requires c κs = used (c .before .before .before .before)
+domain-requires : tie.Need-domain-requires
+domain-requires c κs = used (c .before .before .before .before)
 
 is-below-requires : tie.Need-is-below-requires
 is-below-requires c κs = search needs
@@ -72,21 +72,21 @@ cut-requires : tie.Need-cut-requires
 cut-requires c κs =
     let o = c .before .before in
     let p = o .before .before .before .before .before in
-    nearer-room (watch p) (good p) (o .before .relative .ensures) (o .owner .ensures) (p .path .ensures)
+    nearer-room (watch p) (good p) (o .before .relative .ensures) (o .domain .ensures) (p .path .ensures)
 
 returns-3 : tie.Need-returns-3
 returns-3 c =
     let o = c .before .before .before in
     let p = o .before .before .before .before .before in
     c .cut .ensures
-    ∙ cut-same (o .before .relative .ensures) (o .owner .ensures) (p .path .ensures)
+    ∙ cut-same (o .before .relative .ensures) (o .domain .ensures) (p .path .ensures)
     ∙ report-nearer _ _ (fits p) (slashed (o .before .before)) (told (isBelow (start p .args .p .now)) (c .before .before .is-below .ensures) (p .path .ensures) (c .before .if2 .taken))
 
 cut-requires-2 : tie.Need-cut-requires-2
 cut-requires-2 c κs =
     let o = c .before .before in
     let p = o .before .before .before .before .before in
-    further-room (watch p) (good p) (o .before .relative .ensures) (o .owner .ensures) _ (start p .pre .1)
+    further-room (watch p) (good p) (o .before .relative .ensures) (o .domain .ensures) _ (start p .pre .1)
     (told (isBelow (start p .args .p .now)) (c .before .is-below .ensures) (p .path .ensures) (c .if2 .left))
 
 returns-4 : tie.Need-returns-4
@@ -94,7 +94,7 @@ returns-4 c =
     let o = c .before .before .before in
     let p = o .before .before .before .before .before in
     c .cut2 .ensures
-    ∙ cut-same (o .before .relative .ensures) (o .owner .ensures) refl
+    ∙ cut-same (o .before .relative .ensures) (o .domain .ensures) refl
     ∙ report-further _ _ (fits p) (slashed (o .before .before)) (told (isBelow (start p .args .p .now)) (c .before .before .is-below .ensures) (p .path .ensures) (c .before .if2 .left))
 
 pub reported-spec : {M : Type 1} → statement M
@@ -110,7 +110,7 @@ reported-spec =
     enum-told-2
     returns-2
     relative-requires
-    owner-requires
+    domain-requires
     is-below-requires
     cut-requires
     returns-3
