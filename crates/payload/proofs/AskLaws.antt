@@ -1,4 +1,4 @@
--- What a node request's path means.
+-- What a node request's path means, and what is asked of it.
 use mathlib.Core.Path.{_≡_, refl, ap, sym, subst⁻¹, _∙_}
 use mathlib.Core.Bool.{Bool, true, false, cond}
 use mathlib.Core.List.{List, [], _∷_}
@@ -9,28 +9,48 @@ use native.Mathlib.Omega.{arith}
 use lib.Dec.{eqb}
 use lib.ListN.{length, take, drop}
 use lib.Seq.{length-take-le}
+use types.Run.{OneOf, miss}
+use denote.Enum.Declared.{tagOf}
 use borrow.Author.Tests.{ne-eqb}
 use Rattle.rules.specs.Octets.{Octets}
-use Rattle.rules.specs.Path.{Domain, Names, Given, malformed, absolute, relative, special, given, base, pathText, slashed, allNames}
-use Rattle.rules.specs.Payload.{Ask, directory, read, getPerms, write, mkdir, rm, Parsed, invalid, request, ask, namesOf, proper, onRoot, asking, plain, writing, strings, firstString}
+use Rattle.rules.specs.Path.{
+  Domain,
+  Connection,
+  domainOf,
+  Names,
+  Given,
+  malformed,
+  absolute,
+  relative,
+  special,
+  given,
+  base,
+  pathText,
+  slashed,
+  allNames,
+}
+use Rattle.rules.specs.Payload as rules
+use Rattle.rules.specs.Payload.{Parsed, invalid, request, namesOf, proper, onRoot, asking, plain, writing, strings, firstString}
 use Rattle.rules.proofs.PathLaws.{given-full, no-empty-name}
-use Rattle.rules.proofs.GoodRequests.{proper-open}
 use Rattle.paths.specs.Form.{formOf}
 use Rattle.paths.specs.declared.answer.Form.{Form}
 use Rattle.paths.specs.declared.answer.Form.the-variants.{Absolute, Relative, Special, Malformed}
 use Rattle.payload.specs.Parts.{partsOf}
-use Rattle.payload.specs.Meaning.{namesFrom, namesAt, meant, PathSound, Means, Sound}
-use Rattle.payload.specs.Answers.{namedOf, isRoot, askOf, askedOf}
+use Rattle.payload.specs.Meaning.{namesFrom, namesAt, askMeant, meant, PathSound, AskSound, Means, Sound}
+use Rattle.payload.specs.Answers.{namedOf, isRoot, askOf, AskIs, askingOf}
 use Rattle.payload.specs.declared.answer.Path.{Path}
 use Rattle.payload.specs.declared.answer.Named.the-variants.{At, Not}
+use Rattle.payload.specs.declared.answer.Ask.{Ask}
+use Rattle.payload.specs.declared.answer.Ask.the-variants as ask
 use Rattle.payload.specs.declared.answer.Request.{Request}
-use Rattle.payload.specs.declared.answer.Request.the-variants.{Invalid, Directory, Read, GetPerms, Write, Mkdir, Rm}
+use Rattle.payload.specs.declared.answer.Request.the-variants.{Invalid, Ask as Asked}
 use Rattle.payload.specs.declared.parts.Parts.the-variants.{One}
+use Rattle.payload.proofs.answer.Ask.{the-type}
 use Rattle.payload.proofs.CursorLaws.{Untold}
 
 -- what is asked of some names
-abbrev pub askedFor : Ask → Names → Parsed
-askedFor a ns = cond (proper a ns) (request (ask a ns)) invalid
+abbrev pub askedFor : rules.Ask → Names → Parsed
+askedFor a ns = cond (proper a ns) (request (rules.ask a ns)) invalid
 
 -- a path that a node request takes: its place, and its names
 pub record IsNamed (s : Octets) (e : ℕ) (p : Path) : Type 0 where
@@ -53,7 +73,8 @@ named-by s e p (special t) f h = absurd (let z : _≡_ {A = ℕ} 0 1 = cc in ome
 pub named-told : (s : Octets) (e : ℕ) (p : Path) → namedOf e (formOf (given (take e s))) ≡ At p → IsNamed s e p
 named-told s e p h = named-by s e p (given (take e s)) refl h
 
-asking-named : (d : Domain) (a : Ask) (s : Octets) (e : ℕ) (p : Path) → IsNamed s e p → asking d a (take e s) ≡ askedFor a (namesFrom d (given (take e s)))
+asking-named : (d : Domain) (a : rules.Ask) (s : Octets) (e : ℕ) (p : Path) → IsNamed s e p →
+    asking d a (take e s) ≡ askedFor a (namesFrom d (given (take e s)))
 unfolding asking
 asking-named d a s e p h = rw (h .names d, asking)
 
@@ -64,7 +85,7 @@ unnamed-by d e (absolute ns) h = absurd (let z : _≡_ {A = ℕ} 0 1 = cc in ome
 unnamed-by d e (relative ns) h = absurd (let z : _≡_ {A = ℕ} 0 1 = cc in omega arith)
 unnamed-by d e (special t) h = refl
 
-pub asking-not : (d : Domain) (a : Ask) (s : Octets) (e : ℕ) → namedOf e (formOf (given (take e s))) ≡ Not → asking d a (take e s) ≡ invalid
+pub asking-not : (d : Domain) (a : rules.Ask) (s : Octets) (e : ℕ) → namedOf e (formOf (given (take e s))) ≡ Not → asking d a (take e s) ≡ invalid
 unfolding asking
 asking-not d a s e h = rw (unnamed-by d e (given (take e s)) h, asking)
 
@@ -80,7 +101,7 @@ long-path [] ns h = absurd (no-empty-name ns h)
 long-path (c ∷ n) ns h = omega arith
 
 -- the text of a full path is one byte long at the root alone
-root-text : (t : Octets) (a : Ask) (ns : Names) → given t ≡ absolute ns → proper a ns ≡ cond (eqb (length t) 1) (onRoot a) true
+root-text : (t : Octets) (a : rules.Ask) (ns : Names) → given t ≡ absolute ns → proper a ns ≡ cond (eqb (length t) 1) (onRoot a) true
 unfolding proper pathText
 root-text t a [] f = rw (given-full t [] f .text)
 root-text t a (n ∷ ns) f =
@@ -89,7 +110,7 @@ root-text t a (n ∷ ns) f =
     let g : length t ≡ length (pathText (n ∷ ns)) = ap length (full .text) in
     rw (ne-eqb (length t) 1 (λ k. omega arith))
 
-root-by : (d : Domain) (a : Ask) (s : Octets) (e : ℕ) (p : Path) (g : Given) → e ≤ length s → given (take e s) ≡ g → namedOf e (formOf g) ≡ At p →
+root-by : (d : Domain) (a : rules.Ask) (s : Octets) (e : ℕ) (p : Path) (g : Given) → e ≤ length s → given (take e s) ≡ g → namedOf e (formOf g) ≡ At p →
     proper a (namesFrom d g) ≡ cond (isRoot p) (onRoot a) true
 unfolding namedOf formOf namesFrom proper base
 root-by d a s e p malformed k f h = absurd (let z : _≡_ {A = ℕ} 0 1 = cc in omega arith)
@@ -99,15 +120,19 @@ root-by d a s e p (absolute ns) k f h =
 root-by d a s e p (relative ns) k f h = rw (is-root p Relative (sym (at-path h .1)))
 root-by d a s e p (special t) k f h = absurd (let z : _≡_ {A = ℕ} 0 1 = cc in omega arith)
 
-pub root-proper : (d : Domain) (a : Ask) (s : Octets) (e : ℕ) (p : Path) → e ≤ length s → namedOf e (formOf (given (take e s))) ≡ At p →
+pub root-proper : (d : Domain) (a : rules.Ask) (s : Octets) (e : ℕ) (p : Path) → e ≤ length s → namedOf e (formOf (given (take e s))) ≡ At p →
     proper a (namesFrom d (given (take e s))) ≡ cond (isRoot p) (onRoot a) true
 root-proper d a s e p k h = root-by d a s e p (given (take e s)) k refl h
 
--- ── a path alone ──
+-- ── meanings ──
 
-pub invalid-means : (s : Octets) (q : Domain → Parsed) → ((d : Domain) → q d ≡ invalid) → Means s Invalid q
+pub invalid-means : (s : Octets) (q : Connection → Parsed) → ((c : Connection) → q c ≡ invalid) → Means s Invalid q
 unfolding meant
-invalid-means s q h = record { meaning = λ d. sym (h d); sound = tt }
+invalid-means s q h = record { meaning = λ c. sym (h c); sound = tt }
+
+-- a meaning said otherwise
+pub means-as : {s : Octets} {r : Request} {q : Connection → Parsed} (q′ : Connection → Parsed) → Means s r q → ((c : Connection) → q c ≡ q′ c) → Means s r q′
+means-as q′ m h = record { meaning = λ c. m .meaning c ∙ h c; sound = m .sound }
 
 pub sound-at : (s : Octets) (e : ℕ) (p : Path) → e < length s → p .end ≡ e → formOf (given (take e s)) ≡ p .form → PathSound s p
 sound-at s e p k h f =
@@ -116,74 +141,80 @@ sound-at s e p k h f =
       form = ap (λ (n : ℕ). formOf (given (take n s))) h ∙ f;
     }
 
+-- ── what is asked of a path ──
+
+-- the kinds of ask that the root refuses to no one
+abbrev open-kinds : List ℕ
+open-kinds = 0 ∷ 1 ∷ 2 ∷ 3 ∷ 4 ∷ []
+
+pub open-else : (s : Octets) (a : Ask) → OneOf open-kinds (tagOf the-type a) → onRoot (askMeant s a) ≡ true
+unfolding onRoot
+open-else s ask.Directory h = refl
+open-else s ask.Read h = refl
+open-else s ask.GetPerms h = refl
+open-else s (ask.Write from) h = refl
+open-else s ask.Mkdir h = refl
+open-else s ask.Rm h = absurd (miss open-kinds 5 tt h)
+open-else s (ask.SetPerms es) h = absurd (miss open-kinds 6 tt h)
+
 module _ (s : Octets) (e : ℕ) (p : Path) (k : e < length s) (h : namedOf e (formOf (given (take e s))) ≡ At p) where
   told : IsNamed s e p
   told = named-told s e p h
 
-  pub path-sound : PathSound s p
+  path-sound : PathSound s p
   path-sound = sound-at s e p k (told .end) (told .form)
 
-  pub asking-at : (d : Domain) (a : Ask) → askedFor a (namesAt d s p) ≡ asking d a (take e s)
+  asking-at : (d : Domain) (a : rules.Ask) → askedFor a (namesAt d s p) ≡ asking d a (take e s)
   asking-at d a = ap (λ (n : ℕ). askedFor a (namesFrom d (given (take n s)))) (told .end) ∙ sym (asking-named d a s e p told)
 
-  pub root-at : (d : Domain) (a : Ask) → proper a (namesAt d s p) ≡ cond (isRoot p) (onRoot a) true
+  root-at : (d : Domain) (a : rules.Ask) → proper a (namesAt d s p) ≡ cond (isRoot p) (onRoot a) true
   root-at d a =
       ap (λ (n : ℕ). proper a (namesFrom d (given (take n s)))) (told .end) ∙ root-proper d a s e p (omega arith) h
 
-  -- a request that is open on the root too
-  open-at : (d : Domain) (a : Ask) → onRoot a ≡ true → request (ask a (namesAt d s p)) ≡ askedFor a (namesAt d s p)
-  open-at d a o = sym (rw (proper-open a (namesAt d s p) o))
+  module _ (a : Ask) (b : Bool) (o : cond (isRoot p) (onRoot (askMeant s a)) true ≡ b) where
+    is-proper : (d : Domain) → proper (askMeant s a) (namesAt d s p) ≡ b
+    is-proper d = root-at d (askMeant s a) ∙ o
 
-  removing : (d : Domain) (b : Bool) → isRoot p ≡ b → meant d s (cond b Invalid (Rm p)) ≡ askedFor rm (namesAt d s p)
-  unfolding meant onRoot
-  removing d true b = sym (rw (root-at d rm ∙ ap (λ (t : Bool). cond t false true) b))
-  removing d false b = sym (rw (root-at d rm ∙ ap (λ (t : Bool). cond t false true) b))
+    by-open : (c : Bool) → b ≡ c → (d : Domain) → meant d s (cond c (Asked a p) Invalid) ≡ askedFor (askMeant s a) (namesAt d s p)
+    unfolding meant
+    by-open true f d = sym (rw (is-proper d ∙ f))
+    by-open false f d = sym (rw (is-proper d ∙ f))
 
-  asked-by : (d : Domain) (a b c f : Bool) →
-      meant d s (cond a (Directory p) (cond b (Read p) (cond c (GetPerms p) (cond f (Mkdir p) (cond (isRoot p) Invalid (Rm p))))))
-      ≡ askedFor (cond a directory (cond b read (cond c getPerms (cond f mkdir rm)))) (namesAt d s p)
-  unfolding meant onRoot
-  asked-by d true b c f = open-at d directory refl
-  asked-by d false true c f = open-at d read refl
-  asked-by d false false true f = open-at d getPerms refl
-  asked-by d false false false true = open-at d mkdir refl
-  asked-by d false false false false = removing d (isRoot p) refl
+    sound-open : AskSound s a → (c : Bool) → b ≡ c → Sound s (cond c (Asked a p) Invalid)
+    sound-open x true f = record { path = path-sound; ask = x; proper = λ d. is-proper d ∙ f }
+    sound-open x false f = tt
 
-  asked-sound : (a b c f r : Bool) → Sound s (cond a (Directory p) (cond b (Read p) (cond c (GetPerms p) (cond f (Mkdir p) (cond r Invalid (Rm p))))))
-  asked-sound true b c f r = path-sound
-  asked-sound false true c f r = path-sound
-  asked-sound false false true f r = path-sound
-  asked-sound false false false true r = path-sound
-  asked-sound false false false false true = tt
-  asked-sound false false false false false = path-sound
-
-  pub plain-means : (type : ℕ) (r : Request) → strings s ≡ some (take e s ∷ []) → r ≡ askedOf type p →
-      Means s r (λ (d : Domain). plain d (askOf type) (strings s))
-  unfolding askedOf askOf plain
-  plain-means type r all t =
+  pub asking-means : (a : Ask) (r : Request) → AskSound s a → r ≡ askingOf s a p →
+      Means s r (λ (c : Connection). asking (domainOf c) (askMeant s a) (take e s))
+  unfolding askingOf
+  asking-means a r x t =
       record {
-        meaning = λ d.
-            ap (meant d s) t
-            ∙ (asked-by d (eqb type 1) (eqb type 2) (eqb type 3) (eqb type 12) ∙ (asking-at d (askOf type) ∙ sym (ap (plain d (askOf type)) all)));
-        sound = subst⁻¹ (Sound s) t (asked-sound (eqb type 1) (eqb type 2) (eqb type 3) (eqb type 12) (isRoot p));
+        meaning = λ c.
+            ap (meant (domainOf c) s) t ∙ (by-open a _ refl _ refl (domainOf c) ∙ asking-at (domainOf c) (askMeant s a));
+        sound = subst⁻¹ (Sound s) t (sound-open a _ refl x _ refl);
       }
 
-  pub write-means : (rest : ℕ) → rest ≡ e + 1 → firstString s ≡ some (record { first = take e s; rest = drop (e + 1) s }) →
-      Means s (Write p rest) (λ (d : Domain). writing d (firstString s))
-  unfolding meant writing onRoot
-  write-means rest n f =
-      record {
-        meaning = λ d.
-            open-at d (write (drop rest s)) refl
-            ∙ (asking-at d (write (drop rest s))
-            ∙ sym (ap (writing d) f ∙ ap (λ (n : ℕ). asking d (write (drop n s)) (take e s)) (sym n)));
-        sound = (path-sound, omega arith);
-      }
+  pub plain-means : (type : ℕ) (a : Ask) (r : Request) → strings s ≡ some (take e s ∷ []) → AskIs a (askOf type) → r ≡ askingOf s a p →
+      Means s r (λ (c : Connection). plain (domainOf c) (askOf type) (strings s))
+  unfolding plain
+  plain-means type a r all i t =
+      means-as _ (asking-means a r (i .sound s) t)
+      (λ c.
+      ap (λ (q : rules.Ask). asking (domainOf c) q (take e s)) (i .meaning s) ∙ sym (ap (plain (domainOf c) (askOf type)) all))
+
+  pub write-means : (rest : ℕ) (r : Request) → rest ≡ e + 1 → firstString s ≡ some (record { first = take e s; rest = drop (e + 1) s }) →
+      r ≡ askingOf s (ask.Write rest) p → Means s r (λ (c : Connection). writing (domainOf c) (firstString s))
+  unfolding writing
+  write-means rest r n f t =
+      means-as _ (asking-means (ask.Write rest) r (omega arith) t)
+      (λ c.
+      ap (λ (n : ℕ). asking (domainOf c) (rules.write (drop n s)) (take e s)) n ∙ sym (ap (writing (domainOf c)) f))
 
 -- a payload that is no path alone
-pub plain-other : (s : Octets) (a : Ask) → ((e : ℕ) → partsOf (strings s) ≡ One e → ⊥) → Means s Invalid (λ (d : Domain). plain d a (strings s))
+pub plain-other : (s : Octets) (a : rules.Ask) → ((e : ℕ) → partsOf (strings s) ≡ One e → ⊥) →
+    Means s Invalid (λ (c : Connection). plain (domainOf c) a (strings s))
 unfolding partsOf plain
-plain-other s a h = invalid-means s _ (λ d. by d (strings s) h)
+plain-other s a h = invalid-means s _ (λ c. by (domainOf c) (strings s) h)
   where
     by : (d : Domain) (o : Option (List Octets)) → ((e : ℕ) → partsOf o ≡ One e → ⊥) → plain d a o ≡ invalid
     by d none h = refl
@@ -192,17 +223,18 @@ plain-other s a h = invalid-means s _ (λ d. by d (strings s) h)
     by d (some (x ∷ y ∷ ys)) h = refl
 
 module _ (s : Octets) (e : ℕ) (h : namedOf e (formOf (given (take e s))) ≡ Not) where
-  pub plain-not : (a : Ask) → strings s ≡ some (take e s ∷ []) → Means s Invalid (λ (d : Domain). plain d a (strings s))
+  pub plain-not : (a : rules.Ask) → strings s ≡ some (take e s ∷ []) → Means s Invalid (λ (c : Connection). plain (domainOf c) a (strings s))
   unfolding plain
-  plain-not a all = invalid-means s _ (λ d. ap (plain d a) all ∙ asking-not d a s e h)
+  plain-not a all = invalid-means s _ (λ c. ap (plain (domainOf c) a) all ∙ asking-not (domainOf c) a s e h)
 
-  pub write-not : firstString s ≡ some (record { first = take e s; rest = drop (e + 1) s }) → Means s Invalid (λ (d : Domain). writing d (firstString s))
+  pub write-not : firstString s ≡ some (record { first = take e s; rest = drop (e + 1) s }) →
+      Means s Invalid (λ (c : Connection). writing (domainOf c) (firstString s))
   unfolding writing
-  write-not f = invalid-means s _ (λ d. ap (writing d) f ∙ asking-not d (write (drop (e + 1) s)) s e h)
+  write-not f = invalid-means s _ (λ c. ap (writing (domainOf c)) f ∙ asking-not (domainOf c) (rules.write (drop (e + 1) s)) s e h)
 
 -- a payload with no first string
-pub write-other : (s : Octets) → Untold s 0 none ⊎ Untold s 0 (some []) → Means s Invalid (λ (d : Domain). writing d (firstString s))
+pub write-other : (s : Octets) → Untold s 0 none ⊎ Untold s 0 (some []) → Means s Invalid (λ (c : Connection). writing (domainOf c) (firstString s))
 unfolding writing
 write-other s h =
     let f : firstString s ≡ none = ⊎-elim (λ (u : Untold s 0 none). u .none-first) (λ (u : Untold s 0 (some [])). u .none-first) h in
-    invalid-means s _ (λ d. ap (writing d) f)
+    invalid-means s _ (λ c. ap (writing (domainOf c)) f)

@@ -10,7 +10,7 @@ use lib.ListN.{length, take}
 use borrow.Author.Tests.{eq-eqb, ne-eqb}
 use Rattle.rules.specs.Size.{lastDomain}
 use Rattle.rules.specs.Octets.{Octets, text, nul, same, numberIn, signed}
-use Rattle.rules.specs.Path.{Domain}
+use Rattle.rules.specs.Path.{Domain, Connection, domainOf}
 use Rattle.rules.specs.Payload as rules
 use Rattle.rules.specs.Payload.{invalid, request, strings, ofDomain, introducePayload, introducingOf, bare, startPayload, endPayload}
 use Rattle.rules.proofs.Decimals.{range-bounds}
@@ -34,9 +34,9 @@ unfolding ofDomain
 of-one low f x = refl
 
 pub domain-other : (s : Octets) (low : ℕ) (f : Domain → rules.Request) → ((e : ℕ) → partsOf (strings s) ≡ One e → ⊥) →
-    Means s Invalid (λ (d : Domain). ofDomain low f (strings s))
+    Means s Invalid (λ (c : Connection). ofDomain low f (strings s))
 unfolding partsOf ofDomain
-domain-other s low f h = invalid-means s _ (λ d. by (strings s) h)
+domain-other s low f h = invalid-means s _ (λ _. by (strings s) h)
   where
     by : (o : Option (List Octets)) → ((e : ℕ) → partsOf o ≡ One e → ⊥) → ofDomain low f o ≡ invalid
     by none h = refl
@@ -48,8 +48,9 @@ module _ (s : Octets) (e : ℕ) (one : OneString s e) where
   of-domain-at : (low : ℕ) (f : Domain → rules.Request) (o : Option ℕ) → numberIn low lastDomain (take e s) ≡ o → ofDomain low f (strings s) ≡ answered f o
   of-domain-at low f o h = ap (ofDomain low f) (one .all) ∙ (of-one low f (take e s) ∙ ap (answered f) h)
 
-  pub domain-not : (low : ℕ) (f : Domain → rules.Request) → numberIn low lastDomain (take e s) ≡ none → Means s Invalid (λ (d : Domain). ofDomain low f (strings s))
-  domain-not low f h = invalid-means s _ (λ d. of-domain-at low f none h)
+  pub domain-not : (low : ℕ) (f : Domain → rules.Request) → numberIn low lastDomain (take e s) ≡ none →
+      Means s Invalid (λ (c : Connection). ofDomain low f (strings s))
+  domain-not low f h = invalid-means s _ (λ _. of-domain-at low f none h)
 
   told-by : (d : Domain) (a b : Bool) (i : ℕ) →
       meant d s (cond a (Release i) (cond b (DomainPath i) (IsIntroduced i)))
@@ -65,20 +66,22 @@ module _ (s : Octets) (e : ℕ) (one : OneString s e) where
   told-sound false false i l h = h
 
   pub domain-means : (type i : ℕ) (r : Request) → numberIn (lowOf type) lastDomain (take e s) ≡ some i → r ≡ toldOf type i →
-      Means s r (λ (d : Domain). ofDomain (lowOf type) (aboutOf type) (strings s))
+      Means s r (λ (c : Connection). ofDomain (lowOf type) (aboutOf type) (strings s))
   unfolding toldOf aboutOf lowOf
   domain-means type i r h t =
       let b = range-bounds _ _ _ _ h in
       record {
-        meaning = λ d. ap (meant d s) t ∙ (told-by d (eqb type 9) (eqb type 10) i ∙ sym (of-domain-at (lowOf type) (aboutOf type) (some i) h));
+        meaning = λ c.
+            ap (meant (domainOf c) s) t
+            ∙ (told-by (domainOf c) (eqb type 9) (eqb type 10) i ∙ sym (of-domain-at (lowOf type) (aboutOf type) (some i) h));
         sound = subst⁻¹ (Sound s) t (told-sound (eqb type 9) (eqb type 10) i (b .0) (b .1));
       }
 
 -- ── INTRODUCE ──
 
-pub introduce-other : (s : Octets) → ((a b c : ℕ) → partsOf (strings s) ≡ Three a b c → ⊥) → Means s Invalid (λ (d : Domain). introducePayload (strings s))
+pub introduce-other : (s : Octets) → ((a b c : ℕ) → partsOf (strings s) ≡ Three a b c → ⊥) → Means s Invalid (λ (c : Connection). introducePayload (strings s))
 unfolding partsOf introducePayload
-introduce-other s h = invalid-means s _ (λ d. by (strings s) h)
+introduce-other s h = invalid-means s _ (λ _. by (strings s) h)
   where
     by : (o : Option (List Octets)) → ((a b c : ℕ) → partsOf o ≡ Three a b c → ⊥) → introducePayload o ≡ invalid
     by none h = refl
@@ -94,28 +97,28 @@ module _ (s : Octets) (a b c : ℕ) (h : ThreeStrings s a b c) where
   unfolding introducePayload
   introducing-at = ap introducePayload (h .all)
 
-  pub introduce-no-domain : numberIn 1 lastDomain (take a s) ≡ none → Means s Invalid (λ (d : Domain). introducePayload (strings s))
+  pub introduce-no-domain : numberIn 1 lastDomain (take a s) ≡ none → Means s Invalid (λ (c : Connection). introducePayload (strings s))
   unfolding introducingOf
-  introduce-no-domain x = invalid-means s _ (λ d. introducing-at ∙ rw x)
+  introduce-no-domain x = invalid-means s _ (λ _. introducing-at ∙ rw x)
 
   module _ (i : ℕ) (x : numberIn 1 lastDomain (take a s) ≡ some i) where
-    pub introduce-no-page : signed (part (a + 1) b s) ≡ none → Means s Invalid (λ (d : Domain). introducePayload (strings s))
+    pub introduce-no-page : signed (part (a + 1) b s) ≡ none → Means s Invalid (λ (c : Connection). introducePayload (strings s))
     unfolding introducingOf
-    introduce-no-page y = invalid-means s _ (λ d. introducing-at ∙ rw (x, y))
+    introduce-no-page y = invalid-means s _ (λ _. introducing-at ∙ rw (x, y))
 
     module _ (page : ℕ) (y : signed (part (a + 1) b s) ≡ some page) where
-      pub introduce-no-channel : numberIn 0 (2 ^ 32 - 1) (part (b + 1) c s) ≡ none → Means s Invalid (λ (d : Domain). introducePayload (strings s))
+      pub introduce-no-channel : numberIn 0 (2 ^ 32 - 1) (part (b + 1) c s) ≡ none → Means s Invalid (λ (c : Connection). introducePayload (strings s))
       unfolding introducingOf
-      introduce-no-channel z = invalid-means s _ (λ d. introducing-at ∙ rw (x, y, z))
+      introduce-no-channel z = invalid-means s _ (λ _. introducing-at ∙ rw (x, y, z))
 
       pub introduce-means : (channel : ℕ) → numberIn 0 (2 ^ 32 - 1) (part (b + 1) c s) ≡ some channel →
-          Means s (Introduce i page channel) (λ (d : Domain). introducePayload (strings s))
+          Means s (Introduce i page channel) (λ (c : Connection). introducePayload (strings s))
       unfolding meant introducingOf
       introduce-means channel z =
           let l = range-bounds _ _ _ _ x in
           let m = range-bounds _ _ _ _ z in
           record {
-            meaning = λ d. sym (introducing-at ∙ rw (x, y, z));
+            meaning = λ _. sym (introducing-at ∙ rw (x, y, z));
             sound = record { low = l .0; high = l .1; channel = omega (arith, m .1) };
           }
 
@@ -130,37 +133,37 @@ module _ (s : Octets) where
   unfolding startPayload
   starting-out tx e = rw (eq-eqb _ _ e)
 
-  pub start-inside : (tx : ℕ) → (tx ≡ 0 → ⊥) → Means s Invalid (λ (d : Domain). startPayload tx s)
+  pub start-inside : (tx : ℕ) → (tx ≡ 0 → ⊥) → Means s Invalid (λ (c : Connection). startPayload tx s)
   unfolding startPayload
-  start-inside tx e = invalid-means s _ (λ d. rw (ne-eqb _ _ e))
+  start-inside tx e = invalid-means s _ (λ _. rw (ne-eqb _ _ e))
 
-  pub start-means : (tx : ℕ) → tx ≡ 0 → same s nul ≡ true → Means s Start (λ (d : Domain). startPayload tx s)
+  pub start-means : (tx : ℕ) → tx ≡ 0 → same s nul ≡ true → Means s Start (λ (c : Connection). startPayload tx s)
   unfolding meant
-  start-means tx e h = record { meaning = λ d. sym (starting-out tx e ∙ bare-by rules.start true h); sound = tt }
+  start-means tx e h = record { meaning = λ _. sym (starting-out tx e ∙ bare-by rules.start true h); sound = tt }
 
-  pub start-not : (tx : ℕ) → tx ≡ 0 → same s nul ≡ false → Means s Invalid (λ (d : Domain). startPayload tx s)
-  start-not tx e h = invalid-means s _ (λ d. starting-out tx e ∙ bare-by rules.start false h)
+  pub start-not : (tx : ℕ) → tx ≡ 0 → same s nul ≡ false → Means s Invalid (λ (c : Connection). startPayload tx s)
+  start-not tx e h = invalid-means s _ (λ _. starting-out tx e ∙ bare-by rules.start false h)
 
-  pub reset-means : same s nul ≡ true → Means s Reset (λ (d : Domain). bare rules.reset s)
+  pub reset-means : same s nul ≡ true → Means s Reset (λ (c : Connection). bare rules.reset s)
   unfolding meant
-  reset-means h = record { meaning = λ d. sym (bare-by rules.reset true h); sound = tt }
+  reset-means h = record { meaning = λ _. sym (bare-by rules.reset true h); sound = tt }
 
-  pub reset-not : same s nul ≡ false → Means s Invalid (λ (d : Domain). bare rules.reset s)
-  reset-not h = invalid-means s _ (λ d. bare-by rules.reset false h)
+  pub reset-not : same s nul ≡ false → Means s Invalid (λ (c : Connection). bare rules.reset s)
+  reset-not h = invalid-means s _ (λ _. bare-by rules.reset false h)
 
   ending-by : (b c : Bool) → same s (text "T" ++ nul) ≡ b → same s (text "F" ++ nul) ≡ c →
       endPayload s ≡ cond b (request (rules.end true)) (cond c (request (rules.end false)) invalid)
   unfolding endPayload
   ending-by b c g h = rw (g, h)
 
-  pub end-commit : same s (84 ∷ 0 ∷ []) ≡ true → Means s (End true) (λ (d : Domain). endPayload s)
+  pub end-commit : same s (84 ∷ 0 ∷ []) ≡ true → Means s (End true) (λ (c : Connection). endPayload s)
   unfolding meant text
-  end-commit h = record { meaning = λ d. sym (ending-by true (same s (text "F" ++ nul)) h refl); sound = tt }
+  end-commit h = record { meaning = λ _. sym (ending-by true (same s (text "F" ++ nul)) h refl); sound = tt }
 
-  pub end-drop : same s (84 ∷ 0 ∷ []) ≡ false → same s (70 ∷ 0 ∷ []) ≡ true → Means s (End false) (λ (d : Domain). endPayload s)
+  pub end-drop : same s (84 ∷ 0 ∷ []) ≡ false → same s (70 ∷ 0 ∷ []) ≡ true → Means s (End false) (λ (c : Connection). endPayload s)
   unfolding meant text
-  end-drop g h = record { meaning = λ d. sym (ending-by false true g h); sound = tt }
+  end-drop g h = record { meaning = λ _. sym (ending-by false true g h); sound = tt }
 
-  pub end-not : same s (84 ∷ 0 ∷ []) ≡ false → same s (70 ∷ 0 ∷ []) ≡ false → Means s Invalid (λ (d : Domain). endPayload s)
+  pub end-not : same s (84 ∷ 0 ∷ []) ≡ false → same s (70 ∷ 0 ∷ []) ≡ false → Means s Invalid (λ (c : Connection). endPayload s)
   unfolding text
-  end-not g h = invalid-means s _ (λ d. ending-by false false g h)
+  end-not g h = invalid-means s _ (λ _. ending-by false false g h)

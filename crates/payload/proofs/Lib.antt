@@ -8,4 +8,4 @@ pub mod WatchLaws
 pub mod SettingLaws
 pub mod SettingEntries
 pub mod ParseLaws
-pub mod Told
+pub mod Kept

@@ -8,24 +8,19 @@ use lib.Seq.{take-all}
 use borrow.Author.Tests.{ne-eqb}
 use Rattle.rules.specs.Size.{mostEntries}
 use Rattle.rules.specs.Octets.{Octets}
-use Rattle.rules.specs.Path.{Domain}
+use Rattle.rules.specs.Path.{Domain, Connection, domainOf}
 use Rattle.rules.specs.Node as nodes
-use Rattle.rules.specs.Payload.{Parsed, request, ask, setPerms, strings, plain, ofDomain, parse}
-use Rattle.payload.specs.Meaning.{namesAt, entryMeant, blank, othersMeant, firstOthers, meant, kept, requestKept, askKept, Means}
+use Rattle.rules.specs.Payload as rules
+use Rattle.rules.specs.Payload.{Parsed, request, strings, plain, ofDomain, parse}
+use Rattle.payload.specs.Meaning.{namesAt, entryMeant, blank, othersMeant, firstOthers, askMeant, meant, kept, requestKept, askKept, Means}
 use Rattle.payload.specs.Answers.{askOf, lowOf, aboutOf}
-use Rattle.payload.specs.declared.answer.Entries.{Entries}
-use Rattle.payload.specs.declared.answer.Path.{Path}
+use Rattle.payload.specs.declared.answer.Ask.{Ask}
+use Rattle.payload.specs.declared.answer.Ask.the-variants as ask
 use Rattle.payload.specs.declared.answer.Request.{Request}
 use Rattle.payload.specs.declared.answer.Request.the-variants.{
   Unknown,
   Invalid,
-  Directory,
-  Read,
-  GetPerms,
-  Write,
-  Mkdir,
-  Rm,
-  SetPerms,
+  Ask as Asked,
   Watch,
   Unwatch,
   Start,
@@ -57,23 +52,23 @@ kept-others (suc (suc (suc (suc n)))) a b c =
     let k : suc (suc (suc (length (replicate n blank)))) - 3 ≡ n = omega arith in
     ap firstOthers e ∙ (ap (λ (j : ℕ). a ∷ b ∷ c ∷ replicate j blank) k ∙ sym e)
 
-kept-set : (d : Domain) (s : Octets) (p : Path) (es : Entries) → kept (meant d s (SetPerms p es)) ≡ meant d s (SetPerms p es)
-unfolding meant kept requestKept askKept othersMeant
-kept-set d s p es =
-    ap (λ (l : List nodes.Entry). request (ask (setPerms (entryMeant (es .first)) l) (namesAt d s p)))
+kept-ask : (s : Octets) (a : Ask) → askKept (askMeant s a) ≡ askMeant s a
+unfolding askKept othersMeant
+kept-ask s ask.Directory = refl
+kept-ask s ask.Read = refl
+kept-ask s ask.GetPerms = refl
+kept-ask s (ask.Write from) = refl
+kept-ask s ask.Mkdir = refl
+kept-ask s ask.Rm = refl
+kept-ask s (ask.SetPerms es) =
+    ap (rules.setPerms (entryMeant (es .first)))
     (kept-others (es .count) (entryMeant (es .second)) (entryMeant (es .third)) (entryMeant (es .fourth)))
 
 pub kept-meant : (d : Domain) (s : Octets) (r : Request) → kept (meant d s r) ≡ meant d s r
 unfolding meant kept requestKept askKept
 kept-meant d s Unknown = refl
 kept-meant d s Invalid = refl
-kept-meant d s (Directory p) = refl
-kept-meant d s (Read p) = refl
-kept-meant d s (GetPerms p) = refl
-kept-meant d s (Write p v) = refl
-kept-meant d s (Mkdir p) = refl
-kept-meant d s (Rm p) = refl
-kept-meant d s (SetPerms p es) = kept-set d s p es
+kept-meant d s (Asked a p) = ap (λ (q : rules.Ask). request (rules.ask q (namesAt d s p))) (kept-ask s a)
 kept-meant d s (Watch p a e k) = refl
 kept-meant d s (Unwatch p a e) = refl
 kept-meant d s Start = refl
@@ -88,26 +83,26 @@ kept-meant d s Reset = refl
 
 module _ (s : Octets) (r : Request) (type tx n : ℕ) (e : type ≡ n) where
   -- a type's own meaning, of what is kept already
-  pub parsed-kept : (q : Domain → Parsed) → Means s r (λ (d : Domain). kept (q d)) → ((d : Domain) → parse d n tx s ≡ q d) →
-      Means s r (λ (d : Domain). kept (parse d type tx s))
+  pub parsed-kept : (q : Connection → Parsed) → Means s r (λ (c : Connection). kept (q c)) → ((c : Connection) → parse c n tx s ≡ q c) →
+      Means s r (λ (c : Connection). kept (parse c type tx s))
   parsed-kept q m f =
       record {
-        meaning = λ d. m .meaning d ∙ sym (ap (λ (k : ℕ). kept (parse d k tx s)) e ∙ ap kept (f d));
+        meaning = λ c. m .meaning c ∙ sym (ap (λ (k : ℕ). kept (parse c k tx s)) e ∙ ap kept (f c));
         sound = m .sound;
       }
 
   -- the same of a meaning that is kept whole
-  pub parsed : (q : Domain → Parsed) → Means s r q → ((d : Domain) → parse d n tx s ≡ q d) → Means s r (λ (d : Domain). kept (parse d type tx s))
+  pub parsed : (q : Connection → Parsed) → Means s r q → ((c : Connection) → parse c n tx s ≡ q c) → Means s r (λ (c : Connection). kept (parse c type tx s))
   parsed q m f =
-      parsed-kept q (record { meaning = λ d. sym (kept-meant d s r) ∙ ap kept (m .meaning d); sound = m .sound }) f
+      parsed-kept q (record { meaning = λ c. sym (kept-meant (domainOf c) s r) ∙ ap kept (m .meaning c); sound = m .sound }) f
 
-  pub plain-parsed : Means s r (λ (d : Domain). plain d (askOf type) (strings s)) → ((d : Domain) → parse d n tx s ≡ plain d (askOf n) (strings s)) →
-      Means s r (λ (d : Domain). kept (parse d type tx s))
-  plain-parsed m f = parsed _ m (λ d. f d ∙ ap (λ (k : ℕ). plain d (askOf k) (strings s)) (sym e))
+  pub plain-parsed : Means s r (λ (c : Connection). plain (domainOf c) (askOf type) (strings s)) →
+      ((c : Connection) → parse c n tx s ≡ plain (domainOf c) (askOf n) (strings s)) → Means s r (λ (c : Connection). kept (parse c type tx s))
+  plain-parsed m f = parsed _ m (λ c. f c ∙ ap (λ (k : ℕ). plain (domainOf c) (askOf k) (strings s)) (sym e))
 
-  pub domain-parsed : Means s r (λ (d : Domain). ofDomain (lowOf type) (aboutOf type) (strings s)) →
-      ((d : Domain) → parse d n tx s ≡ ofDomain (lowOf n) (aboutOf n) (strings s)) → Means s r (λ (d : Domain). kept (parse d type tx s))
-  domain-parsed m f = parsed _ m (λ d. f d ∙ ap (λ (k : ℕ). ofDomain (lowOf k) (aboutOf k) (strings s)) (sym e))
+  pub domain-parsed : Means s r (λ (c : Connection). ofDomain (lowOf type) (aboutOf type) (strings s)) →
+      ((c : Connection) → parse c n tx s ≡ ofDomain (lowOf n) (aboutOf n) (strings s)) → Means s r (λ (c : Connection). kept (parse c type tx s))
+  domain-parsed m f = parsed _ m (λ c. f c ∙ ap (λ (k : ℕ). ofDomain (lowOf k) (aboutOf k) (strings s)) (sym e))
 
 abbrev Not : ℕ → ℕ → Type 0
 Not type n = type ≡ n → ⊥
@@ -116,7 +111,7 @@ Not type n = type ≡ n → ⊥
 pub unknown-parsed : (s : Octets) (type tx : ℕ) →
     Not type 1 → Not type 2 → Not type 3 → Not type 4 → Not type 5 → Not type 6 → Not type 7 → Not type 8 →
     Not type 9 → Not type 10 → Not type 11 → Not type 12 → Not type 13 → Not type 14 → Not type 17 → Not type 21 →
-    Means s Unknown (λ (d : Domain). kept (parse d type tx s))
+    Means s Unknown (λ (c : Connection). kept (parse c type tx s))
 unfolding parse meant kept
 unknown-parsed s type tx a b c d e f g h i j k l m n o p =
     record {

@@ -9,7 +9,7 @@ use lib.Dec.{eqb}
 use lib.ListN.{length, take}
 use Rattle.rules.specs.Size.{deepestWatch}
 use Rattle.rules.specs.Octets.{Octets, numberIn}
-use Rattle.rules.specs.Path.{Domain, Given, malformed, absolute, relative, special, given}
+use Rattle.rules.specs.Path.{Domain, Connection, domainOf, Given, malformed, absolute, relative, special, given}
 use Rattle.rules.specs.Payload as rules
 use Rattle.rules.specs.Payload.{invalid, strings, placeOf, depthFor, watchingTo, watchPayload, unwatchPayload}
 use Rattle.rules.proofs.Decimals.{range-bounds}
@@ -61,17 +61,17 @@ module _ (s : Octets) (e : ℕ) (h : placedOf e (formOf (given (take e s))) ≡ 
   unplaced : (d : Domain) → placeOf d (given (take e s)) ≡ none
   unplaced d = unplaced-by d e (given (take e s)) h
 
-  pub watch-all-not : (t : Octets) → Means s Invalid (λ (d : Domain). watchPayload d (some (take e s ∷ t ∷ [])))
+  pub watch-all-not : (t : Octets) → Means s Invalid (λ (c : Connection). watchPayload (domainOf c) (some (take e s ∷ t ∷ [])))
   unfolding watchPayload
-  watch-all-not t = invalid-means s _ (λ d. rw (unplaced d, watchPayload))
+  watch-all-not t = invalid-means s _ (λ c. rw (unplaced (domainOf c), watchPayload))
 
-  pub watch-to-not : (t k : Octets) → Means s Invalid (λ (d : Domain). watchPayload d (some (take e s ∷ t ∷ k ∷ [])))
+  pub watch-to-not : (t k : Octets) → Means s Invalid (λ (c : Connection). watchPayload (domainOf c) (some (take e s ∷ t ∷ k ∷ [])))
   unfolding watchPayload
-  watch-to-not t k = invalid-means s _ (λ d. rw (unplaced d, watchPayload))
+  watch-to-not t k = invalid-means s _ (λ c. rw (unplaced (domainOf c), watchPayload))
 
-  pub unwatch-not : (t : Octets) → strings s ≡ some (take e s ∷ t ∷ []) → Means s Invalid (λ (d : Domain). unwatchPayload d (strings s))
+  pub unwatch-not : (t : Octets) → strings s ≡ some (take e s ∷ t ∷ []) → Means s Invalid (λ (c : Connection). unwatchPayload (domainOf c) (strings s))
   unfolding unwatchPayload
-  unwatch-not t all = invalid-means s _ (λ d. ap (unwatchPayload d) all ∙ rw (unplaced d, unwatchPayload))
+  unwatch-not t all = invalid-means s _ (λ c. ap (unwatchPayload (domainOf c)) all ∙ rw (unplaced (domainOf c), unwatchPayload))
 
 module _ (s : Octets) (e b : ℕ) (p : Path) (low : e < b) (high : b < length s) (h : placedOf e (formOf (given (take e s))) ≡ At p) where
   told : IsPlaced s e p
@@ -91,14 +91,15 @@ module _ (s : Octets) (e b : ℕ) (p : Path) (low : e < b) (high : b < length s)
         depth = x;
       }
 
-  pub watch-all-means : Means s (Watch p (e + 1) b depth.None) (λ (d : Domain). watchPayload d (some (take e s ∷ part (e + 1) b s ∷ [])))
+  pub watch-all-means : Means s (Watch p (e + 1) b depth.None) (λ (c : Connection). watchPayload (domainOf c) (some (take e s ∷ part (e + 1) b s ∷ [])))
   unfolding meant watchPayload
-  watch-all-means = record { meaning = λ d. sym (rw (place-at d, watchPayload)); sound = watch-sound depth.None tt }
+  watch-all-means = record { meaning = λ c. sym (rw (place-at (domainOf c), watchPayload)); sound = watch-sound depth.None tt }
 
-  pub unwatch-means : strings s ≡ some (take e s ∷ part (e + 1) b s ∷ []) → Means s (Unwatch p (e + 1) b) (λ (d : Domain). unwatchPayload d (strings s))
+  pub unwatch-means : strings s ≡ some (take e s ∷ part (e + 1) b s ∷ []) →
+      Means s (Unwatch p (e + 1) b) (λ (c : Connection). unwatchPayload (domainOf c) (strings s))
   unfolding meant unwatchPayload
   unwatch-means all =
-      record { meaning = λ d. sym (ap (unwatchPayload d) all ∙ rw (place-at d, unwatchPayload)); sound = watch-sound depth.None tt }
+      record { meaning = λ c. sym (ap (unwatchPayload (domainOf c)) all ∙ rw (place-at (domainOf c), unwatchPayload)); sound = watch-sound depth.None tt }
 
   module _ (x : Octets) where
     watching-at : (d : Domain) (o : Option ℕ) → numberIn 0 deepestWatch x ≡ o →
@@ -106,34 +107,35 @@ module _ (s : Octets) (e b : ℕ) (p : Path) (low : e < b) (high : b < length s)
     unfolding watchPayload
     watching-at d o n = rw (place-at d, watchPayload) (ap (watchingTo (placeAt d s p) (part (e + 1) b s)) n)
 
-    pub watch-no-depth : numberIn 0 deepestWatch x ≡ none → Means s Invalid (λ (d : Domain). watchPayload d (some (take e s ∷ part (e + 1) b s ∷ x ∷ [])))
+    pub watch-no-depth : numberIn 0 deepestWatch x ≡ none →
+        Means s Invalid (λ (c : Connection). watchPayload (domainOf c) (some (take e s ∷ part (e + 1) b s ∷ x ∷ [])))
     unfolding watchingTo
-    watch-no-depth n = invalid-means s _ (λ d. watching-at d none n)
+    watch-no-depth n = invalid-means s _ (λ c. watching-at (domainOf c) none n)
 
     module _ (k : ℕ) (n : numberIn 0 deepestWatch x ≡ some k) where
-      pub watch-unfit : depthFits p k ≡ false → Means s Invalid (λ (d : Domain). watchPayload d (some (take e s ∷ part (e + 1) b s ∷ x ∷ [])))
+      pub watch-unfit : depthFits p k ≡ false → Means s Invalid (λ (c : Connection). watchPayload (domainOf c) (some (take e s ∷ part (e + 1) b s ∷ x ∷ [])))
       unfolding watchingTo
-      watch-unfit f = invalid-means s _ (λ d. watching-at d (some k) n ∙ rw (depth-at d k ∙ f, watchingTo))
+      watch-unfit f = invalid-means s _ (λ c. watching-at (domainOf c) (some k) n ∙ rw (depth-at (domainOf c) k ∙ f, watchingTo))
 
       pub watch-to-means : depthFits p k ≡ true →
-          Means s (Watch p (e + 1) b (depth.Given k)) (λ (d : Domain). watchPayload d (some (take e s ∷ part (e + 1) b s ∷ x ∷ [])))
+          Means s (Watch p (e + 1) b (depth.Given k)) (λ (c : Connection). watchPayload (domainOf c) (some (take e s ∷ part (e + 1) b s ∷ x ∷ [])))
       unfolding meant watchingTo
       watch-to-means f =
           record {
-            meaning = λ d. sym (watching-at d (some k) n ∙ rw (depth-at d k ∙ f, watchingTo));
+            meaning = λ c. sym (watching-at (domainOf c) (some k) n ∙ rw (depth-at (domainOf c) k ∙ f, watchingTo));
             sound = watch-sound (depth.Given k) (range-bounds _ _ _ _ n .1);
           }
 
 -- ── payloads of another number of strings ──
 
 pub watch-strings : (s : Octets) (r : Request) (o : Option (List Octets)) → strings s ≡ o →
-    Means s r (λ (d : Domain). watchPayload d o) → Means s r (λ (d : Domain). watchPayload d (strings s))
-watch-strings s r o e m = record { meaning = λ d. m .meaning d ∙ ap (watchPayload d) (sym e); sound = m .sound }
+    Means s r (λ (c : Connection). watchPayload (domainOf c) o) → Means s r (λ (c : Connection). watchPayload (domainOf c) (strings s))
+watch-strings s r o e m = record { meaning = λ c. m .meaning c ∙ ap (watchPayload (domainOf c)) (sym e); sound = m .sound }
 
 module _ (s : Octets) where
-  pub watch-one : (e : ℕ) → partsOf (strings s) ≡ One e → Means s Invalid (λ (d : Domain). watchPayload d (strings s))
+  pub watch-one : (e : ℕ) → partsOf (strings s) ≡ One e → Means s Invalid (λ (c : Connection). watchPayload (domainOf c) (strings s))
   unfolding partsOf watchPayload
-  watch-one e h = invalid-means s _ (λ d. by d (strings s) h)
+  watch-one e h = invalid-means s _ (λ c. by (domainOf c) (strings s) h)
     where
       by : (d : Domain) (o : Option (List Octets)) → partsOf o ≡ One e → watchPayload d o ≡ invalid
       by d none h = refl
@@ -143,9 +145,9 @@ module _ (s : Octets) where
       by d (some (x ∷ y ∷ z ∷ [])) h = absurd (let z : _≡_ {A = ℕ} 0 1 = cc in omega arith)
       by d (some (x ∷ y ∷ z ∷ w ∷ ws)) h = refl
 
-  pub watch-other : partsOf (strings s) ≡ Other → Means s Invalid (λ (d : Domain). watchPayload d (strings s))
+  pub watch-other : partsOf (strings s) ≡ Other → Means s Invalid (λ (c : Connection). watchPayload (domainOf c) (strings s))
   unfolding partsOf watchPayload
-  watch-other h = invalid-means s _ (λ d. by d (strings s) h)
+  watch-other h = invalid-means s _ (λ c. by (domainOf c) (strings s) h)
     where
       by : (d : Domain) (o : Option (List Octets)) → partsOf o ≡ Other → watchPayload d o ≡ invalid
       by d none h = refl
@@ -155,9 +157,9 @@ module _ (s : Octets) where
       by d (some (x ∷ y ∷ z ∷ [])) h = absurd (let z : _≡_ {A = ℕ} 0 1 = cc in omega arith)
       by d (some (x ∷ y ∷ z ∷ w ∷ ws)) h = refl
 
-  pub unwatch-other : ((a b : ℕ) → partsOf (strings s) ≡ Two a b → ⊥) → Means s Invalid (λ (d : Domain). unwatchPayload d (strings s))
+  pub unwatch-other : ((a b : ℕ) → partsOf (strings s) ≡ Two a b → ⊥) → Means s Invalid (λ (c : Connection). unwatchPayload (domainOf c) (strings s))
   unfolding partsOf unwatchPayload
-  unwatch-other h = invalid-means s _ (λ d. by d (strings s) h)
+  unwatch-other h = invalid-means s _ (λ c. by (domainOf c) (strings s) h)
     where
       by : (d : Domain) (o : Option (List Octets)) → ((a b : ℕ) → partsOf o ≡ Two a b → ⊥) → unwatchPayload d o ≡ invalid
       by d none h = refl

@@ -2,6 +2,7 @@
 use mathlib.Core.Bool.{Bool, true, false, cond}
 use mathlib.Core.List.{List, [], _∷_}
 use mathlib.Core.Option.{Option, none, some}
+use mathlib.Core.Path.{_≡_}
 use Prim.Native.Nat.{ℕ, _+_}
 use lib.Dec.{eqb}
 use Rattle.rules.specs.Octets.{Octets}
@@ -10,8 +11,10 @@ use Rattle.rules.specs.Node as nodes
 use Rattle.rules.specs.Payload as rules
 use Rattle.paths.specs.declared.answer.Form.{Form}
 use Rattle.paths.specs.declared.answer.Form.the-variants.{Absolute, Relative, Special, Malformed}
-use Rattle.payload.specs.Meaning.{entryMeant}
+use Rattle.payload.specs.Meaning.{entryMeant, askMeant, AskSound}
 use Rattle.payload.specs.declared.answer.Path.{Path}
+use Rattle.payload.specs.declared.answer.Ask.{Ask}
+use Rattle.payload.specs.declared.answer.Ask.the-variants as ask
 use Rattle.payload.specs.declared.answer.Small.{Small}
 use Rattle.payload.specs.declared.answer.Small.the-variants as small
 use Rattle.payload.specs.declared.answer.Named.{Named}
@@ -25,12 +28,7 @@ use Rattle.payload.specs.declared.answer.Permissions.the-variants as per
 use Rattle.payload.specs.declared.answer.Request.{Request}
 use Rattle.payload.specs.declared.answer.Request.the-variants.{
   Invalid,
-  Directory,
-  Read,
-  GetPerms,
-  Mkdir,
-  Rm,
-  SetPerms,
+  Ask as Asked,
   Release,
   DomainPath,
   IsIntroduced,
@@ -64,6 +62,10 @@ isRoot p = elim (p .form) [ Absolute ↦ eqb (p .end) 1 | Relative ↦ false | S
 unfoldable pub depthFits : Path → ℕ → Bool
 depthFits p k = elim (p .form) [ Absolute ↦ true | Relative ↦ true | Special ↦ eqb k 1 | Malformed ↦ true ]
 
+-- what is asked of a path: on `/` only what may be asked of it
+unfoldable pub askingOf : Octets → Ask → Path → Request
+askingOf s a p = cond (cond (isRoot p) (rules.onRoot (askMeant s a)) true) (Asked a p) Invalid
+
 -- ── the types that share a form of payload ──
 
 -- a path alone: DIRECTORY, READ, GET_PERMS, MKDIR, else RM
@@ -72,10 +74,10 @@ askOf type =
     cond (eqb type 1) rules.directory
     (cond (eqb type 2) rules.read (cond (eqb type 3) rules.getPerms (cond (eqb type 12) rules.mkdir rules.rm)))
 
-unfoldable pub askedOf : ℕ → Path → Request
-askedOf type p =
-    cond (eqb type 1) (Directory p)
-    (cond (eqb type 2) (Read p) (cond (eqb type 3) (GetPerms p) (cond (eqb type 12) (Mkdir p) (cond (isRoot p) Invalid (Rm p)))))
+-- an ask that means q, whatever the payload
+pub record AskIs (a : Ask) (q : rules.Ask) : Type 0 where
+  pub meaning : (s : Octets) → askMeant s a ≡ q
+  pub sound : (s : Octets) → AskSound s a
 
 -- a domain id alone: RELEASE, from 1 on, GET_DOMAIN_PATH, else IS_DOMAIN_INTRODUCED
 unfoldable pub lowOf : ℕ → ℕ
@@ -130,8 +132,6 @@ unfoldable pub entriesIn : Option (List Octets) → Option (List nodes.Entry)
 entriesIn none = none
 entriesIn (some ts) = rules.entriesOf ts
 
--- SET_PERMS: one entry or more, and on `/` the first is domain 0's
-unfoldable pub settingOf : Path → Entries → Request
-settingOf p es =
-    cond (eqb (es .count) 0) Invalid
-    (cond (isRoot p) (cond (eqb (es .first .domain) 0) (SetPerms p es) Invalid) (SetPerms p es))
+-- SET_PERMS: one entry or more
+unfoldable pub settingOf : Octets → Path → Entries → Request
+settingOf s p es = cond (eqb (es .count) 0) Invalid (askingOf s (ask.SetPerms es) p)

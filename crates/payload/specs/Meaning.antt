@@ -7,7 +7,7 @@ use Prim.Native.Nat.{ℕ, _-_, _^_, _<_, _≤_}
 use lib.ListN.{length, take, drop, replicate}
 use Rattle.rules.specs.Size.{lastDomain, deepestWatch, mostEntries}
 use Rattle.rules.specs.Octets.{Octets}
-use Rattle.rules.specs.Path.{Domain, Names, Given, malformed, absolute, relative, special, given, base}
+use Rattle.rules.specs.Path.{Domain, Connection, domainOf, Names, Given, malformed, absolute, relative, special, given, base}
 use Rattle.rules.specs.Node as nodes
 use Rattle.rules.specs.Payload as rules
 use Rattle.paths.specs.Form.{formOf}
@@ -23,13 +23,7 @@ use Rattle.payload.specs.declared.answer.Request.{Request}
 use Rattle.payload.specs.declared.answer.Request.the-variants.{
   Unknown,
   Invalid,
-  Directory,
-  Read,
-  GetPerms,
-  Write,
-  Mkdir,
-  Rm,
-  SetPerms,
+  Ask as Asked,
   Watch,
   Unwatch,
   Start,
@@ -107,13 +101,7 @@ depthMeant depth.None = none
 unfoldable pub meant : Domain → Octets → Request → rules.Parsed
 meant d s Unknown = rules.unknown
 meant d s Invalid = rules.invalid
-meant d s (Directory p) = rules.request (rules.ask rules.directory (namesAt d s p))
-meant d s (Read p) = rules.request (rules.ask rules.read (namesAt d s p))
-meant d s (GetPerms p) = rules.request (rules.ask rules.getPerms (namesAt d s p))
-meant d s (Write p from) = rules.request (rules.ask (rules.write (drop from s)) (namesAt d s p))
-meant d s (Mkdir p) = rules.request (rules.ask rules.mkdir (namesAt d s p))
-meant d s (Rm p) = rules.request (rules.ask rules.rm (namesAt d s p))
-meant d s (SetPerms p es) = rules.request (rules.ask (rules.setPerms (entryMeant (es .first)) (othersMeant es)) (namesAt d s p))
+meant d s (Asked a p) = rules.request (rules.ask (askMeant s a) (namesAt d s p))
 meant d s (Watch p a e k) = rules.request (rules.watch (placeAt d s p) (part a e s) (depthMeant k))
 meant d s (Unwatch p a e) = rules.request (rules.unwatch (placeAt d s p) (part a e s))
 meant d s Start = rules.request rules.start
@@ -184,6 +172,12 @@ AskSound s ask.Mkdir = Unit {0}
 AskSound s ask.Rm = Unit {0}
 AskSound s (ask.SetPerms es) = EntriesSound es
 
+-- a request of a node: it may be asked of its path, whoever sends it
+pub record AskedSound (s : Octets) (a : Ask) (p : Path) : Type 0 where
+  pub path : PathSound s p
+  pub ask : AskSound s a
+  pub proper : (d : Domain) → rules.proper (askMeant s a) (namesAt d s p) ≡ true
+
 abbrev pub DepthSound : Depth → Type 0
 DepthSound (depth.Given k) = k ≤ deepestWatch
 DepthSound depth.None = Unit
@@ -202,13 +196,7 @@ pub record IntroduceSound (i port : ℕ) : Type 0 where
 abbrev pub Sound : Octets → Request → Type 0
 Sound s Unknown = Unit
 Sound s Invalid = Unit
-Sound s (Directory p) = PathSound s p
-Sound s (Read p) = PathSound s p
-Sound s (GetPerms p) = PathSound s p
-Sound s (Write p from) = PathSound s p × (from ≤ length s)
-Sound s (Mkdir p) = PathSound s p
-Sound s (Rm p) = PathSound s p
-Sound s (SetPerms p es) = PathSound s p × EntriesSound es
+Sound s (Asked a p) = AskedSound s a p
 Sound s (Watch p a e k) = WatchSound s p a e k
 Sound s (Unwatch p a e) = WatchSound s p a e depth.None
 Sound s Start = Unit
@@ -220,6 +208,6 @@ Sound s (IsIntroduced i) = i ≤ lastDomain
 Sound s Reset = Unit
 
 -- r is what the rule book makes of the payload, whoever sends it, and its places and numbers are within their bounds
-pub record Means (s : Octets) (r : Request) (q : Domain → rules.Parsed) : Type 0 where
-  pub meaning : (d : Domain) → meant d s r ≡ q d
+pub record Means (s : Octets) (r : Request) (q : Connection → rules.Parsed) : Type 0 where
+  pub meaning : (c : Connection) → meant (domainOf c) s r ≡ q c
   pub sound : Sound s r

@@ -45,20 +45,7 @@ pub enum Request {
     Unknown,
     // a malformed payload
     Invalid,
-    Directory(Path),
-    Read(Path),
-    GetPerms(Path),
-    // the value is the rest of the payload, from `value` on
-    Write {
-        path: Path,
-        value: usize,
-    },
-    Mkdir(Path),
-    Rm(Path),
-    SetPerms {
-        path: Path,
-        entries: Entries,
-    },
+    Ask(Ask, Path),
     // the token is the payload's bytes from `start` to `end`
     Watch {
         path: Path,

@@ -1,9 +1,11 @@
 // Requests of a node.
 ghost use mathlib.Core.Path.{_≡_};
-ghost use Rattle.rules.specs.Path.{Domain};
-ghost use Rattle.rules.specs.Payload.{strings, firstString, plain, writing};
-ghost use Rattle.payload.specs.Meaning.{Means};
-ghost use Rattle.payload.specs.Answers.{askOf, askedOf};
+ghost use Rattle.rules.specs.Octets.{Octets};
+ghost use Rattle.rules.specs.Path.{Connection, domainOf};
+ghost use Rattle.rules.specs.Payload.{onRoot, strings, firstString, plain, writing};
+ghost use Rattle.payload.specs.Meaning.{askMeant, Means};
+ghost use Rattle.payload.specs.Answers.{askOf, AskIs, askingOf};
+use crate::answer::Ask;
 use crate::answer::Named;
 use crate::answer::Path;
 use crate::answer::Request;
@@ -13,29 +15,47 @@ use crate::given::is_root;
 use crate::given::named;
 use crate::parts::Parts;
 use crate::parts::apart;
+use senders::is_control;
 
-// What is asked of a path by a type that carries nothing else.
-fn asked(kind: u32, path: Path) -> Request
-    ensures { λ r. ⌜ r ≡ askedOf kind path ⌝ }
+// Whether the root may be asked: it is not removed, and its owner stays the control domain.
+fn on_root(ask: Ask) -> bool
+    ensures { λ r. ⌜ ((s : Octets) → r ≡ onRoot (askMeant s ask)) ⌝ }
+{
+    match ask {
+        Ask::Rm => false,
+        Ask::SetPerms(entries) => is_control(entries.first.domain),
+        _ => true,
+    }
+}
+
+// What is asked of a path, if the path may be asked so.
+pub fn asking(ask: Ask, path: Path) -> Request
+    ensures { λ r. ⌜ ((s : Octets) → r ≡ askingOf s ask path) ⌝ }
+{
+    if is_root(path) {
+        if !on_root(ask) {
+            return Request::Invalid;
+        }
+    }
+    Request::Ask(ask, path)
+}
+
+// The ask of a type whose payload is a path alone.
+fn ask_of(kind: u32) -> Ask
+    ensures { λ r. ⌜ AskIs r (askOf kind) ⌝ }
 {
     match kind {
-        1 => Request::Directory(path),
-        2 => Request::Read(path),
-        3 => Request::GetPerms(path),
-        12 => Request::Mkdir(path),
-        _ => {
-            if is_root(path) {
-                Request::Invalid
-            } else {
-                Request::Rm(path)
-            }
-        }
+        1 => Ask::Directory,
+        2 => Ask::Read,
+        3 => Ask::GetPerms,
+        12 => Ask::Mkdir,
+        _ => Ask::Rm,
     }
 }
 
 // DIRECTORY, READ, GET_PERMS, MKDIR and RM: a path alone.
 pub fn plain(kind: u32, s: &[u8]) -> Request
-    ensures { λ r. ⌜ Means (now (s .entry)) r (λ (d : Domain). plain d (askOf kind) (strings (now (s .entry)))) ⌝ }
+    ensures { λ r. ⌜ Means (now (s .entry)) r (λ (c : Connection). plain (domainOf c) (askOf kind) (strings (now (s .entry)))) ⌝ }
 {
     let Parts::One(end) = apart(s) else {
         return Request::Invalid;
@@ -43,12 +63,12 @@ pub fn plain(kind: u32, s: &[u8]) -> Request
     let Named::At(path) = named(s, end) else {
         return Request::Invalid;
     };
-    asked(kind, path)
+    asking(ask_of(kind), path)
 }
 
 // WRITE: a path, and the rest is the value.
 pub fn write(s: &[u8]) -> Request
-    ensures { λ r. ⌜ Means (now (s .entry)) r (λ (d : Domain). writing d (firstString (now (s .entry)))) ⌝ }
+    ensures { λ r. ⌜ Means (now (s .entry)) r (λ (c : Connection). writing (domainOf c) (firstString (now (s .entry)))) ⌝ }
 {
     let Taken::String {
         start: _,
@@ -61,8 +81,5 @@ pub fn write(s: &[u8]) -> Request
     let Named::At(path) = named(s, end) else {
         return Request::Invalid;
     };
-    Request::Write {
-        path,
-        value: next.at,
-    }
+    asking(Ask::Write(next.at), path)
 }

@@ -1,6 +1,6 @@
 // Requests about a domain.
 ghost use mathlib.Core.Path.{_≡_};
-ghost use Rattle.rules.specs.Path.{Domain};
+ghost use Rattle.rules.specs.Path.{Connection};
 ghost use Rattle.rules.specs.Payload.{strings, introducePayload, ofDomain};
 ghost use Rattle.payload.specs.Meaning.{Means};
 ghost use Rattle.payload.specs.Answers.{lowOf, aboutOf, toldOf};
@@ -14,7 +14,7 @@ use octets::decimals::signed;
 
 // INTRODUCE: a domain id from 1 on, a page and a channel.
 pub fn introduce(s: &[u8]) -> Request
-    ensures { λ r. ⌜ Means (now (s .entry)) r (λ (d : Domain). introducePayload (strings (now (s .entry)))) ⌝ }
+    ensures { λ r. ⌜ Means (now (s .entry)) r (λ (c : Connection). introducePayload (strings (now (s .entry)))) ⌝ }
 {
     let Parts::Three(a, b, c) = apart(s) else {
         return Request::Invalid;
@@ -57,7 +57,7 @@ fn about(kind: u32, domain: u32) -> Request
 
 // RELEASE, GET_DOMAIN_PATH and IS_DOMAIN_INTRODUCED: a domain id alone.
 pub fn of_domain(kind: u32, s: &[u8]) -> Request
-    ensures { λ r. ⌜ Means (now (s .entry)) r (λ (d : Domain). ofDomain (lowOf kind) (aboutOf kind) (strings (now (s .entry)))) ⌝ }
+    ensures { λ r. ⌜ Means (now (s .entry)) r (λ (c : Connection). ofDomain (lowOf kind) (aboutOf kind) (strings (now (s .entry)))) ⌝ }
 {
     let Parts::One(end) = apart(s) else {
         return Request::Invalid;

@@ -2,10 +2,12 @@
 ghost use mathlib.Core.Path.{_≡_};
 ghost use Prim.Native.Nat.{_^_, _<_, _≤_};
 ghost use lib.ListN.{length, drop};
-ghost use Rattle.rules.specs.Path.{Domain};
+ghost use Rattle.rules.specs.Octets.{Octets};
+ghost use Rattle.rules.specs.Path.{Connection, domainOf};
 ghost use Rattle.rules.specs.Payload.{strings, entryOf, settingAll};
 ghost use Rattle.payload.specs.Meaning.{Means, kept};
 ghost use Rattle.payload.specs.Answers.{permissionMeant, noEntries, withEntry, entriesIn, addedTo, settingOf};
+use crate::answer::Ask;
 use crate::answer::Entries;
 use crate::answer::Entry;
 use crate::answer::Named;
@@ -14,9 +16,9 @@ use crate::answer::Permission;
 use crate::answer::Permissions;
 use crate::answer::Request;
 use crate::answer::Small;
+use crate::asks::asking;
 use crate::cursor::Cursor;
 use crate::cursor::Taken;
-use crate::given::is_root;
 use crate::given::named;
 use crate::numbers::letter;
 use crate::numbers::small;
@@ -97,25 +99,19 @@ fn permissions(s: &[u8], from: Cursor) -> Permissions
     }
 }
 
-// Entries put on a path.
+// Entries put on a path: at least one.
 fn setting(path: Path, entries: Entries) -> Request
-    ensures { λ r. ⌜ r ≡ settingOf path entries ⌝ }
+    ensures { λ r. ⌜ ((s : Octets) → r ≡ settingOf s path entries) ⌝ }
 {
     if entries.count == 0 {
         return Request::Invalid;
     }
-    if is_root(path) {
-        let owner = entries.first;
-        if owner.domain != 0 {
-            return Request::Invalid;
-        }
-    }
-    Request::SetPerms { path, entries }
+    asking(Ask::SetPerms(entries), path)
 }
 
 // SET_PERMS: a path and one entry or more.
 pub fn set_perms(s: &[u8]) -> Request
-    ensures { λ r. ⌜ Means (now (s .entry)) r (λ (d : Domain). kept (settingAll d (strings (now (s .entry))))) ⌝ }
+    ensures { λ r. ⌜ Means (now (s .entry)) r (λ (c : Connection). kept (settingAll (domainOf c) (strings (now (s .entry))))) ⌝ }
 {
     let Taken::String {
         start: _,

@@ -3,7 +3,7 @@ ghost use mathlib.Core.List.{[], _∷_};
 ghost use mathlib.Core.Option.{some};
 ghost use Prim.Native.Nat.{_+_, _<_};
 ghost use lib.ListN.{length, take};
-ghost use Rattle.rules.specs.Path.{Domain};
+ghost use Rattle.rules.specs.Path.{Connection, domainOf};
 ghost use Rattle.rules.specs.Payload.{strings, watchPayload, unwatchPayload};
 ghost use Rattle.payload.specs.Strings.{part};
 ghost use Rattle.payload.specs.Meaning.{Means};
@@ -20,7 +20,8 @@ use crate::parts::apart;
 // A path that ends at a and a token that ends at b.
 fn watch_all(s: &[u8], a: usize, b: usize) -> Request
     requires { ⌜ (a < b) × (b < length (now s)) ⌝ }
-    ensures { λ r. ⌜ Means (now (s .entry)) r (λ (d : Domain). watchPayload d (some (take a (now (s .entry)) ∷ part (a + 1) b (now (s .entry)) ∷ []))) ⌝ }
+    ensures { λ r. ⌜ Means (now (s .entry)) r (λ (c : Connection). watchPayload (domainOf c)
+        (some (take a (now (s .entry)) ∷ part (a + 1) b (now (s .entry)) ∷ []))) ⌝ }
 {
     let Named::At(path) = placed(s, a) else {
         return Request::Invalid;
@@ -36,7 +37,7 @@ fn watch_all(s: &[u8], a: usize, b: usize) -> Request
 // A path that ends at a, a token that ends at b and a depth that ends at c.
 fn watch_to(s: &[u8], a: usize, b: usize, c: usize) -> Request
     requires { ⌜ (a < b) × (b < c) × (c < length (now s)) ⌝ }
-    ensures { λ r. ⌜ Means (now (s .entry)) r (λ (d : Domain). watchPayload d
+    ensures { λ r. ⌜ Means (now (s .entry)) r (λ (sender : Connection). watchPayload (domainOf sender)
         (some (take a (now (s .entry)) ∷ part (a + 1) b (now (s .entry)) ∷ part (b + 1) c (now (s .entry)) ∷ []))) ⌝ }
 {
     let Named::At(path) = placed(s, a) else {
@@ -60,7 +61,7 @@ fn watch_to(s: &[u8], a: usize, b: usize, c: usize) -> Request
 
 // WATCH: a path or an event's name, a token, and perhaps a depth.
 pub fn watch(s: &[u8]) -> Request
-    ensures { λ r. ⌜ Means (now (s .entry)) r (λ (d : Domain). watchPayload d (strings (now (s .entry)))) ⌝ }
+    ensures { λ r. ⌜ Means (now (s .entry)) r (λ (c : Connection). watchPayload (domainOf c) (strings (now (s .entry)))) ⌝ }
 {
     match apart(s) {
         Parts::Two(a, b) => watch_all(s, a, b),
@@ -72,7 +73,7 @@ pub fn watch(s: &[u8]) -> Request
 
 // UNWATCH: a path or an event's name, and a token.
 pub fn unwatch(s: &[u8]) -> Request
-    ensures { λ r. ⌜ Means (now (s .entry)) r (λ (d : Domain). unwatchPayload d (strings (now (s .entry)))) ⌝ }
+    ensures { λ r. ⌜ Means (now (s .entry)) r (λ (c : Connection). unwatchPayload (domainOf c) (strings (now (s .entry)))) ⌝ }
 {
     let Parts::Two(a, b) = apart(s) else {
         return Request::Invalid;

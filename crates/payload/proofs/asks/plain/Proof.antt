@@ -1,7 +1,7 @@
-use mathlib.Core.List.{[], _∷_}
-use types.Run.{miss}
 -- A path alone, if it is one.
 use mathlib.Core.Path.{sym, _∙_}
+use mathlib.Core.List.{[], _∷_}
+use types.Run.{miss}
 use native.Mathlib.Omega.{arith}
 use Rattle.payload.proofs.PartsLaws.{OneString, one-told}
 use Rattle.payload.proofs.AskLaws.{plain-other, plain-not, plain-means}
@@ -35,14 +35,19 @@ returns-2 c =
     let p = c .before .before in
     plain-not _ _ (sym (p .named .ensures) ∙ c .enum-told .given .1) _ (one (p .before .before) .all)
 
-asked-requires : tie.Need-asked-requires
-asked-requires c κs = search needs
+ask-of-requires : tie.Need-ask-of-requires
+ask-of-requires c κs = search needs
+
+asking-requires : tie.Need-asking-requires
+asking-requires c κs = search needs
 
 returns-3 : tie.Need-returns-3
 returns-3 c =
-    let p = c .before .before .before .before in
+    let at-path = c .before .before .before in
+    let p = at-path .before .before in
     let o = one (p .before .before) in
-    plain-means _ _ _ (o .high) (sym (p .named .ensures) ∙ c .before .before .path .given .1) _ _ (o .all) (c .asked .ensures)
+    let is-path = sym (p .named .ensures) ∙ at-path .path .given .1 in
+    plain-means _ _ _ (o .high) is-path _ _ _ (o .all) (c .before .ask-of .ensures) (c .asking .ensures _)
 
 pub plain-spec : {M : Type 1} → statement M
 plain-spec =
@@ -55,5 +60,6 @@ plain-spec =
     enum-known-path
     enum-told
     returns-2
-    asked-requires
+    ask-of-requires
+    asking-requires
     returns-3)

@@ -48,12 +48,16 @@ returns-2 c =
     let p = c .before .before in
     write-not _ _ (sym (p .named .ensures) ∙ c .enum-told .given .1) (first-told _ _ _ _ (found (p .before .before)))
 
+asking-requires : tie.Need-asking-requires
+asking-requires c κs = search needs
+
 returns-3 : tie.Need-returns-3
 returns-3 c =
-    let p = c .before .before .before in
+    let p = c .before .before .before .before in
     let f = found (p .before .before) in
     let t = string-told _ _ _ _ _ f in
-    write-means _ _ _ (t .string .high) (sym (p .named .ensures) ∙ c .before .path .given .1) _ (t .goes-on) (first-told _ _ _ _ f)
+    let is-path = sym (p .named .ensures) ∙ c .before .before .path .given .1 in
+    write-means _ _ _ (t .string .high) is-path _ _ (t .goes-on) (first-told _ _ _ _ f) (c .asking .ensures _)
 
 pub write-spec : {M : Type 1} → statement M
 write-spec =
@@ -67,4 +71,5 @@ write-spec =
     enum-known-path
     enum-told
     returns-2
+    asking-requires
     returns-3)

@@ -67,8 +67,12 @@ setting-requires c κs = search needs
 
 returns-4 : tie.Need-returns-4
 returns-4 c =
-    setting-means _ _ _ _ (found (c .before .before .before .before .before .before .before .before .before .before)) _ (sym (c .before .before .before .before .named .ensures) ∙ c .before .before .path .given .1) _ _
-    (sym (c .before .before .before .before .before .before .before .before .permissions .ensures) ∙ c .before .before .before .before .before .before .entries .given .1) (c .setting .ensures)
+    let at-path = c .before .before in
+    let p = at-path .before .before in
+    let at-entries = p .before .before in
+    let q = at-entries .before .before in
+    let are-entries = sym (q .permissions .ensures) ∙ at-entries .entries .given .1 in
+    setting-means _ _ _ _ (found (q .before .before)) _ (sym (p .named .ensures) ∙ at-path .path .given .1) _ _ are-entries (c .setting .ensures _)
 
 pub set-perms-spec : {M : Type 1} → statement M
 set-perms-spec =
