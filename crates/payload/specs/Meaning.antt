@@ -17,6 +17,8 @@ use Rattle.payload.specs.declared.answer.Depth.{Depth}
 use Rattle.payload.specs.declared.answer.Depth.the-variants as depth
 use Rattle.payload.specs.declared.answer.Entry.{Entry}
 use Rattle.payload.specs.declared.answer.Entries.{Entries}
+use Rattle.payload.specs.declared.answer.Ask.{Ask}
+use Rattle.payload.specs.declared.answer.Ask.the-variants as ask
 use Rattle.payload.specs.declared.answer.Request.{Request}
 use Rattle.payload.specs.declared.answer.Request.the-variants.{
   Unknown,
@@ -82,6 +84,18 @@ othersMeant es =
 -- the entries after the owner's, with blanks from the fifth entry on
 unfoldable pub firstOthers : List nodes.Entry → List nodes.Entry
 firstOthers es = take (mostEntries - 1) es ++ replicate (length es - (mostEntries - 1)) blank
+
+-- ── what is asked of a node ──
+
+-- the rule book's request; a value stands in the payload s
+abbrev pub askMeant : Octets → Ask → rules.Ask
+askMeant s ask.Directory = rules.directory
+askMeant s ask.Read = rules.read
+askMeant s ask.GetPerms = rules.getPerms
+askMeant s (ask.Write from) = rules.write (drop from s)
+askMeant s ask.Mkdir = rules.mkdir
+askMeant s ask.Rm = rules.rm
+askMeant s (ask.SetPerms es) = rules.setPerms (entryMeant (es .first)) (othersMeant es)
 
 -- ── requests ──
 
@@ -159,6 +173,16 @@ pub record EntriesSound (es : Entries) : Type 0 where
   pub second : EntrySound (es .second)
   pub third : EntrySound (es .third)
   pub fourth : EntrySound (es .fourth)
+
+-- the bounds of a value's place and of entries
+abbrev pub AskSound : Octets → Ask → Type 0
+AskSound s ask.Directory = Unit {0}
+AskSound s ask.Read = Unit {0}
+AskSound s ask.GetPerms = Unit {0}
+AskSound s (ask.Write from) = from ≤ length s
+AskSound s ask.Mkdir = Unit {0}
+AskSound s ask.Rm = Unit {0}
+AskSound s (ask.SetPerms es) = EntriesSound es
 
 abbrev pub DepthSound : Depth → Type 0
 DepthSound (depth.Given k) = k ≤ deepestWatch

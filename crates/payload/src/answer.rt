@@ -28,6 +28,18 @@ pub struct Entries {
     pub fourth: Entry,
 }
 
+// What is asked of a node.
+pub enum Ask {
+    Directory,
+    Read,
+    GetPerms,
+    // the value is the rest of the payload, from an index on
+    Write(usize),
+    Mkdir,
+    Rm,
+    SetPerms(Entries),
+}
+
 pub enum Request {
     // no type that the box handles
     Unknown,

@@ -1,3 +1,4 @@
 pub mod Meant
 pub mod Framed
 pub mod Handled
+pub mod Does
