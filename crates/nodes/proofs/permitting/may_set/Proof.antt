@@ -3,7 +3,7 @@ use Rattle.slots.proofs.Canonical.{sound-canonical}
 use borrow.Author.Tests.{not-true, not-false}
 use Rattle.rules.specs.Node.{Entry}
 use Rattle.lookup.proofs.RightsLaws.{owner-is}
-use Rattle.nodes.proofs.ChangingLaws.{set-denied, set-control, set-owner}
+use Rattle.nodes.proofs.PermittingLaws.{set-denied, set-control, set-owner}
 use borrow.Author.Needs.{needs}
 use Rattle.nodes.proofs.permitting.may_set.Statement.{statement}
 use Rattle.nodes.proofs.permitting.may_set.Tie as tie
