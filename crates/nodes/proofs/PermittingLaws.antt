@@ -1,5 +1,5 @@
 -- SET_PERMS: who may set entries, and the entries as two arrays.
-use mathlib.Core.Path.{_≡_, refl, sym, ap, ap₂, _∙_}
+use mathlib.Core.Path.{_≡_, sym, ap, ap₂, _∙_}
 use mathlib.Core.Bool.{true, false}
 use mathlib.Core.List.{List, [], _∷_, _++_, append-nil}
 use Prim.Native.Nat.{ℕ, zero, suc, _-_, _≤_, _<_}
@@ -72,14 +72,24 @@ module _ (es : Entries) where
           few = few;
           accesses = few;
           domains = few;
-          kinds = λ k l. below-four (λ (k : ℕ). getD accesses k 0 < 4)
-              (s .first .access) (s .second .access) (s .third .access) (s .fourth .access) k _ few l;
-          ids = λ k l. below-four (λ (k : ℕ). getD domains k 0 < 65536)
-              (omega (arith, s .first .domain)) (omega (arith, s .second .domain)) (omega (arith, s .third .domain)) (omega (arith, s .fourth .domain)) k _ few l;
+          kinds = λ k l.
+              below-four (λ (j : ℕ). getD accesses j 0 < 4) (s .first .access) (s .second .access) (s .third .access) (s .fourth .access) k _ few l;
+          ids = λ k l.
+              below-four
+              (λ (j : ℕ). getD domains j 0 < 65536)
+              (omega (arith, s .first .domain))
+              (omega (arith, s .second .domain))
+              (omega (arith, s .third .domain))
+              (omega (arith, s .fourth .domain))
+              k
+              _
+              few
+              l;
         }
 
     -- and what they give is what is meant
-    pub entries-put : (t : Table) (i : ℕ) (t′ : Octets) → t′ ≡ tableBytes (withEntries t i (entryIn accesses domains 0) (othersIn (es .count) accesses domains)) →
+    pub entries-put : (t : Table) (i : ℕ) (t′ : Octets) →
+        t′ ≡ tableBytes (withEntries t i (entryIn accesses domains 0) (othersIn (es .count) accesses domains)) →
         t′ ≡ tableBytes (withEntries t i (entryMeant (es .first)) (othersMeant es))
     unfolding entryIn
     entries-put t i t′ q = q ∙ ap (λ (xs : List Entry). tableBytes (withEntries t i (entryMeant (es .first)) xs)) others-in

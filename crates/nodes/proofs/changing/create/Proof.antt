@@ -45,9 +45,10 @@ returns-2 c =
 make-requires : tie.Need-make-requires
 make-requires c κs =
     let a = c .before .before .before .before .before .before .before .before .before .before .before in
-    let m = roomy (a .args .domain) _ _ _ _ (sym (c .before .before .has-room .ensures (a .args .domain)) ∙ not-false _ (c .before .if2 .left)) in
-    ((a .pre .1 .below, sound-canonical _ (a .pre .0 .standing .sound), a .pre .1 .used),
-     (left-short _ _ _ _ (a .pre .1) (m .1), (m .2, (m .0, a .pre .0 .domain))))
+    let m = roomy (a .args .domain) _ _ _ _ (sym (c .before .before .has-room .ensures (a .args .domain)) ∙ not-false _ (c .before .if2 .left)) in (
+      (a .pre .1 .below, sound-canonical _ (a .pre .0 .standing .sound), a .pre .1 .used),
+      (left-short _ _ _ _ (a .pre .1) (m .1), (m .2, (m .0, a .pre .0 .domain))),
+    )
 
 success-requires : tie.Need-success-requires
 success-requires c κs = search needs

@@ -44,7 +44,8 @@ returns-2 c =
     let there = may .before .before in
     let a = there .before .before .before .before .before .before .before in
     refused-so (a .args .domain) _ (a .args .t .now) (sound-canonical _ (a .pre .0 .standing .sound)) _ (a .args .reply .now) _ _ (c .refusal2 .ensures)
-    (perms-denied _ _ _ _ _ (there .before .before .reach .ensures) (there .if1 .left) _ _ (sym (may .may-set .ensures _ _ refl) ∙ not-true _ (c .before .if2 .taken)))
+    (perms-denied _ _ _ _ _ (there .before .before .reach .ensures) (there .if1 .left) _ _
+    (sym (may .may-set .ensures _ _ refl) ∙ not-true _ (c .before .if2 .taken)))
 
 refusal-requires-3 : tie.Need-refusal-requires-3
 refusal-requires-3 c κs = search needs
@@ -58,7 +59,8 @@ returns-3 c =
     let there = may .before .before in
     let a = there .before .before .before .before .before .before .before in
     refused-so (a .args .domain) _ (a .args .t .now) (sound-canonical _ (a .pre .0 .standing .sound)) _ (a .args .reply .now) _ _ (c .refusal3 .ensures)
-    (perms-many _ _ _ _ _ (there .before .before .reach .ensures) (there .if1 .left) _ _ (sym (may .may-set .ensures _ _ refl) ∙ not-false _ (c .before .before .before .if2 .left))
+    (perms-many _ _ _ _ _ (there .before .before .reach .ensures) (there .if1 .left) _ _
+    (sym (may .may-set .ensures _ _ refl) ∙ not-false _ (c .before .before .before .if2 .left))
     (omega (arith, many-meant (a .args .entries) (a .pre .1 .some-entry), c .before .if3 .taken)))
 
 permit-requires : tie.Need-permit-requires
@@ -81,7 +83,8 @@ returns-4 c =
     let there = may .before .before in
     let a = there .before .before .before .before .before .before .before in
     changed-so (a .args .domain) _ _ _ (a .args .reply .now) _ _ _ _ _ _ (c .before .before .success .ensures) refl
-    (perms-done _ _ _ _ _ (there .before .before .reach .ensures) (there .if1 .left) _ _ (sym (may .may-set .ensures _ _ refl) ∙ not-false _ (few .before .before .if2 .left))
+    (perms-done _ _ _ _ _ (there .before .before .reach .ensures) (there .if1 .left) _ _
+    (sym (may .may-set .ensures _ _ refl) ∙ not-false _ (few .before .before .if2 .left))
     (omega (arith, many-meant (a .args .entries) (a .pre .1 .some-entry), few .if3 .left)))
     (put .permit .ensures)
 
