@@ -6,10 +6,10 @@ use Prim.Native.Nat.{ℕ, zero, suc, _-_, _≤_, _<_}
 use native.Mathlib.Omega.{arith}
 use lib.ListN.{length, take, getD, replicate, length-append, length-take, length-replicate}
 use lib.Dec.{eqb}
-use borrow.Author.Tests.{eq-eqb, ne-eqb}
 use Rattle.rules.specs.Size.{mostEntries}
 use Rattle.rules.specs.Octets.{Octets}
-use Rattle.rules.specs.Path.{Domain, Names}
+use Rattle.rules.specs.Domain.{Domain, isControl}
+use Rattle.rules.specs.Path.{Names}
 use Rattle.rules.specs.Node.{Entry, Node, Table, withEntries}
 use Rattle.rules.specs.Rights.{mayOwn}
 use Rattle.rules.specs.Answer.{maySet}
@@ -25,13 +25,13 @@ module _ (d : Domain) (ns : Names) (t : Table) (n : Node) (o : Entry) where
   unfolding maySet
   set-denied m = rw m
 
-  pub set-control : mayOwn d n ≡ true → d ≡ 0 → true ≡ maySet d ns t n o
+  pub set-control : mayOwn d n ≡ true → isControl d ≡ true → true ≡ maySet d ns t n o
   unfolding maySet
-  set-control m e = rw (m, eq-eqb d 0 e)
+  set-control m e = rw (m, e)
 
-  pub set-owner : mayOwn d n ≡ true → (d ≡ 0 → ⊥) → (x y : ℕ) → o .domain ≡ x → y ≡ n .owner .domain → eqb x y ≡ maySet d ns t n o
+  pub set-owner : mayOwn d n ≡ true → isControl d ≡ false → (x y : ℕ) → o .domain ≡ x → y ≡ n .owner .domain → eqb x y ≡ maySet d ns t n o
   unfolding maySet
-  set-owner m e x y ex ey = rw (m, ne-eqb d 0 e) (ap₂ eqb (sym ex) ey)
+  set-owner m e x y ex ey = rw (m, e) (ap₂ eqb (sym ex) ey)
 
 -- ── the entries that are meant ──
 

@@ -20,6 +20,7 @@ use lookup::rights::may_own;
 use octets::sizes::MOST_ENTRIES;
 use payload::answer::Entries;
 use replies::kinds::Errno;
+use senders::is_control;
 use slots::fields::entry_at;
 use slots::writing::put_entries;
 
@@ -32,7 +33,7 @@ fn may_set(t: &[u8], i: usize, domain: u32, owner: u32) -> bool
     if !may_own(t, i, domain) {
         return false;
     }
-    if domain == 0 {
+    if is_control(domain) {
         return true;
     }
     owner == entry_at(t, i, 0).domain

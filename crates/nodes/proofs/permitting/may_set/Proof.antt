@@ -15,21 +15,28 @@ may-own-requires c κs = search needs
 returns : tie.Need-returns
 returns c = λ ns o e. set-denied _ ns _ _ o (sym (c .before .may-own .ensures) ∙ not-true _ (c .if1 .taken))
 
+is-control-requires : tie.Need-is-control-requires
+is-control-requires c κs = search needs
+
 returns-2 : tie.Need-returns-2
-returns-2 c = λ ns o e. set-control _ ns _ _ o (sym (c .before .before .may-own .ensures) ∙ not-false _ (c .before .if1 .left)) (c .if2 .taken)
+returns-2 c =
+    let may = c .before .before in
+    λ ns o e.
+    set-control _ ns _ _ o (sym (may .before .may-own .ensures) ∙ not-false _ (may .if1 .left)) (sym (c .before .is-control .ensures) ∙ c .if2 .taken)
 
 entry-at-requires : tie.Need-entry-at-requires
 entry-at-requires c κs =
-    let a = c .before .before .before .before in
+    let a = c .before .before .before .before .before in
     (a .pre .below, sound-canonical _ (a .pre .sound) .whole, search needs)
 
 returns-3 : tie.Need-returns-3
 returns-3 c =
-    let may = c .before .before .before in
+    let test = c .before .before in
+    let may = test .before .before in
     let a = may .before .before .before in
     λ ns o e.
-    set-owner _ ns _ _ o (sym (may .before .may-own .ensures) ∙ not-false _ (may .if1 .left)) (c .before .before .if2 .left) _ _ e
+    set-owner _ ns _ _ o (sym (may .before .may-own .ensures) ∙ not-false _ (may .if1 .left)) (sym (test .before .is-control .ensures) ∙ test .if2 .left) _ _ e
     (c .before .entry-at .ensures .1 ∙ ap (λ (x : Entry). x .domain) (owner-is _ _ (a .pre)))
 
 pub may-set-spec : {M : Type 1} → statement M
-may-set-spec = tie.close (tie.spec may-own-requires returns returns-2 entry-at-requires returns-3)
+may-set-spec = tie.close (tie.spec may-own-requires returns is-control-requires returns-2 entry-at-requires returns-3)
