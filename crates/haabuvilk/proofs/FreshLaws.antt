@@ -16,7 +16,8 @@ use Rattle.rules.specs.World.{freshWorld}
 use Rattle.rules.specs.Call.{Tables, callNumber, sizedTables, tablesOf, freshCall}
 use Rattle.rules.proofs.Compare.{both-true}
 use Rattle.rules.proofs.Paste.{paste-whole}
-use Rattle.haabuvilk.specs.Lent.{lent, refreshed, FreshMeets}
+use Rattle.replies.specs.Does.{tables}
+use Rattle.haabuvilk.specs.Lent.{refreshed, FreshMeets}
 
 -- ── bytes ──
 
@@ -79,7 +80,7 @@ unfolding freshCall callNumber
 fresh-refused t z = rw z refl
 
 fresh-tables : tablesOf freshWorld
-    ≡ lent (tableBytes freshTable) (replicate copiesSize 0) (replicate watchesSize 0) (replicate transactionsSize 0) (replicate domainsSize 0)
+    ≡ tables (tableBytes freshTable) (replicate copiesSize 0) (replicate watchesSize 0) (replicate transactionsSize 0) (replicate domainsSize 0)
 unfolding tablesOf freshWorld watchesBytes transactionsBytes domainsBytes watchBytes transactionBytes domainBytes
 fresh-tables =
     rw (zeros (λ (copy : Octets). copy) (replicate tableSize 0) tableSize refl 3, zeros watchBytes none watchSize refl 16, zeros transactionBytes none transactionSize refl 3, zeros domainBytes none domainSize refl 8)

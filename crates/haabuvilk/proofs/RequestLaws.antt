@@ -1,5 +1,5 @@
 -- What the request call answers: where the number is not 0, where it is, and what a handled request leaves.
-use mathlib.Core.Path.{_≡_, refl, sym, ap, subst}
+use mathlib.Core.Path.{_≡_, refl, sym, ap, subst, _∙_}
 use mathlib.Core.Bool.{Bool, true, false, cond, _&&_}
 use mathlib.Core.List.{List, [], _∷_, flatMap}
 use mathlib.Core.Option.{Option·none-ne-some}
@@ -11,7 +11,7 @@ use borrow.Author.Tests.{eqb-true, ltb-false}
 use borrow.Rule.Slice.PartAt.{part-to-end}
 use Rattle.rules.specs.Size.{headerSize, longestPayload, replySize, eventsSize}
 use Rattle.rules.specs.Octets.{Octets, littleEndian, paste}
-use Rattle.rules.specs.Domain.{Connection, domainOf}
+use Rattle.rules.specs.Domain.{Domain, Connection, domainOf}
 use Rattle.rules.specs.Payload.{parse}
 use Rattle.rules.specs.Answer as A
 use Rattle.rules.specs.Answer.{done, refused}
@@ -28,7 +28,10 @@ use Rattle.replies.proofs.Payloads.{payload-fits}
 use Rattle.replies.specs.Framed.{Told, Held, Framed}
 use Rattle.replies.specs.Handled.{Handled}
 use Rattle.replies.specs.declared.kinds.Outcome.{Outcome}
+use Rattle.replies.specs.Does.{allLent, Shows}
 use Rattle.requests.specs.Served.{Served}
+use Rattle.senders.specs.Speaks.{Speaks}
+use Rattle.senders.specs.declared.Sender.{Sender}
 use Rattle.haabuvilk.specs.Lent.{requested, RequestMeets}
 
 -- ── the number 0 ──
@@ -36,7 +39,9 @@ use Rattle.haabuvilk.specs.Lent.{requested, RequestMeets}
 -- what is known of a request that is handled, its payload as the code takes it
 pub record Ready (t : Tables) (c : Connection) (replied recorded m : Octets) : Type 0 where
   pub header : headerSize ≤ length m
-  pub served : Served t c replied recorded (take (length m - 16) (drop 16 m))
+  pub reply : length replied ≡ replySize
+  pub events : length recorded ≡ eventsSize
+  pub served : (x : Sender) → x .connection ≡ c → Speaks x → Served t x replied recorded (take (length m - headerSize) (drop headerSize m))
 
 -- a choice whose number is 0, where that of one side is not
 chose : (b : Bool) (v w : Verdict) → callNumber (cond b v w) ≡ 0 → (callNumber w ≡ 0 → ⊥) → (b ≡ true) × (callNumber v ≡ 0)
@@ -73,7 +78,18 @@ module _ (t : Tables) (reply events : Octets) (c : Connection) (m : Octets) wher
       let f = frame-known m (k .1) in
       record {
         header = f .0;
-        served = record { sized = z .0; sound = s .0; known = k .0; reply = eqb-true _ _ (b .0); events = eqb-true _ _ (b .1); payload = f .1 };
+        reply = eqb-true _ _ (b .0);
+        events = eqb-true _ _ (b .1);
+        served = λ x e q.
+            record {
+              sized = z .0;
+              sound = s .0;
+              speaks = q;
+              known = ap (λ (d : Domain). known d (domainsOf (t .domains))) (q ∙ ap domainOf e) ∙ k .0;
+              reply = eqb-true _ _ (b .0);
+              events = eqb-true _ _ (b .1);
+              payload = f .1;
+            };
       }
 
   -- ── the call ──
@@ -104,15 +120,21 @@ module _ (t : Tables) (reply events : Octets) (c : Connection) (m : Octets) wher
   handled-only overlong e = absurd (omega arith)
   handled-only noEvent e = absurd (omega arith)
 
+  -- the lent tables are those of the world that they mean
+  pub shown : Shows (allLent (t .nodes) (t .copies) (t .watches) (t .transactions) (t .domains) reply events) (worldOf t)
+  unfolding worldOf
+  shown = record { nodes = refl; copies = refl; watches = refl; transactions = refl; domains = refl }
+
   -- where it is 0: the outcome, in its frame
-  pub answered : (type tx : ℕ) {after : Tables} {told replied recorded : Octets} {r : Outcome} {l : ℕ}
-      → callNumber (requestVerdict t reply events c m) ≡ 0 → type ≡ littleEndian m 0 → tx ≡ littleEndian m 8
-      → Handled (outcomeOf (worldOf t) c tx (parse c type tx (take (length m - 16) (drop 16 m)))) after reply told events recorded r → Framed m (r .reply) told replied l
+  pub answered : (type tx : ℕ) (d : Connection) {after : Tables} {told replied recorded : Octets} {r : Outcome} {l : ℕ}
+      → callNumber (requestVerdict t reply events c m) ≡ 0 → type ≡ littleEndian m 0 → tx ≡ littleEndian m 8 → d ≡ c
+      → Handled (outcomeOf (worldOf t) d tx (parse d type tx (take (length m - headerSize) (drop headerSize m)))) after reply told events recorded r
+      → Framed m (r .reply) told replied l
       → RequestMeets t reply events c m (requested 0 l (r .events) (r .page) (r .channel) after replied recorded)
   unfolding requestCall outcome typeOf txOf delivered callNumber
-  answered type tx {after} {told} {replied} {recorded} {r} {l} e y x h f =
-      let h′ : Handled (outcome (worldOf t) c m) after reply told events recorded r = rw (← y, ← x, ← payload-part m) h in
-      let w = f (outcome (worldOf t) c m .reply) reply (ready e .served .reply) (h′ .reply) in
+  answered type tx d {after} {told} {replied} {recorded} {r} {l} e y x s h f =
+      let h′ : Handled (outcome (worldOf t) c m) after reply told events recorded r = rw (← y, ← x, ← s, ← payload-part m) h in
+      let w = f (outcome (worldOf t) c m .reply) reply (ready e .reply) (h′ .reply) in
       rw (w .0, w .1, h′ .count, h′ .page, h′ .channel, h′ .tables, h′ .events) (sym (handled-only (requestVerdict t reply events c m) e))
 
 -- ── what fits ──

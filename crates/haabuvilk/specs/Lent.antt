@@ -8,11 +8,6 @@ use Rattle.rules.specs.Message.{Delivered, eventCall}
 
 -- ── what is lent, and what is left ──
 
--- the five tables
-abbrev pub lent : Octets → Octets → Octets → Octets → Octets → Tables
-lent nodes copies watches transactions domains =
-    record { nodes = nodes; copies = copies; watches = watches; transactions = transactions; domains = domains }
-
 -- the fresh call's number, and the tables after it
 abbrev pub refreshed : ℕ → Tables → Refreshed
 refreshed n t = record { number = n; tables = t }

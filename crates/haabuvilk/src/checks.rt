@@ -9,11 +9,11 @@ ghost use Rattle.rules.specs.Octets.{chunks};
 ghost use Rattle.rules.specs.Layout.{transactionsOf};
 ghost use Rattle.rules.specs.Call.{callNumber, sizedTables, sound, frameVerdict, requestVerdict};
 ghost use Rattle.transactions.specs.Checks.{soundCopies};
-ghost use Rattle.haabuvilk.specs.Lent.{lent};
+ghost use Rattle.replies.specs.Does.{tables};
 ghost use Rattle.haabuvilk.specs.Checks.{soundCopy};
 use crate::sizes::sized_tables;
 use domains::checks::sound_domains;
-use domains::places::known;
+use domains::places::known_sender;
 use octets::numbers::number32;
 use octets::sizes::EVENTS_SIZE;
 use octets::sizes::HEADER_SIZE;
@@ -64,9 +64,9 @@ pub fn sound_tables(
     transactions: &[u8],
     domains: &[u8],
 ) -> bool
-    requires { ⌜ sizedTables (lent (now nodes) (now copies) (now watches) (now transactions) (now domains)) ≡ true ⌝ }
+    requires { ⌜ sizedTables (tables (now nodes) (now copies) (now watches) (now transactions) (now domains)) ≡ true ⌝ }
     ensures { λ r. ⌜ r ≡ sound
-        (lent (now (nodes .entry)) (now (copies .entry)) (now (watches .entry)) (now (transactions .entry)) (now (domains .entry))) ⌝ }
+        (tables (now (nodes .entry)) (now (copies .entry)) (now (watches .entry)) (now (transactions .entry)) (now (domains .entry))) ⌝ }
 {
     if !sound(nodes) {
         return false;
@@ -114,7 +114,7 @@ pub fn verdict(
     events: &[u8],
 ) -> u32
     ensures { λ r. ⌜ r ≡ callNumber (requestVerdict
-        (lent (now (nodes .entry)) (now (copies .entry)) (now (watches .entry)) (now (transactions .entry)) (now (domains .entry)))
+        (tables (now (nodes .entry)) (now (copies .entry)) (now (watches .entry)) (now (transactions .entry)) (now (domains .entry)))
         (now (reply .entry)) (now (events .entry)) sender (now (message .entry))) ⌝ }
 {
     if !sized_tables(nodes, copies, watches, transactions, domains) {
@@ -129,7 +129,7 @@ pub fn verdict(
     if !sound_tables(nodes, copies, watches, transactions, domains) {
         return 2;
     }
-    if !known(domains, sender) {
+    if !known_sender(domains, sender) {
         return 3;
     }
     frame(message)

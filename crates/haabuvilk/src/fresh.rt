@@ -4,7 +4,8 @@ ghost use lib.ListN.{length, replicate};
 ghost use Rattle.rules.specs.Size.{tableSize};
 ghost use Rattle.rules.specs.Layout.{tableBytes};
 ghost use Rattle.rules.specs.Node.{freshTable};
-ghost use Rattle.haabuvilk.specs.Lent.{lent, refreshed, FreshMeets};
+ghost use Rattle.replies.specs.Does.{tables};
+ghost use Rattle.haabuvilk.specs.Lent.{refreshed, FreshMeets};
 use crate::sizes::sized_tables;
 use octets::parts::clear;
 
@@ -36,8 +37,8 @@ pub extern "C" fn haabuvilk_fresh(
     domains: &mut [u8],
 ) -> u32
     ensures { λ r. ⌜ FreshMeets
-        (lent (now (nodes .entry)) (now (copies .entry)) (now (watches .entry)) (now (transactions .entry)) (now (domains .entry)))
-        (refreshed r (lent (now (nodes .exit)) (now (copies .exit)) (now (watches .exit)) (now (transactions .exit)) (now (domains .exit)))) ⌝ }
+        (tables (now (nodes .entry)) (now (copies .entry)) (now (watches .entry)) (now (transactions .entry)) (now (domains .entry)))
+        (refreshed r (tables (now (nodes .exit)) (now (copies .exit)) (now (watches .exit)) (now (transactions .exit)) (now (domains .exit)))) ⌝ }
 {
     if !sized_tables(nodes, copies, watches, transactions, domains) {
         return 1;

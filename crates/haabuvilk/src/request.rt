@@ -1,11 +1,13 @@
 // One message from one sender.
-ghost use Rattle.haabuvilk.specs.Lent.{lent, requested, RequestMeets};
+ghost use Rattle.replies.specs.Does.{tables};
+ghost use Rattle.haabuvilk.specs.Lent.{requested, RequestMeets};
 use crate::checks::verdict;
 use octets::numbers::number32;
 use octets::sizes::HEADER_SIZE;
 use octets::sizes::TX_AT;
 use replies::frame::framed;
 use requests::handle::handle;
+use senders::Sender;
 
 // Handles a message and answers 0; or answers another call number with all four results 0 and nothing lent altered.
 #[no_mangle]
@@ -25,10 +27,10 @@ pub extern "C" fn haabuvilk_request(
     channel: &mut u32,
 ) -> u32
     ensures { λ r. ⌜ RequestMeets
-        (lent (now (nodes .entry)) (now (copies .entry)) (now (watches .entry)) (now (transactions .entry)) (now (domains .entry)))
+        (tables (now (nodes .entry)) (now (copies .entry)) (now (watches .entry)) (now (transactions .entry)) (now (domains .entry)))
         (now (reply .entry)) (now (events .entry)) sender (now (message .entry))
         (requested r (now («reply_length» .exit)) (now («event_count» .exit)) (now (page .exit)) (now (channel .exit))
-        (lent (now (nodes .exit)) (now (copies .exit)) (now (watches .exit)) (now (transactions .exit)) (now (domains .exit)))
+        (tables (now (nodes .exit)) (now (copies .exit)) (now (watches .exit)) (now (transactions .exit)) (now (domains .exit)))
         (now (reply .exit)) (now (events .exit))) ⌝ }
 {
     *reply_length = 0;
@@ -57,7 +59,7 @@ pub extern "C" fn haabuvilk_request(
         watches,
         transactions,
         domains,
-        sender,
+        Sender::of(sender),
         kind,
         tx,
         &message[HEADER_SIZE..],

@@ -2,7 +2,7 @@
 ghost use mathlib.Core.Path.{_≡_};
 ghost use Rattle.rules.specs.Call.{sizedTables};
 ghost use Rattle.rules.specs.Message.{sizedMessage};
-ghost use Rattle.haabuvilk.specs.Lent.{lent};
+ghost use Rattle.replies.specs.Does.{tables};
 use octets::sizes::COPIES_SIZE;
 use octets::sizes::DOMAINS_SIZE;
 use octets::sizes::EVENTS_SIZE;
@@ -20,7 +20,7 @@ pub fn sized_tables(
     domains: &[u8],
 ) -> bool
     ensures { λ r. ⌜ r ≡ sizedTables
-        (lent (now (nodes .entry)) (now (copies .entry)) (now (watches .entry)) (now (transactions .entry)) (now (domains .entry))) ⌝ }
+        (tables (now (nodes .entry)) (now (copies .entry)) (now (watches .entry)) (now (transactions .entry)) (now (domains .entry))) ⌝ }
 {
     if nodes.len() != TABLE_SIZE {
         return false;

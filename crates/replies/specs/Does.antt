@@ -55,6 +55,11 @@ lent nodes copies watches transactions domains reply events =
       events = events;
     }
 
+-- all five tables and the event records
+abbrev pub allLent : Octets → Octets → Octets → Octets → Octets → Octets → Octets → Lent
+allLent nodes copies watches transactions domains reply events =
+    lent (some nodes) (some copies) (some watches) (some transactions) (some domains) reply (some events)
+
 -- x is what lent bytes mean
 abbrev pub Reads : {A : Type 0} → (Octets → A) → A → Option Octets → Type 0
 Reads meaning x none = Unit {0}

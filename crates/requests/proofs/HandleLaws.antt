@@ -1,30 +1,32 @@
 -- What is known of the lent tables where a request is handled, and what each kind of request comes to.
 use mathlib.Core.Path.{_≡_, refl, sym, ap, subst, _∙_}
-use mathlib.Core.Bool.{true, and-eq-true-iff}
+use mathlib.Core.Bool.{true, false, cond, and-eq-true-iff}
 use mathlib.Core.List.{List, [], _∷_, map-id}
-use mathlib.Core.Option.{none}
+use mathlib.Core.Option.{none, some}
 use Prim.Native.Nat.{ℕ, _≤_, _<_}
 use lib.Dec.{eqb}
 use lib.ListN.{length, getD}
 use types.Run.{OneOf, miss}
 use denote.Enum.Declared.{tagOf}
-use borrow.Author.Tests.{eqb-true, eq-eqb, ne-eqb}
+use borrow.Author.Tests.{eqb-true}
 use Rattle.rules.specs.Size.{lastDomain, mostTransactions, tableSize, copiesSize}
 use Rattle.rules.specs.Octets.{Octets, chunks}
-use Rattle.rules.specs.Domain.{Connection}
+use Rattle.rules.specs.Domain.{Domain, Connection, isControl}
 use Rattle.rules.specs.Payload.{parse}
 use Rattle.rules.specs.Answer.{EACCES, refused}
-use Rattle.rules.specs.Layout.{opened, transactionsOf, domainsOf}
+use Rattle.rules.specs.Layout.{opened, tableOf, watchesOf, transactionsOf, domainsOf}
 use Rattle.rules.specs.Sound.{known, soundTable, soundDomains, soundWatches, soundTransactions}
 use Rattle.rules.specs.World as W
 use Rattle.rules.specs.World.{World, left, forControl}
 use Rattle.rules.specs.Call as Call
-use Rattle.rules.specs.Call.{Tables, sizedTables, worldOf, tablesOf, outcomeOf}
+use Rattle.rules.specs.Call.{Tables, Lendable, sizedTables, worldOf, outcomeOf}
 use Rattle.rules.proofs.Tables.{decoded-at, length-chunks}
 use Rattle.rules.proofs.EntryLayouts.{whole}
-use Rattle.rules.specs.Call.{Lendable}
-use Rattle.rules.proofs.SoundBytes.{decoded, bytes-back}
+use Rattle.rules.proofs.Senders.{connection-fits}
+use Rattle.rules.proofs.SoundBytes.{decoded}
 use Rattle.rules.proofs.SoundWorld.{SoundWorld, known-range}
+use Rattle.senders.specs.Speaks.{Speaks}
+use Rattle.senders.specs.declared.Sender.{Sender}
 use Rattle.slots.specs.Slot.{Canonical}
 use Rattle.slots.proofs.Canonical.{sound-canonical}
 use Rattle.transactions.specs.Checks.{soundEntries}
@@ -35,18 +37,19 @@ use Rattle.domains.proofs.Search.{taken-some}
 use Rattle.domains.proofs.Laws as domains
 use Rattle.watches.proofs.Written as watches
 use Rattle.transactions.proofs.Good as transactions
-use Rattle.handlers.specs.Leaves.{tables, itsNodes, itsCopies, itsWatches, itsTransactions, itsDomains}
+use Rattle.replies.specs.Does.{lent, Shows, itsNodes, itsCopies, itsWatches, itsTransactions, itsDomains}
 use Rattle.handlers.specs.Asking.{copyIn}
 use Rattle.handlers.specs.Transacting.{Committable}
 use Rattle.handlers.specs.Releasing.{Releasable}
-use Rattle.handlers.proofs.Ways.{leaves}
+use Rattle.handlers.proofs.Alone.{nodes-alone, copies-alone, watches-alone, transactions-alone, domains-alone}
+use Rattle.handlers.proofs.Ways.{itsTables, same-tables}
 use Rattle.handlers.proofs.StartLaws.{three-transactions}
-use Rattle.payload.specs.Meaning.{meant, kept, Sound, Means}
+use Rattle.payload.specs.Meaning.{meant, kept, Means}
 use Rattle.payload.specs.declared.answer.Request.{Request}
 use Rattle.payload.specs.declared.answer.Request.the-variants as request
 use Rattle.payload.proofs.answer.Request.{the-type}
-use Rattle.payload.proofs.Told.{Few, exact}
-use Rattle.requests.specs.Asked.{IsAsk, OfDomainOrNode}
+use Rattle.payload.proofs.Kept.{kept-outcome}
+use Rattle.requests.specs.Kinds.{AsksNoNode}
 use Rattle.requests.specs.Served.{Served}
 
 -- ── the tables ──
@@ -55,10 +58,7 @@ use Rattle.requests.specs.Served.{Served}
 copy-at : (cs : Octets) (k : ℕ) → k < mostTransactions → getD (chunks mostTransactions tableSize cs) k [] ≡ copyIn cs k
 copy-at cs k h = sym (ap (λ (x : List Octets). getD x k []) (map-id (chunks mostTransactions tableSize cs))) ∙ decoded-at whole mostTransactions tableSize k cs [] h
 
-module _ (t : Tables) (c : Connection) (reply events s : Octets) (v : Served t c reply events s) where
-  abbrev pub world : World
-  world = worldOf t
-
+module _ (t : Tables) (sender : Sender) (reply events s : Octets) (v : Served t sender reply events s) where
   lendable : Lendable t
   lendable = record { sized = v .sized; sound = v .sound }
 
@@ -81,9 +81,12 @@ module _ (t : Tables) (c : Connection) (reply events s : Octets) (v : Served t c
       let b = and-eq-true-iff (eqb (length (t .copies)) copiesSize) _ .0 (a .1) in
       eqb-true (length (t .copies)) copiesSize (b .0)
 
-  pub sender-low : c ≤ lastDomain
+  pub sender-low : sender .domain ≤ lastDomain
   unfolding worldOf
-  sender-low = known-range (domainsOf (t .domains)) c (sound-world .domains) (v .known)
+  sender-low = known-range (domainsOf (t .domains)) (sender .domain) (sound-world .domains) (v .known)
+
+  pub connection-low : sender .connection < 65536
+  connection-low = connection-fits (sender .connection) (subst (λ (d : Domain). d ≤ lastDomain) (v .speaks) sender-low)
 
   pub nodes-canonical : Canonical (t .nodes)
   nodes-canonical = sound-canonical (t .nodes) (tests .0)
@@ -118,98 +121,85 @@ module _ (t : Tables) (c : Connection) (reply events s : Octets) (v : Served t c
   pub releasable : Releasable (t .nodes) (t .watches) (t .transactions) (t .domains) events
   releasable = record { sound = tests .0; watching = watches-kept; kept = transactions-kept; known = domains-kept; room = v .events }
 
-  -- the bytes of a table that is left alone
-  module _ where
-    back : tablesOf (worldOf t) ≡ t
-    back = bytes-back t lendable
+  -- a table that is left alone, in any world that agrees with it
+  module _ (w : World) where
+    pub nodes-left : w .nodes ≡ tableOf (t .nodes) → t .nodes ≡ itsNodes w
+    nodes-left = nodes-alone w (t .nodes) (tests .0)
 
-    pub all-back : t ≡ leaves (worldOf t)
-    unfolding tablesOf
-    all-back = sym back
+    pub copies-left : w .copies ≡ chunks mostTransactions tableSize (t .copies) → t .copies ≡ itsCopies w
+    copies-left = copies-alone w (t .copies) copies-long
 
-    pub nodes-back : t .nodes ≡ itsNodes (worldOf t)
-    unfolding tablesOf
-    nodes-back = sym (ap Tables.nodes back)
+    pub watches-left : w .watches ≡ watchesOf (t .watches) → t .watches ≡ itsWatches w
+    watches-left = watches-alone w (t .watches) watches-kept
 
-    pub copies-back : t .copies ≡ itsCopies (worldOf t)
-    unfolding tablesOf
-    copies-back = sym (ap Tables.copies back)
+    pub transactions-left : w .transactions ≡ transactionsOf (t .transactions) → t .transactions ≡ itsTransactions w
+    transactions-left = transactions-alone w (t .transactions) transactions-kept
 
-    pub watches-back : t .watches ≡ itsWatches (worldOf t)
-    unfolding tablesOf
-    watches-back = sym (ap Tables.watches back)
+    pub domains-left : w .domains ≡ domainsOf (t .domains) → t .domains ≡ itsDomains w
+    domains-left = domains-alone w (t .domains) domains-kept
 
-    pub transactions-back : t .transactions ≡ itsTransactions (worldOf t)
-    unfolding tablesOf
-    transactions-back = sym (ap Tables.transactions back)
-
-    pub domains-back : t .domains ≡ itsDomains (worldOf t)
-    unfolding tablesOf
-    domains-back = sym (ap Tables.domains back)
+    -- all of them
+    pub all-left : Shows (lent (some (t .nodes)) (some (t .copies)) (some (t .watches)) (some (t .transactions)) (some (t .domains)) reply (some events)) w →
+        t ≡ itsTables w
+    all-left l =
+        same-tables (nodes-left (l .nodes)) (copies-left (l .copies)) (watches-left (l .watches)) (transactions-left (l .transactions))
+        (domains-left (l .domains))
 
 -- ── the request ──
 
-module _ (s : Octets) (type tx : ℕ) (r : Request) (m : Means s r (λ (c : Connection). kept (parse c type tx s))) where
-  pub sound-as : (r′ : Request) → r ≡ r′ → Sound s r′
-  sound-as r′ e = subst (Sound s) e (m .sound)
+-- a request's outcome is that of what the payload was read as
+pub parsed-outcome : (s : Octets) (type tx : ℕ) (r : Request) → Means s r (λ (c : Connection). kept (parse c type tx s)) → (sender : Sender) → Speaks sender →
+    (w : World) → outcomeOf w (sender .connection) tx (parse (sender .connection) type tx s) ≡ outcomeOf w (sender .connection) tx (meant (sender .domain) s r)
+parsed-outcome s type tx r m sender speaks w =
+    let c = sender .connection in
+    sym (kept-outcome w c tx (parse c type tx s))
+    ∙ ap (outcomeOf w c tx) (sym (m .meaning c))
+    ∙ ap (λ (d : Domain). outcomeOf w c tx (meant d s r)) (sym speaks)
 
-  pub parsed-as : (w : World) (c : Connection) (r′ : Request) → r ≡ r′ → Few r′ → outcomeOf w c tx (parse c type tx s) ≡ outcomeOf w c tx (meant c s r′)
-  parsed-as w c r′ e f = ap (outcomeOf w c tx) (sym (exact s r type tx m (subst Few (sym e) f) c) ∙ ap (meant c s) e)
+-- the numbers of the kinds but for `Ask`, and of `Unknown` and `Ask`
+abbrev pub noAsk : List ℕ
+noAsk = 0 ∷ 1 ∷ 3 ∷ 4 ∷ 5 ∷ 6 ∷ 7 ∷ 8 ∷ 9 ∷ 10 ∷ 11 ∷ []
 
--- the kinds that are a domain's or a node's, and those that are no domain's
-abbrev pub laterKinds : List ℕ
-laterKinds = 2 ∷ 3 ∷ 4 ∷ 5 ∷ 6 ∷ 7 ∷ 8 ∷ 13 ∷ 14 ∷ 15 ∷ 16 ∷ []
+abbrev pub unknownOrAsk : List ℕ
+unknownOrAsk = 0 ∷ 2 ∷ []
 
-abbrev pub otherKinds : List ℕ
-otherKinds = 0 ∷ 1 ∷ 2 ∷ 3 ∷ 4 ∷ 5 ∷ 6 ∷ 7 ∷ 8 ∷ 9 ∷ 10 ∷ 11 ∷ 12 ∷ 17 ∷ []
+pub asks-no-node : (r : Request) → OneOf noAsk (tagOf the-type r) → AsksNoNode r
+asks-no-node request.Unknown h = tt
+asks-no-node request.Invalid h = tt
+asks-no-node (request.Ask a p) h = miss noAsk 2 tt h
+asks-no-node (request.Watch p a e d) h = tt
+asks-no-node (request.Unwatch p a e) h = tt
+asks-no-node request.Start h = tt
+asks-no-node (request.End b) h = tt
+asks-no-node (request.Introduce i p c) h = tt
+asks-no-node (request.Release i) h = tt
+asks-no-node (request.DomainPath i) h = tt
+asks-no-node (request.IsIntroduced i) h = tt
+asks-no-node request.Reset h = tt
 
-pub of-domain-or-node : (r : Request) → OneOf laterKinds (tagOf the-type r) → OfDomainOrNode r
-of-domain-or-node request.Unknown h = miss laterKinds 0 tt h
-of-domain-or-node request.Invalid h = miss laterKinds 1 tt h
-of-domain-or-node (request.Directory p) h = tt
-of-domain-or-node (request.Read p) h = tt
-of-domain-or-node (request.GetPerms p) h = tt
-of-domain-or-node (request.Write p v) h = tt
-of-domain-or-node (request.Mkdir p) h = tt
-of-domain-or-node (request.Rm p) h = tt
-of-domain-or-node (request.SetPerms p es) h = tt
-of-domain-or-node (request.Watch p a e d) h = miss laterKinds 9 tt h
-of-domain-or-node (request.Unwatch p a e) h = miss laterKinds 10 tt h
-of-domain-or-node request.Start h = miss laterKinds 11 tt h
-of-domain-or-node (request.End b) h = miss laterKinds 12 tt h
-of-domain-or-node (request.Introduce i p c) h = tt
-of-domain-or-node (request.Release i) h = tt
-of-domain-or-node (request.DomainPath i) h = tt
-of-domain-or-node (request.IsIntroduced i) h = tt
-of-domain-or-node request.Reset h = miss laterKinds 17 tt h
+pub is-unknown : (r : Request) → AsksNoNode r → OneOf unknownOrAsk (tagOf the-type r) → r ≡ request.Unknown
+is-unknown request.Unknown k h = refl
+is-unknown request.Invalid k h = absurd (miss unknownOrAsk 1 tt h)
+is-unknown (request.Ask a p) k h = absurd k
+is-unknown (request.Watch p a e d) k h = absurd (miss unknownOrAsk 3 tt h)
+is-unknown (request.Unwatch p a e) k h = absurd (miss unknownOrAsk 4 tt h)
+is-unknown request.Start k h = absurd (miss unknownOrAsk 5 tt h)
+is-unknown (request.End b) k h = absurd (miss unknownOrAsk 6 tt h)
+is-unknown (request.Introduce i p c) k h = absurd (miss unknownOrAsk 7 tt h)
+is-unknown (request.Release i) k h = absurd (miss unknownOrAsk 8 tt h)
+is-unknown (request.DomainPath i) k h = absurd (miss unknownOrAsk 9 tt h)
+is-unknown (request.IsIntroduced i) k h = absurd (miss unknownOrAsk 10 tt h)
+is-unknown request.Reset k h = absurd (miss unknownOrAsk 11 tt h)
 
-pub is-ask : (r : Request) → OfDomainOrNode r → OneOf otherKinds (tagOf the-type r) → IsAsk r
-is-ask request.Unknown k h = k
-is-ask request.Invalid k h = k
-is-ask (request.Directory p) k h = tt
-is-ask (request.Read p) k h = tt
-is-ask (request.GetPerms p) k h = tt
-is-ask (request.Write p v) k h = tt
-is-ask (request.Mkdir p) k h = tt
-is-ask (request.Rm p) k h = tt
-is-ask (request.SetPerms p es) k h = tt
-is-ask (request.Watch p a e d) k h = k
-is-ask (request.Unwatch p a e) k h = k
-is-ask request.Start k h = k
-is-ask (request.End b) k h = k
-is-ask (request.Introduce i p c) k h = miss otherKinds 13 tt h
-is-ask (request.Release i) k h = miss otherKinds 14 tt h
-is-ask (request.DomainPath i) k h = miss otherKinds 15 tt h
-is-ask (request.IsIntroduced i) k h = miss otherKinds 16 tt h
-is-ask request.Reset k h = k
+-- ── for the control domain alone ──
 
--- ── for domain 0 alone ──
+module _ (w : World) (sender : Sender) (speaks : Speaks sender) (o : W.Outcome) where
+  by-domain : forControl w (sender .connection) o ≡ cond (isControl (sender .domain)) o (left w (refused EACCES))
+  unfolding forControl
+  by-domain = ap (λ (d : Domain). cond (isControl d) o (left w (refused EACCES))) (sym speaks)
 
-module _ (w : World) (c : Connection) (o : W.Outcome) where
-  pub control-denied : (c ≡ 0 → ⊥) → forControl w c o ≡ left w (refused EACCES)
-  unfolding forControl left
-  control-denied h = rw (ne-eqb c 0 h) refl
+  pub control-denied : isControl (sender .domain) ≡ false → forControl w (sender .connection) o ≡ left w (refused EACCES)
+  control-denied h = by-domain ∙ rw h refl
 
-  pub control-allowed : c ≡ 0 → forControl w c o ≡ o
-  unfolding forControl left
-  control-allowed h = rw (eq-eqb c 0 h) refl
+  pub control-allowed : isControl (sender .domain) ≡ true → forControl w (sender .connection) o ≡ o
+  control-allowed h = by-domain ∙ rw h refl

@@ -8,7 +8,7 @@ use native.Mathlib.Omega.{arith}
 use lib.ListN.{length, take, drop, set, length-append}
 use lib.Seq.{length-take-le, take-at}
 use Rattle.rules.specs.Octets.{Octets, paste}
-use Rattle.rules.specs.Domain.{Domain, isControl}
+use Rattle.rules.specs.Domain.{Domain, Connection, domainOf, isControl}
 use Rattle.rules.specs.Path.{Names, Given, malformed, absolute, relative, special, given, allNames, isFull, namesIn, base, split, pathText}
 use Rattle.rules.specs.Payload.{path, event}
 use Rattle.rules.specs.Answer.{EACCES, refused}
@@ -165,23 +165,27 @@ module _ (s : Octets) (p : Path) (d : Domain) (k : PathSound s p) where
   stands-so named below t a b e = rw (a, b, e) stands
 
   -- step 3: an event's name is for domain 0
-  module _ (named foreign : Bool) (a : named ≡ isSpecial (p .form)) (b : foreign ≡ (named && not (isControl d))) (w : World) (o : W.Outcome) where
+  module _ (c : Connection) (speaks : d ≡ domainOf c) (named foreign : Bool) (a : named ≡ isSpecial (p .form)) (b : foreign ≡ (named && not (isControl d)))
+      (w : World) (o : W.Outcome) where
     turned : (x : Bool) → cond x o (left w (refused EACCES)) ≡ cond (not x) (left w (refused EACCES)) o
     turned true = refl
     turned false = refl
 
-    for-place : (g : Given) → forPlace w d (placeFrom d g) o ≡ cond (isSpecial (formOf g) && not (isControl d)) (left w (refused EACCES)) o
+    by-domain : cond (isControl (domainOf c)) o (left w (refused EACCES)) ≡ cond (isControl d) o (left w (refused EACCES))
+    by-domain = ap (λ (x : Domain). cond (isControl x) o (left w (refused EACCES))) (sym speaks)
+
+    for-place : (g : Given) → forPlace w c (placeFrom d g) o ≡ cond (isSpecial (formOf g) && not (isControl d)) (left w (refused EACCES)) o
     unfolding placeFrom forPlace forControl isSpecial formOf
     for-place malformed = refl
     for-place (absolute ns) = refl
     for-place (relative ns) = refl
-    for-place (special e) = turned (isControl d)
+    for-place (special e) = by-domain ∙ turned (isControl d)
 
-    decided : forPlace w d (placeAt d s p) o ≡ cond foreign (left w (refused EACCES)) o
+    decided : forPlace w c (placeAt d s p) o ≡ cond foreign (left w (refused EACCES)) o
     decided = rw (b, a, sym (k .form)) (for-place (givenAt s p))
 
-    pub foreign-place : foreign ≡ true → forPlace w d (placeAt d s p) o ≡ left w (refused EACCES)
+    pub foreign-place : foreign ≡ true → forPlace w c (placeAt d s p) o ≡ left w (refused EACCES)
     foreign-place h = decided ∙ rw h refl
 
-    pub own-place : foreign ≡ false → forPlace w d (placeAt d s p) o ≡ o
+    pub own-place : foreign ≡ false → forPlace w c (placeAt d s p) o ≡ o
     own-place h = decided ∙ rw h refl

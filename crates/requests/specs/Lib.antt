@@ -1,3 +1,3 @@
-pub mod Asked
+pub mod Kinds
 pub mod Place
 pub mod Served

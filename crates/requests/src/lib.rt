@@ -1,5 +1,4 @@
 // A message's request, taken apart and handed to its handler.
-pub mod asked;
 pub mod control;
 pub mod handle;
 pub mod node;

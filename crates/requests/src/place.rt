@@ -1,13 +1,12 @@
 // Requests of a place that is watched.
 ghost use mathlib.Core.Path.{_≡_};
 ghost use mathlib.Core.Bool.{not, _&&_};
+ghost use mathlib.Core.Option.{none, some};
 ghost use Prim.Native.Nat.{_+_, _≤_, _<_};
 ghost use lib.ListN.{length};
 ghost use Rattle.rules.specs.Size.{replySize, eventsSize, longestPayload};
-ghost use Rattle.rules.specs.Octets.{Octets};
 ghost use Rattle.rules.specs.Domain.{isControl};
 ghost use Rattle.rules.specs.Event.{placeText};
-ghost use Rattle.rules.specs.Layout.{watchesOf};
 ghost use Rattle.rules.specs.World.{World, forPlace, watching, unwatching};
 ghost use Rattle.octets.specs.Numbers.{Put};
 ghost use Rattle.payload.specs.Strings.{part};
@@ -16,9 +15,8 @@ ghost use Rattle.payload.specs.Meaning.{placeAt, DepthSound, PathSound, WatchSo
 ghost use Rattle.domains.specs.Entry.{entryOr};
 ghost use Rattle.watches.specs.Watch.{KeptWatches};
 ghost use Rattle.watches.specs.Watch as watches;
-ghost use Rattle.replies.specs.Handled.{Handled};
-ghost use Rattle.handlers.specs.Leaves as leaves;
-ghost use Rattle.handlers.specs.Leaves.{itsNodes, itsCopies, itsTransactions, itsDomains};
+ghost use Rattle.senders.specs.Speaks.{Speaks};
+ghost use Rattle.replies.specs.Does.{lent, Does};
 ghost use Rattle.requests.specs.Place.{isSpecial, isRelative};
 use crate::path::PATH_ROOM;
 use crate::path::full_path;
@@ -32,6 +30,8 @@ use replies::kinds::Errno;
 use replies::kinds::Outcome;
 use replies::kinds::Reply;
 use replies::kinds::with_events;
+use senders::Sender;
+use senders::is_control;
 
 // Whether a path is an event's name.
 fn is_special(form: Form) -> bool
@@ -56,12 +56,12 @@ fn is_relative(form: Form) -> bool
     }
 }
 
-// Whether a connection other than domain 0's names an event.
-fn is_foreign(special: bool, c: u32) -> bool
-    ensures { λ r. ⌜ r ≡ (special && not (isControl c)) ⌝ }
+// Whether a domain other than the control domain names an event.
+fn is_foreign(special: bool, domain: u32) -> bool
+    ensures { λ r. ⌜ r ≡ (special && not (isControl domain)) ⌝ }
 {
     if special {
-        return c != 0;
+        return !is_control(domain);
     }
     false
 }
@@ -91,10 +91,10 @@ fn place_text(s: &[u8], path: Path, domain: u32, into: &mut [u8]) -> usize
     full_path(s, path, domain, into)
 }
 
-// A connection's WATCH of a place in its payload, with the token from `start` to `end`.
+// A sender's WATCH of a place in its payload, with the token from `start` to `end`.
 pub fn watch_place(
     watches: &mut [u8],
-    c: u32,
+    sender: Sender,
     s: &[u8],
     path: Path,
     start: usize,
@@ -103,25 +103,25 @@ pub fn watch_place(
     reply: &mut [u8],
     events: &mut [u8],
 ) -> Outcome
-    requires { ⌜ KeptWatches (now watches) × (c < 65536) × WatchSound (now s) path start end depth × (length (now s) ≤ longestPayload) ×
-        (length (now reply) ≡ replySize) × (length (now events) ≡ eventsSize) ⌝ }
-    ensures { λ r. ⌜ ((w : World) → w .watches ≡ watchesOf (now (watches .entry)) →
-        Handled (forPlace w c (placeAt c (now (s .entry)) path)
-        (watching w c (placeAt c (now (s .entry)) path) (part start end (now (s .entry))) (payload.depthMeant depth)))
-        (leaves.tables (itsNodes w) (itsCopies w) (now (watches .exit)) (itsTransactions w) (itsDomains w)) (now (reply .entry)) (now (reply .exit))
-        (now (events .entry)) (now (events .exit)) r) ⌝ }
+    requires { ⌜ Speaks sender × (sender .connection < 65536) × KeptWatches (now watches) × WatchSound (now s) path start end depth ×
+        (length (now s) ≤ longestPayload) × (length (now reply) ≡ replySize) × (length (now events) ≡ eventsSize) ⌝ }
+    ensures { λ r. ⌜ Does
+        (lent none none (some (now (watches .entry))) none none (now (reply .entry)) (some (now (events .entry))))
+        (λ (w : World). forPlace w (sender .connection) (placeAt (sender .domain) (now (s .entry)) path)
+        (watching w (sender .connection) (placeAt (sender .domain) (now (s .entry)) path) (part start end (now (s .entry))) (payload.depthMeant depth)))
+        (lent none none (some (now (watches .exit))) none none (now (reply .exit)) (some (now (events .exit)))) r ⌝ }
 {
     let form = path.form;
     let special = is_special(form);
-    if is_foreign(special, c) {
+    if is_foreign(special, sender.domain) {
         return with_events(Reply::Refused(Errno::Access), 0);
     }
     let relative = is_relative(form);
     let mut text = [0u8; PATH_ROOM];
-    let n = place_text(s, path, c, &mut text);
+    let n = place_text(s, path, sender.domain, &mut text);
     watch(
         watches,
-        c,
+        sender.connection,
         &text[..n],
         special,
         relative,
@@ -132,28 +132,35 @@ pub fn watch_place(
     )
 }
 
-// A connection's UNWATCH of a place in its payload, with the token from `start` to `end`.
+// A sender's UNWATCH of a place in its payload, with the token from `start` to `end`.
 pub fn unwatch_place(
     watches: &mut [u8],
-    c: u32,
+    sender: Sender,
     s: &[u8],
     path: Path,
     start: usize,
     end: usize,
     reply: &mut [u8],
 ) -> Outcome
-    requires { ⌜ KeptWatches (now watches) × WatchSound (now s) path start end Depth.None × (length (now s) ≤ longestPayload) ×
+    requires { ⌜ Speaks sender × KeptWatches (now watches) × WatchSound (now s) path start end Depth.None × (length (now s) ≤ longestPayload) ×
         (length (now reply) ≡ replySize) ⌝ }
-    ensures { λ r. ⌜ ((w : World) → w .watches ≡ watchesOf (now (watches .entry)) → (events : Octets) →
-        Handled (forPlace w c (placeAt c (now (s .entry)) path) (unwatching w c (placeAt c (now (s .entry)) path) (part start end (now (s .entry)))))
-        (leaves.tables (itsNodes w) (itsCopies w) (now (watches .exit)) (itsTransactions w) (itsDomains w)) (now (reply .entry))
-        (now (reply .exit)) events events r) ⌝ }
+    ensures { λ r. ⌜ Does
+        (lent none none (some (now (watches .entry))) none none (now (reply .entry)) none)
+        (λ (w : World). forPlace w (sender .connection) (placeAt (sender .domain) (now (s .entry)) path)
+        (unwatching w (sender .connection) (placeAt (sender .domain) (now (s .entry)) path) (part start end (now (s .entry)))))
+        (lent none none (some (now (watches .exit))) none none (now (reply .exit)) none) r ⌝ }
 {
     let form = path.form;
-    if is_foreign(is_special(form), c) {
+    if is_foreign(is_special(form), sender.domain) {
         return with_events(Reply::Refused(Errno::Access), 0);
     }
     let mut text = [0u8; PATH_ROOM];
-    let n = place_text(s, path, c, &mut text);
-    unwatch(watches, c, &text[..n], &s[start..end], reply)
+    let n = place_text(s, path, sender.domain, &mut text);
+    unwatch(
+        watches,
+        sender.connection,
+        &text[..n],
+        &s[start..end],
+        reply,
+    )
 }

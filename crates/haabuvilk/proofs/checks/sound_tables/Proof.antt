@@ -4,7 +4,7 @@ use borrow.Author.Tests.{not-true, not-false}
 use Rattle.rules.specs.Layout.{domainsOf}
 use Rattle.rules.specs.Sound.{soundTable, soundDomains, soundWatches}
 use Rattle.rules.specs.Call.{Tables}
-use Rattle.haabuvilk.specs.Lent.{lent}
+use Rattle.replies.specs.Does.{tables}
 use Rattle.haabuvilk.proofs.FreshLaws.{Sized, tables-sized}
 use Rattle.haabuvilk.proofs.CheckLaws.{unsound-nodes, unsound-domains, unsound-watches, unsound-entries, copies-left}
 use borrow.Author.Needs.{needs}
@@ -17,11 +17,11 @@ sound-requires c κs = search needs
 abbrev start : tie.Else1 → tie.Start
 start c = c .before .before .before .before .before .before .before
 
-abbrev tables : tie.Start → Tables
-tables b = lent (b .args .nodes .now) (b .args .copies .now) (b .args .watches .now) (b .args .transactions .now) (b .args .domains .now)
+abbrev its-tables : tie.Start → Tables
+its-tables b = tables (b .args .nodes .now) (b .args .copies .now) (b .args .watches .now) (b .args .transactions .now) (b .args .domains .now)
 
-sized : (b : tie.Start) → Sized (tables b)
-sized b = tables-sized (tables b) (b .pre)
+sized : (b : tie.Start) → Sized (its-tables b)
+sized b = tables-sized (its-tables b) (b .pre)
 
 nodes-sound : (c : tie.Else1) → soundTable (start c .args .nodes .now) ≡ true
 nodes-sound c = sym (c .before .sound .ensures) ∙ not-false _ (c .if1 .left)

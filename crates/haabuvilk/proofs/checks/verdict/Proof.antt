@@ -2,7 +2,7 @@ use mathlib.Core.Path.{_≡_, sym, _∙_}
 use mathlib.Core.Bool.{true}
 use borrow.Author.Tests.{not-true, not-false}
 use Rattle.rules.specs.Call.{Tables, sizedTables, sound}
-use Rattle.haabuvilk.specs.Lent.{lent}
+use Rattle.replies.specs.Does.{tables}
 use Rattle.haabuvilk.proofs.FreshLaws.{tables-sized}
 use Rattle.haabuvilk.proofs.CheckLaws.{unsized-tables, unsized-reply, unsized-events, unsound-tables, unknown-sender, frame-left}
 use borrow.Author.Needs.{needs}
@@ -15,13 +15,13 @@ sized-tables-requires c κs = search needs
 abbrev start : tie.Else1 → tie.Start
 start c = c .before .before .before .before .before .before .before .before .before .before
 
-abbrev tables : tie.Start → Tables
-tables b = lent (b .args .nodes .now) (b .args .copies .now) (b .args .watches .now) (b .args .transactions .now) (b .args .domains .now)
+abbrev its-tables : tie.Start → Tables
+its-tables b = tables (b .args .nodes .now) (b .args .copies .now) (b .args .watches .now) (b .args .transactions .now) (b .args .domains .now)
 
-sized : (c : tie.Else1) → sizedTables (tables (start c)) ≡ true
+sized : (c : tie.Else1) → sizedTables (its-tables (start c)) ≡ true
 sized c = sym (c .before .sized-tables .ensures) ∙ not-false _ (c .if1 .left)
 
-sound-all : (c : tie.Else4) → sound (tables (start (c .before .before .before .before))) ≡ true
+sound-all : (c : tie.Else4) → sound (its-tables (start (c .before .before .before .before))) ≡ true
 sound-all c = sym (c .before .sound-tables .ensures) ∙ not-false _ (c .if4 .left)
 
 returns : tie.Need-returns
@@ -41,14 +41,14 @@ returns-4 c =
     let e = c .before .before in
     sym (unsound-tables _ _ _ _ _ (sized (e .before .before)) (e .before .if2 .left) (e .if3 .left) (sym (c .before .sound-tables .ensures) ∙ not-true _ (c .if4 .taken)))
 
-known-requires : tie.Need-known-requires
-known-requires c κs = tables-sized _ (sized (c .before .before .before .before)) .domains
+known-sender-requires : tie.Need-known-sender-requires
+known-sender-requires c κs = tables-sized _ (sized (c .before .before .before .before)) .domains
 
 returns-5 : tie.Need-returns-5
 returns-5 c =
     let s = c .before .before in
     let e = s .before .before in
-    sym (unknown-sender _ _ _ _ _ (sized (e .before .before)) (e .before .if2 .left) (e .if3 .left) (sound-all s) (sym (c .before .known .ensures) ∙ not-true _ (c .if5 .taken)))
+    sym (unknown-sender _ _ _ _ _ (sized (e .before .before)) (e .before .if2 .left) (e .if3 .left) (sound-all s) (sym (c .before .known-sender .ensures) ∙ not-true _ (c .if5 .taken)))
 
 frame-requires : tie.Need-frame-requires
 frame-requires c κs = search needs
@@ -59,7 +59,7 @@ returns-6 c =
     let s = k .before .before in
     let e = s .before .before in
     c .frame .ensures
-    ∙ sym (frame-left _ _ _ _ _ (sized (e .before .before)) (e .before .if2 .left) (e .if3 .left) (sound-all s) (sym (k .before .known .ensures) ∙ not-false _ (k .if5 .left)))
+    ∙ sym (frame-left _ _ _ _ _ (sized (e .before .before)) (e .before .if2 .left) (e .if3 .left) (sound-all s) (sym (k .before .known-sender .ensures) ∙ not-false _ (k .if5 .left)))
 
 pub verdict-spec : {M : Type 1} → statement M
 verdict-spec =
@@ -71,7 +71,7 @@ verdict-spec =
     returns-3
     sound-tables-requires
     returns-4
-    known-requires
+    known-sender-requires
     returns-5
     frame-requires
     returns-6)

@@ -2,7 +2,7 @@ use mathlib.Core.Path.{_≡_, sym, _∙_}
 use mathlib.Core.Bool.{true}
 use borrow.Author.Tests.{not-true, not-false}
 use Rattle.rules.specs.Call.{Tables, sizedTables}
-use Rattle.haabuvilk.specs.Lent.{lent}
+use Rattle.replies.specs.Does.{tables}
 use Rattle.haabuvilk.proofs.FreshLaws.{tables-sized, fresh-refused, fresh-done}
 use borrow.Author.Needs.{needs}
 use Rattle.haabuvilk.proofs.fresh.haabuvilk_fresh.Statement.{statement}
@@ -29,16 +29,16 @@ same-length-5 c = search needs
 returns : tie.Need-returns
 returns c = fresh-refused _ (sym (c .before .sized-tables .ensures) ∙ not-true _ (c .if1 .taken))
 
-abbrev tables : tie.Else1 → Tables
-tables c =
+abbrev its-tables : tie.Else1 → Tables
+its-tables c =
     let b = c .before .before .before .before .before .before .before .before .before .before .before .before in
-    lent (b .args .nodes .now) (b .args .copies .now) (b .args .watches .now) (b .args .transactions .now) (b .args .domains .now)
+    tables (b .args .nodes .now) (b .args .copies .now) (b .args .watches .now) (b .args .transactions .now) (b .args .domains .now)
 
-sized : (c : tie.Else1) → sizedTables (tables c) ≡ true
+sized : (c : tie.Else1) → sizedTables (its-tables c) ≡ true
 sized c = sym (c .before .sized-tables .ensures) ∙ not-false _ (c .if1 .left)
 
 root-only-requires : tie.Need-root-only-requires
-root-only-requires c κs = tables-sized (tables (c .before)) (sized (c .before)) .nodes
+root-only-requires c κs = tables-sized (its-tables (c .before)) (sized (c .before)) .nodes
 
 empty-requires : tie.Need-empty-requires
 empty-requires c κs = search needs
@@ -75,7 +75,7 @@ returns-2 c =
     let p = w .before .before .before .before in
     let n = p .before .before .before .before in
     let z = n .before .before in
-    fresh-done (tables z) (sized z) (n .root-only .ensures) (p .empty .ensures) (w .empty2 .ensures) (d .empty3 .ensures) (e .empty4 .ensures)
+    fresh-done (its-tables z) (sized z) (n .root-only .ensures) (p .empty .ensures) (w .empty2 .ensures) (d .empty3 .ensures) (e .empty4 .ensures)
 
 pub haabuvilk-fresh-spec : {M : Type 1} → statement M
 haabuvilk-fresh-spec =

@@ -1,7 +1,7 @@
 use mathlib.Core.Path.{sym, _∙_}
 use native.Mathlib.Omega.{arith}
 use Rattle.rules.specs.Call.{Tables}
-use Rattle.haabuvilk.specs.Lent.{lent}
+use Rattle.replies.specs.Does.{tables}
 use Rattle.haabuvilk.proofs.RequestLaws.{Ready, ready, turned-away, answered, reply-held, records-fit}
 use borrow.Author.Needs.{needs}
 use Rattle.haabuvilk.proofs.request.haabuvilk_request.Statement.{statement}
@@ -37,10 +37,10 @@ returns c = turned-away _ _ _ _ _ _ (c .before .verdict .ensures) (c .if1 .taken
 abbrev start : tie.Else1 → tie.Start
 start c = c .before .before .before .before .before .before .before .before .before .before .before .before .before .before .before .before .before
 
-abbrev tables : tie.Start → Tables
-tables b = lent (b .args .nodes .now) (b .args .copies .now) (b .args .watches .now) (b .args .transactions .now) (b .args .domains .now)
+abbrev its-tables : tie.Start → Tables
+its-tables b = tables (b .args .nodes .now) (b .args .copies .now) (b .args .watches .now) (b .args .transactions .now) (b .args .domains .now)
 
-ready-for : (c : tie.Else1) → let b = start c in Ready (tables b) (b .args .sender) (b .args .reply .now) (b .args .events .now) (b .args .message .now)
+ready-for : (c : tie.Else1) → let b = start c in Ready (its-tables b) (b .args .sender) (b .args .reply .now) (b .args .events .now) (b .args .message .now)
 ready-for c = ready _ _ _ _ _ (sym (c .before .verdict .ensures) ∙ c .if1 .left)
 
 number32-requires : tie.Need-number32-requires
