@@ -38,7 +38,7 @@ use Rattle.nodes.specs.declared.kinds.Answer.{Answer}
 use Rattle.replies.specs.Framed.{Told}
 use Rattle.replies.specs.Handled.{Handled}
 use Rattle.replies.specs.declared.kinds.Outcome.{Outcome}
-use Rattle.handlers.specs.Leaves.{tables, itsNodes, itsWatches, itsDomains}
+use Rattle.replies.specs.Does.{tables, itsNodes, itsWatches, itsDomains}
 use Rattle.handlers.specs.Asking.{copyIn, Asking, InCopy, Changing, ninthReply}
 use Rattle.handlers.proofs.Ways.{outcomeOf, same-tables, done-so}
 use Rattle.handlers.proofs.StartLaws.{copy-put}

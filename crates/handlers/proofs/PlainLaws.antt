@@ -32,7 +32,7 @@ use Rattle.events.specs.Records.{Mask}
 use Rattle.events.specs.Stores.{Store}
 use Rattle.replies.specs.Handled.{Handled}
 use Rattle.replies.specs.declared.kinds.Outcome.{Outcome}
-use Rattle.handlers.specs.Leaves.{tables, itsCopies, itsWatches, itsDomains}
+use Rattle.replies.specs.Does.{tables, itsCopies, itsWatches, itsDomains}
 use Rattle.handlers.specs.Asking.{GoodAsk, Asking, OnStore, Hearing, Changed}
 use Rattle.handlers.proofs.Ways.{outcomeOf, same-tables, done-so, heard-so}
 use Rattle.handlers.proofs.Answers.{Does, change-does, madeBy, change-made, left-sound, path-short, table-still, table-back}

@@ -75,7 +75,8 @@ Hearing Rm t ws path m = Mask (maskOf (hears t t (changeGiven true path)) ws) m
 Hearing SetPerms t ws path m = Mask (maskOf (hears t t (changeGiven false path)) ws) m
 
 -- all open transactions are stale, and the change is recorded
-pub record Changed (before : Table) (nodes watches transactions : Octets) (c : Change) (r : Reply) (events transactions′ events′ : Octets) (o : Outcome) : Type 0 where
+pub record Changed (before : Table) (nodes watches transactions : Octets) (c : Change) (r : Reply) (events transactions′ events′ : Octets)
+    (o : Outcome) : Type 0 where
   pub stale : transactions′ ≡ transactionsBytes (staled (transactionsOf transactions))
   pub count : ℕ
   pub heard : Events.Recorded 0 (heardChange before (tableOf nodes) (watchesOf watches) c) events events′ count

@@ -21,7 +21,7 @@ ghost use Rattle.events.specs.Stores.{Store};
 ghost use Rattle.nodes.specs.Answers.{Asks};
 ghost use Rattle.replies.specs.Framed.{Told};
 ghost use Rattle.replies.specs.Handled.{Handled};
-ghost use Rattle.handlers.specs.Leaves.{tables, itsNodes, itsCopies, itsWatches, itsDomains};
+ghost use Rattle.replies.specs.Does.{tables, itsNodes, itsCopies, itsWatches, itsDomains};
 ghost use Rattle.handlers.specs.Asking.{GoodAsk, Asking, OnStore, Hearing, Changed, InCopy, Changing, ninthReply};
 use events::changes::change_since;
 use events::masks::in_store;
