@@ -2,16 +2,16 @@
 ghost use mathlib.Core.Path.{_≡_};
 ghost use Prim.Native.Nat.{_<_};
 ghost use lib.ListN.{length};
-ghost use Rattle.rules.specs.Size.{headerSize, replySize};
-ghost use Rattle.rules.specs.Octets.{paste};
+ghost use Rattle.rules.specs.Size.{replySize};
 ghost use Rattle.rules.specs.Path.{Domain, namesIn};
 ghost use Rattle.rules.specs.Node.{reach};
 ghost use Rattle.rules.specs.Payload.{write, mkdir};
-ghost use Rattle.rules.specs.Answer.{room, created};
+ghost use Rattle.rules.specs.Answer.{OK, room, created};
 ghost use Rattle.rules.specs.Layout.{tableOf};
 ghost use Rattle.slots.specs.Left.{leftAt};
 ghost use Rattle.lookup.specs.Reach.{Reaches};
-ghost use Rattle.nodes.specs.Answers.{okay, Standing, Ready, Answers, Answered};
+ghost use Rattle.replies.specs.Framed.{Told};
+ghost use Rattle.nodes.specs.Answers.{Standing, Ready, Answers, Answered};
 use crate::kinds::Answer;
 use crate::kinds::Effect;
 use crate::looking::refusal;
@@ -22,14 +22,13 @@ use making::making::make;
 use octets::sizes::LONGEST_VALUE;
 use paths::names::fits;
 use replies::kinds::Errno;
-use replies::kinds::Reply;
 use replies::kinds::okay;
 use slots::writing::put_value;
 
 // Success with nothing to tell: `OK` and a nul.
 pub fn success(reply: &mut [u8], effect: Effect) -> Answer
     requires { ⌜ length (now reply) ≡ replySize ⌝ }
-    ensures { λ r. ⌜ (r ≡ record { reply = Reply.Done 3; effect = effect }) × (now (reply .exit) ≡ paste headerSize okay (now (reply .entry))) ⌝ }
+    ensures { λ r. ⌜ (r .effect ≡ effect) × Told OK (r .reply) (now (reply .entry)) (now (reply .exit)) ⌝ }
 {
     let told = okay(reply);
     Answer {

@@ -1,4 +1,4 @@
-// What a node request asks, and what it answers.
+// What a node request answers.
 use replies::kinds::Reply;
 
 // What was done to the path that was asked for.
@@ -6,16 +6,6 @@ pub enum Effect {
     Nothing,
     Wrote,
     Removed,
-}
-
-pub enum Ask {
-    Directory,
-    Read,
-    GetPerms,
-    Write,
-    Mkdir,
-    Rm,
-    SetPerms,
 }
 
 pub struct Answer {

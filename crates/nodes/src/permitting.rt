@@ -1,11 +1,15 @@
 // The request that gives a node other permission entries: SET_PERMS.
 ghost use mathlib.Core.Path.{_≡_};
+ghost use Prim.Native.Nat.{_≤_};
+ghost use Rattle.rules.specs.Size.{mostEntries};
 ghost use Rattle.rules.specs.Path.{Names};
-ghost use Rattle.rules.specs.Node.{Entry, nodeAt};
+ghost use Rattle.rules.specs.Node.{Entry, nodeAt, withEntries};
+ghost use Rattle.rules.specs.Payload.{setPerms};
 ghost use Rattle.rules.specs.Answer.{maySet};
-ghost use Rattle.rules.specs.Layout.{tableOf};
+ghost use Rattle.rules.specs.Layout.{tableOf, tableBytes};
 ghost use Rattle.lookup.specs.Rights.{Asked};
-ghost use Rattle.nodes.specs.Answers.{Ready, Stored, Permitted};
+ghost use Rattle.payload.specs.Meaning.{entryMeant, othersMeant, EntriesSound};
+ghost use Rattle.nodes.specs.Answers.{Ready, Answered};
 use crate::changing::success;
 use crate::kinds::Answer;
 use crate::kinds::Effect;
@@ -14,6 +18,7 @@ use crate::looking::refusal;
 use lookup::reach::reach;
 use lookup::rights::may_own;
 use octets::sizes::MOST_ENTRIES;
+use payload::answer::Entries;
 use replies::kinds::Errno;
 use slots::fields::entry_at;
 use slots::writing::put_entries;
@@ -33,18 +38,35 @@ fn may_set(t: &[u8], i: usize, domain: u32, owner: u32) -> bool
     owner == entry_at(t, i, 0).domain
 }
 
-// The entries are the first `count` of two arrays, the owner's first.
+// Gives slot i the entries, of which there are four at most.
+fn permit(t: &mut [u8], i: usize, entries: Entries)
+    requires { ⌜ Asked (now t) i × EntriesSound entries × (entries .count ≤ mostEntries) ⌝ }
+    ensures { λ _. ⌜ now (t .exit) ≡ tableBytes (withEntries (tableOf (now (t .entry))) i (entryMeant (entries .first)) (othersMeant entries)) ⌝ }
+{
+    let access = [
+        entries.first.access,
+        entries.second.access,
+        entries.third.access,
+        entries.fourth.access,
+    ];
+    let domains = [
+        entries.first.domain,
+        entries.second.domain,
+        entries.third.domain,
+        entries.fourth.domain,
+    ];
+    put_entries(t, i, entries.count, &access, &domains);
+}
+
 pub fn set_perms(
     t: &mut [u8],
     domain: u32,
     path: &[u8],
-    count: usize,
-    access: &[u32],
-    domains: &[u32],
+    entries: Entries,
     reply: &mut [u8],
 ) -> Answer
-    requires { ⌜ Ready (now t) (now path) (now reply) domain × Stored count (now access) (now domains) ⌝ }
-    ensures { λ r. ⌜ Permitted domain count (now (access .entry)) (now (domains .entry)) (now (path .entry)) (now (t .entry)) (now (t .exit))
+    requires { ⌜ Ready (now t) (now path) (now reply) domain × EntriesSound entries ⌝ }
+    ensures { λ r. ⌜ Answered domain (setPerms (entryMeant (entries .first)) (othersMeant entries)) (now (path .entry)) (now (t .entry)) (now (t .exit))
         (now (reply .entry)) (now (reply .exit)) r ⌝ }
 {
     let reached = reach(t, path);
@@ -52,12 +74,12 @@ pub fn set_perms(
     if reached.at < path.len() {
         return refusal(absent(t, slot, domain));
     }
-    if !may_set(t, slot, domain, domains[0]) {
+    if !may_set(t, slot, domain, entries.first.domain) {
         return refusal(Errno::Access);
     }
-    if MOST_ENTRIES < count {
+    if MOST_ENTRIES < entries.count {
         return refusal(Errno::NoSpace);
     }
-    put_entries(t, slot, count, access, domains);
+    permit(t, slot, entries);
     success(reply, Effect::Wrote)
 }
