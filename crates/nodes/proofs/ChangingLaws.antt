@@ -1,39 +1,53 @@
 -- WRITE, MKDIR, RM and SET_PERMS: what each answers where its tests came out so.
-use mathlib.Core.Path.{_≡_, sym, ap, ap₂, subst, _∙_}
+use mathlib.Core.Path.{_≡_, ap}
 use mathlib.Core.Bool.{Bool, true, false, cond}
 use mathlib.Core.List.{List, [], _∷_}
 use Prim.Native.Nat.{ℕ, suc, _≤_, _<_}
 use native.Mathlib.Omega.{arith}
-use lib.ListN.{length, getD}
-use lib.Dec.{eqb}
-use borrow.Author.Tests.{eq-eqb, ne-eqb, le-leb, lt-leb}
+use lib.ListN.{length}
+use borrow.Author.Tests.{le-leb, lt-leb}
 use Rattle.rules.specs.Size.{longestValue, mostEntries}
 use Rattle.rules.specs.Octets.{Octets}
 use Rattle.rules.specs.Path.{Domain, Name, Names, namesIn}
-use Rattle.rules.specs.Node.{Entry, Node, Table, nodeAt, reach, made, withValue, withEntries, removed}
-use Rattle.rules.specs.Rights.{mayRead, mayWrite, mayOwn}
+use Rattle.rules.specs.Node.{Entry, Table, nodeAt, reach, made, withValue, withEntries, removed}
+use Rattle.rules.specs.Rights.{mayRead, mayWrite}
 use Rattle.rules.specs.Payload as P
 use Rattle.rules.specs.Answer as A
-use Rattle.rules.specs.Answer.{refused, OK, EACCES, ENOSPC, unchanged, changed, absent, room, created, written, directoryMade, taken, maySet, permitted, answer, answered}
-use Rattle.rules.specs.Layout.{tableOf, tableBytes}
+use Rattle.rules.specs.Answer.{
+  refused,
+  OK,
+  EACCES,
+  ENOSPC,
+  unchanged,
+  changed,
+  absent,
+  room,
+  created,
+  written,
+  directoryMade,
+  taken,
+  maySet,
+  permitted,
+  answer,
+  answered,
+}
+use Rattle.rules.specs.Layout.{tableOf}
 use Rattle.lookup.proofs.ReachLaws.{left-first}
 use Rattle.slots.specs.Left.{leftAt}
-use Rattle.slots.specs.Written.{entryIn, othersIn}
 use Rattle.lookup.specs.Reach.{Reaches}
-use Rattle.nodes.specs.Answers.{Asks, Entries, Answered, AnsweredAs}
-use Rattle.nodes.specs.declared.kinds.Ask.{Ask}
-use Rattle.nodes.specs.declared.kinds.Answer.{Answer}
 use Rattle.nodes.proofs.Outcomes.{reached, whole, short}
 
 -- ── RM, by how many names are left ──
 
 module _ (d : Domain) (ns : Names) (t : Table) (i : ℕ) (n : Name) where
-  taken-far : (l : Names) → 0 < length l → (x : A.Errno) → x ≡ absent d ns t i → taken d ns t (record { slot = i; left = n ∷ l }) ≡ unchanged d ns t (refused x)
+  taken-far : (l : Names) → 0 < length l → (x : A.Errno) → x ≡ absent d ns t i →
+      taken d ns t (record { slot = i; left = n ∷ l }) ≡ unchanged d ns t (refused x)
   unfolding taken
   taken-far [] h x e = absurd (omega arith)
   taken-far (m ∷ l) h x e = rw e
 
-  taken-near : (l : Names) → length l ≤ 0 → (b : Bool) → mayRead d (nodeAt t i) ≡ b → taken d ns t (record { slot = i; left = n ∷ l }) ≡ unchanged d ns t (cond b OK (refused EACCES))
+  taken-near : (l : Names) → length l ≤ 0 → (b : Bool) → mayRead d (nodeAt t i) ≡ b →
+      taken d ns t (record { slot = i; left = n ∷ l }) ≡ unchanged d ns t (cond b OK (refused EACCES))
   unfolding taken
   taken-near [] h b m = rw m
   taken-near (m ∷ l) h b m′ = absurd (omega arith)
@@ -41,7 +55,8 @@ module _ (d : Domain) (ns : Names) (t : Table) (i : ℕ) (n : Name) where
 module _ (d : Domain) (t p : Octets) (i at : ℕ) (r : Reaches t p i at) where
   -- ── making what is left ──
 
-  pub created-denied : (v : Octets) → mayWrite d (nodeAt (tableOf t) i) ≡ false → created d (namesIn p) (tableOf t) (reach (tableOf t) (namesIn p)) v ≡ unchanged d (namesIn p) (tableOf t) (refused EACCES)
+  pub created-denied : (v : Octets) → mayWrite d (nodeAt (tableOf t) i) ≡ false →
+      created d (namesIn p) (tableOf t) (reach (tableOf t) (namesIn p)) v ≡ unchanged d (namesIn p) (tableOf t) (refused EACCES)
   unfolding created
   created-denied v m = rw (reached t p i at r, m)
 
@@ -51,18 +66,21 @@ module _ (d : Domain) (t p : Octets) (i at : ℕ) (r : Reaches t p i at) where
   created-full v m f = rw (reached t p i at r, m, f)
 
   pub created-done : (v : Octets) → mayWrite d (nodeAt (tableOf t) i) ≡ true → room d (namesIn p) (tableOf t) (leftAt p at) v ≡ true →
-      created d (namesIn p) (tableOf t) (reach (tableOf t) (namesIn p)) v ≡ changed d (namesIn p) (tableOf t) false (made (leftAt p at) i d v (tableOf t))
+      created d (namesIn p) (tableOf t) (reach (tableOf t) (namesIn p)) v
+      ≡ changed d (namesIn p) (tableOf t) false (made (leftAt p at) i d v (tableOf t))
   unfolding created
   created-done v m f = rw (reached t p i at r, m, f)
 
   -- ── an absent path ──
 
   module _ (h : at < length p) where
-    pub write-absent : (v : Octets) → answer d (P.write v) (namesIn p) (tableOf t) ≡ created d (namesIn p) (tableOf t) (reach (tableOf t) (namesIn p)) v
+    pub write-absent : (v : Octets) →
+        answer d (P.write v) (namesIn p) (tableOf t) ≡ created d (namesIn p) (tableOf t) (reach (tableOf t) (namesIn p)) v
     unfolding answer answered written
     write-absent v = rw (short t p i at r h)
 
-    pub mkdir-absent : answer d P.mkdir (namesIn p) (tableOf t) ≡ created d (namesIn p) (tableOf t) (reach (tableOf t) (namesIn p)) []
+    pub mkdir-absent : answer d P.mkdir (namesIn p) (tableOf t)
+        ≡ created d (namesIn p) (tableOf t) (reach (tableOf t) (namesIn p)) []
     unfolding answer answered directoryMade
     mkdir-absent = rw (short t p i at r h)
 
@@ -86,7 +104,8 @@ module _ (d : Domain) (t p : Octets) (i at : ℕ) (r : Reaches t p i at) where
   -- ── a path that is there ──
 
   module _ (h : length p ≤ at) where
-    pub write-denied : (v : Octets) → mayWrite d (nodeAt (tableOf t) i) ≡ false → answer d (P.write v) (namesIn p) (tableOf t) ≡ unchanged d (namesIn p) (tableOf t) (refused EACCES)
+    pub write-denied : (v : Octets) → mayWrite d (nodeAt (tableOf t) i) ≡ false →
+        answer d (P.write v) (namesIn p) (tableOf t) ≡ unchanged d (namesIn p) (tableOf t) (refused EACCES)
     unfolding answer answered written
     write-denied v m = rw (whole t p i at r h, m)
 
@@ -100,15 +119,18 @@ module _ (d : Domain) (t p : Octets) (i at : ℕ) (r : Reaches t p i at) where
     unfolding answer answered written
     write-done v m l = rw (whole t p i at r h, m, le-leb (length v) longestValue l)
 
-    pub mkdir-there : (b : Bool) → mayWrite d (nodeAt (tableOf t) i) ≡ b → answer d P.mkdir (namesIn p) (tableOf t) ≡ unchanged d (namesIn p) (tableOf t) (cond b OK (refused EACCES))
+    pub mkdir-there : (b : Bool) → mayWrite d (nodeAt (tableOf t) i) ≡ b →
+        answer d P.mkdir (namesIn p) (tableOf t) ≡ unchanged d (namesIn p) (tableOf t) (cond b OK (refused EACCES))
     unfolding answer answered directoryMade
     mkdir-there b m = rw (whole t p i at r h, m)
 
-    pub rm-denied : mayWrite d (nodeAt (tableOf t) i) ≡ false → answer d P.rm (namesIn p) (tableOf t) ≡ unchanged d (namesIn p) (tableOf t) (refused EACCES)
+    pub rm-denied : mayWrite d (nodeAt (tableOf t) i) ≡ false →
+        answer d P.rm (namesIn p) (tableOf t) ≡ unchanged d (namesIn p) (tableOf t) (refused EACCES)
     unfolding answer answered taken
     rm-denied m = rw (whole t p i at r h, m)
 
-    pub rm-done : mayWrite d (nodeAt (tableOf t) i) ≡ true → answer d P.rm (namesIn p) (tableOf t) ≡ changed d (namesIn p) (tableOf t) true (removed (tableOf t) i)
+    pub rm-done : mayWrite d (nodeAt (tableOf t) i) ≡ true →
+        answer d P.rm (namesIn p) (tableOf t) ≡ changed d (namesIn p) (tableOf t) true (removed (tableOf t) i)
     unfolding answer answered taken
     rm-done m = rw (whole t p i at r h, m)
 
@@ -127,36 +149,3 @@ module _ (d : Domain) (t p : Octets) (i at : ℕ) (r : Reaches t p i at) where
           answer d (P.setPerms o es) (namesIn p) (tableOf t) ≡ changed d (namesIn p) (tableOf t) false (withEntries (tableOf t) i o es)
       unfolding answer answered permitted
       perms-done m l = rw (whole t p i at r h, m, le-leb (suc (length es)) mostEntries l)
-
--- ── who may set entries ──
-
-module _ (d : Domain) (ns : Names) (t : Table) (n : Node) (o : Entry) where
-  pub set-denied : mayOwn d n ≡ false → false ≡ maySet d ns t n o
-  unfolding maySet
-  set-denied m = rw m
-
-  pub set-control : mayOwn d n ≡ true → d ≡ 0 → true ≡ maySet d ns t n o
-  unfolding maySet
-  set-control m e = rw (m, eq-eqb d 0 e)
-
-  pub set-owner : mayOwn d n ≡ true → (d ≡ 0 → ⊥) → (x y : ℕ) → o .domain ≡ x → y ≡ n .owner .domain → eqb x y ≡ maySet d ns t n o
-  unfolding maySet
-  set-owner m e x y ex ey = rw (m, ne-eqb d 0 e) (ap₂ eqb (sym ex) ey)
-
-module _ (n : ℕ) (access domains : List ℕ) (o : Entry) (es : List Entry) (e : Entries n access domains o es) where
-  pub owner-first : o .domain ≡ getD domains 0 0
-  unfolding entryIn
-  owner-first = ap (λ (x : Entry). x .domain) (e .owner)
-
-  pub entries-put : n ≤ mostEntries → (t : Table) (i : ℕ) (t′ : Octets) → t′ ≡ tableBytes (withEntries t i (entryIn access domains 0) (othersIn n access domains)) → t′ ≡ tableBytes (withEntries t i o es)
-  entries-put h t i t′ q = q ∙ ap tableBytes (ap₂ (withEntries t i) (sym (e .owner)) (sym (e .others h)))
-
--- ── whatever is asked ──
-
-module _ (d : Domain) (p t t′ before after : Octets) (r : Answer) where
-  pub answered-one : (a b : P.Ask) → a ≡ b → Answered d b p t t′ before after r → Answered d a p t t′ before after r
-  answered-one a b e h = rw e h
-
-  pub answered-as : (v : Octets) (n : ℕ) (access domains : List ℕ) (ask kind : Ask) → ask ≡ kind → ((a : P.Ask) → Asks kind v n access domains a → Answered d a p t t′ before after r) →
-      AnsweredAs d ask v n access domains p t t′ before after r
-  answered-as v n access domains ask kind e h = λ a q. h a (subst (λ (x : Ask). Asks x v n access domains a) e q)

@@ -2,3 +2,4 @@ pub mod Outcomes
 pub mod LookingLaws
 pub mod RoomLaws
 pub mod ChangingLaws
+pub mod PermittingLaws

@@ -4,7 +4,7 @@ use mathlib.Core.List.{List}
 use Prim.Native.Nat.{ℕ, _≤_, _<_}
 use lib.ListN.{length}
 use borrow.Author.Tests.{le-leb, lt-leb}
-use Rattle.rules.specs.Size.{longestPayload}
+use Rattle.rules.specs.Size.{headerSize, longestPayload}
 use Rattle.rules.specs.Octets.{Octets, paste}
 use Rattle.rules.specs.Path.{Domain, namesIn}
 use Rattle.rules.specs.Node.{Table, nodeAt, children}
@@ -44,18 +44,30 @@ module _ (d : Domain) (t p : Octets) where
   asked-seen x h i o = subst (Sees t p d) o h .0
 
   -- a request that gives so, where the look-up came out so
-  module _ (s : Standing t p) (ask : P.Ask) (give : ℕ → A.Reply) (q : answer d ask (namesIn p) (tableOf t) ≡ lookedAt t p d give) (x : Seen) (h : Sees t p d x) (before : Octets) where
-    pub not-seen : (e : Errno) → x ≡ Not e → (r : Answer) → r ≡ record { reply = Refused e; effect = Nothing } → Answered d ask p t t before before r
-    not-seen e o r z = refused-so d (namesIn p) t (sound-canonical t (s .sound)) _ before e r z (q ∙ subst (Sees t p d) o h give)
+  module _
+      (s : Standing t p)
+      (ask : P.Ask)
+      (give : ℕ → A.Reply)
+      (q : answer d ask (namesIn p) (tableOf t) ≡ lookedAt t p d give)
+      (x : Seen)
+      (h : Sees t p d x)
+      (before : Octets)
+    where
+      pub not-seen : (e : Errno) → x ≡ Not e → (r : Answer) → r ≡ record { reply = Refused e; effect = Nothing } →
+          Answered d ask p t t before before r
+      not-seen e o r z = refused-so d (namesIn p) t (sound-canonical t (s .sound)) _ before e r z (q ∙ subst (Sees t p d) o h give)
 
-    pub seen-refused : (i : ℕ) → x ≡ At i → (e : Errno) → give i ≡ refused (errnoMeant e) → (r : Answer) → r ≡ record { reply = Refused e; effect = Nothing } → Answered d ask p t t before before r
-    seen-refused i o e g r z =
-        refused-so d (namesIn p) t (sound-canonical t (s .sound)) _ before e r z (q ∙ subst (Sees t p d) o h .1 give ∙ ap (A.unchanged d (namesIn p) (tableOf t)) g)
+      pub seen-refused : (i : ℕ) → x ≡ At i → (e : Errno) → give i ≡ refused (errnoMeant e) → (r : Answer) →
+          r ≡ record { reply = Refused e; effect = Nothing } → Answered d ask p t t before before r
+      seen-refused i o e g r z =
+          refused-so d (namesIn p) t (sound-canonical t (s .sound)) _ before e r z
+          (q ∙ subst (Sees t p d) o h .1 give ∙ ap (A.unchanged d (namesIn p) (tableOf t)) g)
 
-    pub seen : (i : ℕ) → x ≡ At i → (b : Octets) → give i ≡ done b → (n : ℕ) → n ≡ length b → (after : Octets) → after ≡ paste 16 b before →
-        (r : Answer) → r ≡ record { reply = Done n; effect = Nothing } → Answered d ask p t t before after r
-    seen i o b g n l after w r z =
-        given-so d (namesIn p) t (sound-canonical t (s .sound)) _ before b after n r z (q ∙ subst (Sees t p d) o h .1 give ∙ ap (A.unchanged d (namesIn p) (tableOf t)) g) l w
+      pub seen : (i : ℕ) → x ≡ At i → (b : Octets) → give i ≡ done b → (n : ℕ) → n ≡ length b → (after : Octets) →
+          after ≡ paste headerSize b before → (r : Answer) → r ≡ record { reply = Done n; effect = Nothing } → Answered d ask p t t before after r
+      seen i o b g n l after w r z =
+          given-so d (namesIn p) t (sound-canonical t (s .sound)) _ before b after n r z
+          (q ∙ subst (Sees t p d) o h .1 give ∙ ap (A.unchanged d (namesIn p) (tableOf t)) g) l w
 
 -- ── a directory's names ──
 

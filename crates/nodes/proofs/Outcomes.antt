@@ -3,12 +3,16 @@ use mathlib.Core.Path.{_≡_, refl, sym, ap, ap₂, _∙_}
 use mathlib.Core.Bool.{Bool, true, false}
 use mathlib.Core.List.{[], _∷_}
 use mathlib.Core.Option.{some}
-use Prim.Native.Nat.{ℕ, _≤_, _<_}
-use lib.ListN.{length, drop}
-use Rattle.rules.specs.Octets.{Octets, text, paste}
+use Prim.Native.Nat.{ℕ, _-_, _≤_, _<_}
+use native.Mathlib.Omega.{arith}
+use lib.ListN.{length, take, drop, length-drop}
+use lib.Seq.{take-all}
+use Rattle.rules.specs.Size.{headerSize}
+use Rattle.rules.specs.Octets.{Octets, paste}
 use Rattle.rules.specs.Path.{Domain, Name, Names, namesIn}
 use Rattle.rules.specs.Node.{Table, Reached, nodeAt, reach}
 use Rattle.rules.specs.Rights.{mayRead}
+use Rattle.rules.specs.Payload as P
 use Rattle.rules.specs.Answer as A
 use Rattle.rules.specs.Answer.{done, refused, OK, unchanged, changed, looked, absent, EACCES, ENOENT}
 use Rattle.rules.specs.Layout.{tableOf, tableBytes}
@@ -20,7 +24,11 @@ use Rattle.paths.specs.Names.{firstPiece, otherPieces}
 use Rattle.rules.specs.Sound.{soundTable}
 use Rattle.lookup.proofs.ReachLaws.{left-first}
 use Rattle.slots.proofs.LeftLaws.{left-over}
-use Rattle.nodes.specs.Answers.{effectMeant, okay, Answers}
+use Rattle.replies.specs.Framed.{Told}
+use Rattle.payload.specs.Meaning.{askMeant}
+use Rattle.payload.specs.declared.answer.Ask.{Ask}
+use Rattle.payload.specs.declared.answer.Ask.the-variants.{Write}
+use Rattle.nodes.specs.Answers.{effectMeant, Answers, Answered}
 use Rattle.replies.specs.Meant.{errnoMeant}
 use Rattle.replies.specs.declared.kinds.Errno.{Errno}
 use Rattle.replies.specs.declared.kinds.Reply.the-variants.{Done, Refused}
@@ -31,26 +39,29 @@ use Rattle.nodes.specs.declared.kinds.Answer.{Answer}
 -- ── answers that change nothing ──
 
 module _ (d : Domain) (ns : Names) (t : Octets) (k : Canonical t) (a : A.Answer) (before : Octets) where
-  pub refused-so : (e : Errno) (r : Answer) → r ≡ record { reply = Refused e; effect = Nothing } → a ≡ unchanged d ns (tableOf t) (refused (errnoMeant e)) → Answers ns a t before before r
+  pub refused-so : (e : Errno) (r : Answer) → r ≡ record { reply = Refused e; effect = Nothing } →
+      a ≡ unchanged d ns (tableOf t) (refused (errnoMeant e)) → Answers ns a t before before r
   unfolding unchanged
   refused-so e r q h = rw (q, h) (record { table = sym (k .kept); change = refl; reply = (refl, refl) })
 
-  pub given-so : (s after : Octets) (n : ℕ) (r : Answer) → r ≡ record { reply = Done n; effect = Nothing } → a ≡ unchanged d ns (tableOf t) (done s) → n ≡ length s → after ≡ paste 16 s before →
-      Answers ns a t before after r
+  pub given-so : (s after : Octets) (n : ℕ) (r : Answer) → r ≡ record { reply = Done n; effect = Nothing } →
+      a ≡ unchanged d ns (tableOf t) (done s) → n ≡ length s → after ≡ paste headerSize s before → Answers ns a t before after r
   unfolding unchanged
   given-so s after n r q h l p = rw (q, h) (record { table = sym (k .kept); change = refl; reply = (ap Done l, p) })
 
-  pub okay-so : (after : Octets) (r : Answer) → r ≡ record { reply = Done 3; effect = Nothing } → a ≡ unchanged d ns (tableOf t) OK → after ≡ paste 16 okay before → Answers ns a t before after r
-  unfolding unchanged OK okay text
-  okay-so after r q h p = rw (q, h) (record { table = sym (k .kept); change = refl; reply = (refl, p) })
+  pub okay-so : (after : Octets) (r : Answer) → (r .effect ≡ Nothing) × Told OK (r .reply) before after →
+      a ≡ unchanged d ns (tableOf t) OK → Answers ns a t before after r
+  unfolding unchanged
+  okay-so after r q h = rw h (record { table = sym (k .kept); change = ap (λ (e : Effect). effectMeant e ns) (q .0); reply = q .1 })
 
 -- ── a change ──
 
-pub changed-so : (d : Domain) (ns : Names) (ts : Table) (a : A.Answer) (before : Octets) (removal : Bool) (ts′ : Table) (t′ after : Octets) (e : Effect) (r : Answer) →
-    r ≡ record { reply = Done 3; effect = e } → effectMeant e ns ≡ some (record { removal = removal; names = ns }) → a ≡ changed d ns ts removal ts′ → t′ ≡ tableBytes ts′ → after ≡ paste 16 okay before →
-    Answers ns a t′ before after r
-unfolding changed OK okay text
-changed-so d ns ts a before removal ts′ t′ after e r q m h b p = rw (q, h) (record { table = b; change = m; reply = (refl, p) })
+pub changed-so : (d : Domain) (ns : Names) (ts : Table) (a : A.Answer) (before : Octets) (removal : Bool) (ts′ : Table) (t′ after : Octets) (e : Effect)
+    (r : Answer) → (r .effect ≡ e) × Told OK (r .reply) before after → effectMeant e ns ≡ some (record { removal = removal; names = ns }) →
+    a ≡ changed d ns ts removal ts′ → t′ ≡ tableBytes ts′ → Answers ns a t′ before after r
+unfolding changed
+changed-so d ns ts a before removal ts′ t′ after e r q m h b =
+    rw h (record { table = b; change = ap (λ (x : Effect). effectMeant x ns) (q .0) ∙ m; reply = q .1 })
 
 -- ── where a path leads ──
 
@@ -62,7 +73,8 @@ module _ (t p : Octets) (i at : ℕ) (r : Reaches t p i at) where
   pub whole : length p ≤ at → reach (tableOf t) (namesIn p) ≡ record { slot = i; left = [] }
   whole h = reached ∙ ap (λ (l : Names). record { slot = i; left = l }) (left-over p at h)
 
-  pub short : at < length p → reach (tableOf t) (namesIn p) ≡ record { slot = i; left = firstPiece (drop at p) ∷ otherPieces (drop at p) }
+  pub short : at < length p →
+      reach (tableOf t) (namesIn p) ≡ record { slot = i; left = firstPiece (drop at p) ∷ otherPieces (drop at p) }
   short h = reached ∙ ap (λ (l : Names). record { slot = i; left = l }) (left-first p at h)
 
   pub asked : soundTable t ≡ true → Asked t i
@@ -80,14 +92,28 @@ module _ (d : Domain) (ns : Names) (t : Table) (i : ℕ) where
   hidden-absent m = rw m
 
   module _ (r : Reached) (give : ℕ → A.Reply) where
-    pub looked-there : r ≡ record { slot = i; left = [] } → mayRead d (nodeAt t i) ≡ true → looked d ns t r give ≡ unchanged d ns t (give i)
+    pub looked-there : r ≡ record { slot = i; left = [] } → mayRead d (nodeAt t i) ≡ true →
+        looked d ns t r give ≡ unchanged d ns t (give i)
     unfolding looked
     looked-there e m = rw (e, m)
 
-    pub looked-hidden : r ≡ record { slot = i; left = [] } → mayRead d (nodeAt t i) ≡ false → looked d ns t r give ≡ unchanged d ns t (refused EACCES)
+    pub looked-hidden : r ≡ record { slot = i; left = [] } → mayRead d (nodeAt t i) ≡ false →
+        looked d ns t r give ≡ unchanged d ns t (refused EACCES)
     unfolding looked
     looked-hidden e m = rw (e, m)
 
-    pub looked-short : (n : Name) (l : Names) → r ≡ record { slot = i; left = n ∷ l } → (x : A.Errno) → x ≡ absent d ns t i → looked d ns t r give ≡ unchanged d ns t (refused x)
+    pub looked-short : (n : Name) (l : Names) → r ≡ record { slot = i; left = n ∷ l } → (x : A.Errno) → x ≡ absent d ns t i →
+        looked d ns t r give ≡ unchanged d ns t (refused x)
     unfolding looked
     looked-short n l e x q = rw (e, q)
+
+-- ── whatever is asked ──
+
+module _ (d : Domain) (s p t t′ before after : Octets) (r : Answer) (ask : Ask) where
+  pub answered-as : (kind : Ask) → ask ≡ kind → Answered d (askMeant s kind) p t t′ before after r → Answered d (askMeant s ask) p t t′ before after r
+  answered-as kind e h = rw e h
+
+  -- the value is the rest of the payload
+  pub written-as : (from : ℕ) → ask ≡ Write from → Answered d (P.write (take (length s - from) (drop from s))) p t t′ before after r →
+      Answered d (askMeant s ask) p t t′ before after r
+  written-as from e h = answered-as (Write from) e (rw (← take-all (length s - from) (drop from s) (rw length-drop (omega arith))) h)

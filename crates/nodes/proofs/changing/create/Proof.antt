@@ -1,3 +1,4 @@
+-- What is left is made if the domain may write and there is room.
 use mathlib.Core.Path.{refl, sym, _∙_}
 use Rattle.slots.proofs.Canonical.{sound-canonical}
 use borrow.Author.Tests.{not-true, not-false}
@@ -35,15 +36,19 @@ same-length-2 c = search needs
 
 returns-2 : tie.Need-returns-2
 returns-2 c =
-    let a = c .before .before .before .before .before .before .before .before .before .before .before in
+    let may = c .before .before .before .before in
+    let a = may .before .before .before .before .before .before .before in
     refused-so (a .args .domain) _ (a .args .t .now) (sound-canonical _ (a .pre .0 .standing .sound)) _ (a .args .reply .now) _ _ (c .refusal2 .ensures)
-    (created-full _ _ _ _ _ (a .pre .1) _ (sym (c .before .before .before .before .before .may-write .ensures) ∙ not-false _ (c .before .before .before .before .if1 .left)) (sym (c .before .before .has-room .ensures (a .args .domain)) ∙ not-true _ (c .before .if2 .taken)))
+    (created-full _ _ _ _ _ (a .pre .1) _ (sym (may .before .may-write .ensures) ∙ not-false _ (may .if1 .left))
+    (sym (c .before .before .has-room .ensures (a .args .domain)) ∙ not-true _ (c .before .if2 .taken)))
 
 make-requires : tie.Need-make-requires
 make-requires c κs =
     let a = c .before .before .before .before .before .before .before .before .before .before .before in
-    let m = roomy (a .args .domain) _ _ _ _ (sym (c .before .before .has-room .ensures (a .args .domain)) ∙ not-false _ (c .before .if2 .left)) in
-    ((a .pre .1 .below, sound-canonical _ (a .pre .0 .standing .sound), a .pre .1 .used), (left-short _ _ _ _ (a .pre .1) (m .1), (m .2, (m .0, a .pre .0 .domain))))
+    let m = roomy (a .args .domain) _ _ _ _ (sym (c .before .before .has-room .ensures (a .args .domain)) ∙ not-false _ (c .before .if2 .left)) in (
+      (a .pre .1 .below, sound-canonical _ (a .pre .0 .standing .sound), a .pre .1 .used),
+      (left-short _ _ _ _ (a .pre .1) (m .1), (m .2, (m .0, a .pre .0 .domain))),
+    )
 
 success-requires : tie.Need-success-requires
 success-requires c κs = search needs
@@ -56,10 +61,14 @@ same-length-4 c = search needs
 
 returns-3 : tie.Need-returns-3
 returns-3 c =
-    let a = c .before .before .before .before .before .before .before .before .before .before .before .before .before .before .before .before .before .before in
-    changed-so (a .args .domain) _ _ _ (a .args .reply .now) _ _ _ _ _ _ (c .before .before .success .ensures .0) refl
-    (created-done _ _ _ _ _ (a .pre .1) _ (sym (c .before .before .before .before .before .before .before .before .before .before .before .before .may-write .ensures) ∙ not-false _ (c .before .before .before .before .before .before .before .before .before .before .before .if1 .left)) (sym (c .before .before .before .before .before .before .before .before .before .has-room .ensures (a .args .domain)) ∙ not-false _ (c .before .before .before .before .before .before .before .before .if2 .left)))
-    (c .before .before .before .before .before .before .make .ensures) (c .before .before .success .ensures .1)
+    let put = c .before .before .before .before .before .before in
+    let room = put .before .before .before in
+    let may = room .before .before in
+    let a = may .before .before .before .before .before .before .before in
+    changed-so (a .args .domain) _ _ _ (a .args .reply .now) _ _ _ _ _ _ (c .before .before .success .ensures) refl
+    (created-done _ _ _ _ _ (a .pre .1) _ (sym (may .before .may-write .ensures) ∙ not-false _ (may .if1 .left))
+    (sym (room .has-room .ensures (a .args .domain)) ∙ not-false _ (put .before .before .if2 .left)))
+    (put .make .ensures)
 
 pub create-spec : {M : Type 1} → statement M
 create-spec =

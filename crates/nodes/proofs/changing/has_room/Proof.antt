@@ -1,3 +1,4 @@
+-- The value, the path and the free slots are tested in turn.
 use mathlib.Core.Path.{sym, _∙_}
 use Rattle.slots.proofs.Canonical.{sound-canonical}
 use borrow.Author.Tests.{not-true, not-false}
@@ -19,10 +20,17 @@ names-left-requires : tie.Need-names-left-requires
 names-left-requires c κs = search needs
 
 free-count-requires : tie.Need-free-count-requires
-free-count-requires c κs = sound-canonical _ (c .before .before .before .before .before .before .before .pre .0 .sound) .whole
+free-count-requires c κs =
+    let a = c .before .before .before .before .before .before .before in
+    sound-canonical _ (a .pre .0 .sound) .whole
 
 returns-3 : tie.Need-returns-3
-returns-3 c = λ d. slots-decide d _ _ _ _ (c .before .before .before .before .if1 .left) (sym (c .before .before .before .fits2 .ensures) ∙ not-false _ (c .before .before .if2 .left)) _ _ (c .before .names-left .ensures) (c .free-count .ensures)
+returns-3 c =
+    let fit = c .before .before in
+    let short = fit .before .before in
+    λ d.
+    slots-decide d _ _ _ _ (short .if1 .left) (sym (fit .before .fits2 .ensures) ∙ not-false _ (fit .if2 .left)) _ _
+    (c .before .names-left .ensures) (c .free-count .ensures)
 
 pub has-room-spec : {M : Type 1} → statement M
 has-room-spec =

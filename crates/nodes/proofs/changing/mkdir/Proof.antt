@@ -1,3 +1,4 @@
+-- What is left of the path is made with no value; where nothing is, the right to write decides.
 use mathlib.Core.Path.{sym, _∙_}
 use Rattle.slots.proofs.Canonical.{sound-canonical}
 use Rattle.nodes.proofs.Outcomes.{refused-so, okay-so}
@@ -22,7 +23,10 @@ same-length-2 : tie.Need-same-length-2
 same-length-2 c = search needs
 
 returns : tie.Need-returns
-returns c = rw (mkdir-absent _ _ _ _ _ (c .before .before .before .before .before .before .before .before .before .reach .ensures) (c .before .before .before .before .before .before .before .before .if1 .taken)) (c .before .before .before .before .create .ensures)
+returns c =
+    let put = c .before .before .before .before in
+    let there = put .before .before .before .before in
+    rw (mkdir-absent _ _ _ _ _ (there .before .reach .ensures) (there .if1 .taken)) (put .create .ensures)
 
 may-write-requires : tie.Need-may-write-requires
 may-write-requires c κs = search needs
@@ -38,9 +42,12 @@ same-length-4 c = search needs
 
 returns-2 : tie.Need-returns-2
 returns-2 c =
-    let a = c .before .before .before .before .before .before .before .before .before .before .before .before .before in
-    okay-so (a .args .domain) _ (a .args .t .now) (sound-canonical _ (a .pre .standing .sound)) _ (a .args .reply .now) _ _ (c .before .before .success .ensures .0)
-    (mkdir-there _ _ _ _ _ (c .before .before .before .before .before .before .before .before .reach .ensures) (c .before .before .before .before .before .before .before .if1 .left) _ (sym (c .before .before .before .before .before .may-write .ensures) ∙ c .before .before .before .before .if2 .taken)) (c .before .before .success .ensures .1)
+    let may = c .before .before .before .before .before in
+    let there = may .before .before in
+    let a = there .before .before .before .before .before .before in
+    okay-so (a .args .domain) _ (a .args .t .now) (sound-canonical _ (a .pre .standing .sound)) _ (a .args .reply .now) _ _
+    (c .before .before .success .ensures)
+    (mkdir-there _ _ _ _ _ (there .before .reach .ensures) (there .if1 .left) _ (sym (may .may-write .ensures) ∙ c .before .before .before .before .if2 .taken))
 
 refusal-requires : tie.Need-refusal-requires
 refusal-requires c κs = search needs
@@ -50,9 +57,11 @@ same-length-5 c = search needs
 
 returns-3 : tie.Need-returns-3
 returns-3 c =
-    let a = c .before .before .before .before .before .before .before .before .before .before in
+    let may = c .before .before in
+    let there = may .before .before in
+    let a = there .before .before .before .before .before .before in
     refused-so (a .args .domain) _ (a .args .t .now) (sound-canonical _ (a .pre .standing .sound)) _ (a .args .reply .now) _ _ (c .refusal .ensures)
-    (mkdir-there _ _ _ _ _ (c .before .before .before .before .before .reach .ensures) (c .before .before .before .before .if1 .left) _ (sym (c .before .before .may-write .ensures) ∙ c .before .if2 .left))
+    (mkdir-there _ _ _ _ _ (there .before .reach .ensures) (there .if1 .left) _ (sym (may .may-write .ensures) ∙ c .before .if2 .left))
 
 pub mkdir-spec : {M : Type 1} → statement M
 mkdir-spec =

@@ -1,9 +1,5 @@
-use mathlib.Core.Path.{ap}
-use Rattle.rules.specs.Octets.{text}
-use Rattle.rules.specs.Answer.{OK}
-use Rattle.replies.specs.declared.kinds.Reply.{Reply}
-use Rattle.nodes.specs.declared.kinds.Answer.{Answer}
-use Rattle.nodes.specs.Answers.{okay}
+-- The reply is `okay`'s, and the effect the one given.
+use mathlib.Core.Path.{refl}
 use borrow.Author.Needs.{needs}
 use Rattle.nodes.proofs.changing.success.Statement.{statement}
 use Rattle.nodes.proofs.changing.success.Tie as tie
@@ -15,10 +11,7 @@ same-length : tie.Need-same-length
 same-length c = search needs
 
 returns : tie.Need-returns
-unfolding OK okay text
-returns c =
-    let at-okay = c .before .before .okay .ensures in
-    (ap (λ (r : Reply). record { reply = r; effect = c .before .before .before .before .before .args .effect }) (at-okay .0), at-okay .1)
+returns c = (refl, c .before .before .okay .ensures)
 
 pub success-spec : {M : Type 1} → statement M
 success-spec = tie.close (tie.spec okay-requires same-length returns)

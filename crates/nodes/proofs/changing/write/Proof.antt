@@ -1,3 +1,4 @@
+-- Where the path is there its value is put, if the domain may and the value is not too long; else what is left of it is made.
 use mathlib.Core.Path.{refl, sym, _∙_}
 use Rattle.slots.proofs.Canonical.{sound-canonical}
 use borrow.Author.Tests.{not-true, not-false}
@@ -20,7 +21,10 @@ same-length-2 : tie.Need-same-length-2
 same-length-2 c = search needs
 
 returns : tie.Need-returns
-returns c = rw (write-absent _ _ _ _ _ (c .before .before .before .before .before .before .before .before .reach .ensures) (c .before .before .before .before .before .before .before .if1 .taken) _) (c .before .before .before .before .create .ensures)
+returns c =
+    let put = c .before .before .before .before in
+    let there = put .before .before .before in
+    rw (write-absent _ _ _ _ _ (there .before .reach .ensures) (there .if1 .taken) _) (put .create .ensures)
 
 may-write-requires : tie.Need-may-write-requires
 may-write-requires c κs = search needs
@@ -33,9 +37,11 @@ same-length-3 c = search needs
 
 returns-2 : tie.Need-returns-2
 returns-2 c =
-    let a = c .before .before .before .before .before .before .before .before .before .before .before in
+    let may = c .before .before in
+    let there = may .before .before in
+    let a = there .before .before .before .before .before .before .before in
     refused-so (a .args .domain) _ (a .args .t .now) (sound-canonical _ (a .pre .standing .sound)) _ (a .args .reply .now) _ _ (c .refusal .ensures)
-    (write-denied _ _ _ _ _ (c .before .before .before .before .before .reach .ensures) (c .before .before .before .before .if1 .left) _ (sym (c .before .before .may-write .ensures) ∙ not-true _ (c .before .if2 .taken)))
+    (write-denied _ _ _ _ _ (there .before .reach .ensures) (there .if1 .left) _ (sym (may .may-write .ensures) ∙ not-true _ (c .before .if2 .taken)))
 
 refusal-requires-2 : tie.Need-refusal-requires-2
 refusal-requires-2 c κs = search needs
@@ -45,12 +51,18 @@ same-length-4 c = search needs
 
 returns-3 : tie.Need-returns-3
 returns-3 c =
-    let a = c .before .before .before .before .before .before .before .before .before .before .before .before in
+    let may = c .before .before .before in
+    let there = may .before .before in
+    let a = there .before .before .before .before .before .before .before in
     refused-so (a .args .domain) _ (a .args .t .now) (sound-canonical _ (a .pre .standing .sound)) _ (a .args .reply .now) _ _ (c .refusal2 .ensures)
-    (write-long _ _ _ _ _ (c .before .before .before .before .before .before .reach .ensures) (c .before .before .before .before .before .if1 .left) _ (sym (c .before .before .before .may-write .ensures) ∙ not-false _ (c .before .before .if2 .left)) (c .before .if3 .taken))
+    (write-long _ _ _ _ _ (there .before .reach .ensures) (there .if1 .left) _ (sym (may .may-write .ensures) ∙ not-false _ (c .before .before .if2 .left))
+    (c .before .if3 .taken))
 
 put-value-requires : tie.Need-put-value-requires
-put-value-requires c κs = (c .before .before .before .before .before .before .reach .ensures .below, sound-canonical _ (c .before .before .before .before .before .before .before .before .before .before .before .before .pre .standing .sound), c .before .before .before .before .before .before .reach .ensures .used, c .before .if3 .left)
+put-value-requires c κs =
+    let at = c .before .before .before .before .before .before in
+    let there = at .reach .ensures in
+    (there .below, sound-canonical _ (at .before .before .before .before .before .before .pre .standing .sound), there .used, c .before .if3 .left)
 
 success-requires : tie.Need-success-requires
 success-requires c κs = search needs
@@ -63,10 +75,15 @@ same-length-6 c = search needs
 
 returns-4 : tie.Need-returns-4
 returns-4 c =
-    let a = c .before .before .before .before .before .before .before .before .before .before .before .before .before .before .before .before .before .before .before in
-    changed-so (a .args .domain) _ _ _ (a .args .reply .now) _ _ _ _ _ _ (c .before .before .success .ensures .0) refl
-    (write-done _ _ _ _ _ (c .before .before .before .before .before .before .before .before .before .before .before .before .before .reach .ensures) (c .before .before .before .before .before .before .before .before .before .before .before .before .if1 .left) _ (sym (c .before .before .before .before .before .before .before .before .before .before .may-write .ensures) ∙ not-false _ (c .before .before .before .before .before .before .before .before .before .if2 .left)) (c .before .before .before .before .before .before .before .before .if3 .left))
-    (c .before .before .before .before .before .before .put-value .ensures) (c .before .before .success .ensures .1)
+    let put = c .before .before .before .before .before .before in
+    let short = put .before .before in
+    let may = short .before .before in
+    let there = may .before .before in
+    let a = there .before .before .before .before .before .before .before in
+    changed-so (a .args .domain) _ _ _ (a .args .reply .now) _ _ _ _ _ _ (c .before .before .success .ensures) refl
+    (write-done _ _ _ _ _ (there .before .reach .ensures) (there .if1 .left) _ (sym (may .may-write .ensures) ∙ not-false _ (short .before .if2 .left))
+    (short .if3 .left))
+    (put .put-value .ensures)
 
 pub write-spec : {M : Type 1} → statement M
 write-spec =

@@ -1,3 +1,4 @@
+-- The names of the children of the slot that is seen are put behind the header, if they are not too long.
 use Rattle.nodes.proofs.LookingLaws.{directory-gives, not-seen, seen-refused, seen, listed-big, listed-small}
 use borrow.Author.Needs.{needs}
 use Rattle.nodes.proofs.looking.directory.Statement.{statement}
@@ -32,9 +33,14 @@ refusal-requires-2 c κs = search needs
 
 returns : tie.Need-returns
 returns c =
-    let a = c .before .before .before .before .before .before .before .before .before .before .before .before .before .before in
-    seen-refused (a .args .domain) (a .args .t .now) (a .args .path .now) (a .pre .standing) _ _ (directory-gives (a .args .domain) (a .args .t .now) (a .args .path .now)) _ (c .before .before .before .before .before .before .before .before .before .before .look .ensures) (a .args .reply .now) _ (c .before .before .before .before .before .before .before .before .slot .given .1)
-    _ (listed-big _ _ _ (c .before .before .before .before .before .children .ensures .all) _ (c .before .before .names-length .ensures) (c .before .if1 .taken)) _ (c .refusal2 .ensures)
+    let at = c .before .before .before .before .before .before .before .before in
+    let a = at .before .before .before .before .before .before in
+    let d = a .args .domain in
+    let t = a .args .t .now in
+    let p = a .args .path .now in
+    seen-refused d t p (a .pre .standing) _ _ (directory-gives d t p) _ (at .before .before .look .ensures) (a .args .reply .now) _ (at .slot .given .1) _
+    (listed-big _ _ _ (c .before .before .before .before .before .children .ensures .all) _ (c .before .before .names-length .ensures)
+    (c .before .if1 .taken)) _ (c .refusal2 .ensures)
 
 slice-aggregate-put-names : tie.Need-slice-aggregate-put-names
 slice-aggregate-put-names c = search needs
@@ -47,17 +53,28 @@ given-requires c κs = search needs
 
 returns-2 : tie.Need-returns-2
 returns-2 c =
-    let a = c .before .before .before .before .before .before .before .before in
-    not-seen (a .args .domain) (a .args .t .now) (a .args .path .now) (a .pre .standing) _ _ (directory-gives (a .args .domain) (a .args .t .now) (a .args .path .now)) _ (c .before .before .before .before .look .ensures) _ _ (c .before .before .e .given .1) _ (c .refusal .ensures)
+    let at = c .before .before in
+    let a = at .before .before .before .before .before .before in
+    let d = a .args .domain in
+    let t = a .args .t .now in
+    let p = a .args .path .now in
+    not-seen d t p (a .pre .standing) _ _ (directory-gives d t p) _ (at .before .before .look .ensures) _ _ (at .e .given .1) _ (c .refusal .ensures)
 
 same-length : tie.Need-same-length
 same-length c = search needs
 
 returns-3 : tie.Need-returns-3
 returns-3 c =
-    let a = c .before .before .before .before .before .before .before .before .before .before .before .before .before .before .before .before .before .before .before in
-    seen (a .args .domain) (a .args .t .now) (a .args .path .now) (a .pre .standing) _ _ (directory-gives (a .args .domain) (a .args .t .now) (a .args .path .now)) _ (c .before .before .before .before .before .before .before .before .before .before .before .before .before .before .before .look .ensures) (a .args .reply .now) _ (c .before .before .before .before .before .before .before .before .before .before .before .before .before .slot .given .1)
-    _ (listed-small _ _ _ (c .before .before .before .before .before .before .before .before .before .before .children .ensures .all) _ (c .before .before .before .before .before .before .before .names-length .ensures) (c .before .before .before .before .before .before .if1 .left)) _ (c .before .before .before .before .before .before .before .names-length .ensures) _ (c .before .before .before .put-names .ensures .bytes) _ (c .given .ensures)
+    let small = c .before .before .before .before .before .before in
+    let long = small .before .names-length .ensures in
+    let at = small .before .before .before .before .before .before .before in
+    let a = at .before .before .before .before .before .before in
+    let d = a .args .domain in
+    let t = a .args .t .now in
+    let p = a .args .path .now in
+    seen d t p (a .pre .standing) _ _ (directory-gives d t p) _ (at .before .before .look .ensures) (a .args .reply .now) _ (at .slot .given .1) _
+    (listed-small _ _ _ (small .before .before .before .before .children .ensures .all) _ long (small .if1 .left)) _ long _
+    (c .before .before .before .put-names .ensures .bytes) _ (c .given .ensures)
 
 pub directory-spec : {M : Type 1} → statement M
 directory-spec =

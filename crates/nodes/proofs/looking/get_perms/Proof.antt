@@ -1,3 +1,4 @@
+-- The entries of the slot that is seen are put behind the header.
 use mathlib.Core.Path.{refl}
 use native.Mathlib.Omega.{arith}
 use Rattle.rules.specs.Layout.{tableOf}
@@ -22,7 +23,10 @@ enum-known-slot : tie.Need-enum-known-slot
 enum-known-slot c = search needs
 
 put-entries-requires : tie.Need-put-entries-requires
-put-entries-requires c κs = (asked-seen _ (c .before .before .before .before .before .before .before .before .args .t .now) _ _ (c .before .before .before .before .look .ensures) _ (c .before .before .slot .given .1), omega (arith, c .before .before .before .before .before .before .before .before .pre .long))
+put-entries-requires c κs =
+    let at = c .before .before in
+    let a = at .before .before .before .before .before .before in
+    (asked-seen _ (a .args .t .now) _ _ (at .before .before .look .ensures) _ (at .slot .given .1), omega (arith, a .pre .long))
 
 sub-given : tie.Need-sub-given
 sub-given c = search needs
@@ -32,8 +36,12 @@ given-requires c κs = search needs
 
 returns : tie.Need-returns
 returns c =
-    let a = c .before .before .before .before .before .before .before .before in
-    not-seen (a .args .domain) (a .args .t .now) (a .args .path .now) (a .pre .standing) _ _ (get-perms-gives (a .args .domain) (a .args .t .now) (a .args .path .now)) _ (c .before .before .before .before .look .ensures) _ _ (c .before .before .e .given .1) _ (c .refusal .ensures)
+    let at = c .before .before in
+    let a = at .before .before .before .before .before .before in
+    let d = a .args .domain in
+    let t = a .args .t .now in
+    let p = a .args .path .now in
+    not-seen d t p (a .pre .standing) _ _ (get-perms-gives d t p) _ (at .before .before .look .ensures) _ _ (at .e .given .1) _ (c .refusal .ensures)
 
 same-length : tie.Need-same-length
 same-length c = search needs
@@ -41,10 +49,14 @@ same-length c = search needs
 returns-2 : tie.Need-returns-2
 unfolding permissions
 returns-2 c =
-    let a = c .before .before .before .before .before .before .before .before .before .before .before .before in
+    let at = c .before .before .before .before .before .before in
+    let a = at .before .before .before .before .before .before in
+    let d = a .args .domain in
+    let t = a .args .t .now in
+    let p = a .args .path .now in
     let w = c .before .before .before .put-entries .ensures in
-    let n = nodeAt (tableOf (a .args .t .now)) (c .before .before .before .before .before .before .slot .given .0 .0) in
-    seen (a .args .domain) (a .args .t .now) (a .args .path .now) (a .pre .standing) _ _ (get-perms-gives (a .args .domain) (a .args .t .now) (a .args .path .now)) _ (c .before .before .before .before .before .before .before .before .look .ensures) (a .args .reply .now) _ (c .before .before .before .before .before .before .slot .given .1)
+    let n = nodeAt (tableOf t) (at .slot .given .0 .0) in
+    seen d t p (a .pre .standing) _ _ (get-perms-gives d t p) _ (at .before .before .look .ensures) (a .args .reply .now) _ (at .slot .given .1)
     (flatMap entryText (n .owner ∷ n .others)) refl _ (omega (arith, w .behind)) _ (w .bytes) _ (c .given .ensures)
 
 pub get-perms-spec : {M : Type 1} → statement M

@@ -1,9 +1,11 @@
+-- The value of the slot that is seen is copied behind the header.
 use mathlib.Core.Path.{refl, ap, _∙_}
 use native.Mathlib.Omega.{arith}
 use Rattle.slots.proofs.Canonical.{sound-canonical}
 use Rattle.rules.specs.Layout.{tableOf}
 use Rattle.rules.specs.Node.{nodeAt}
 use lib.ListN.{length}
+use Rattle.rules.specs.Size.{headerSize}
 use Rattle.rules.specs.Octets.{Octets, paste}
 use Rattle.rules.proofs.Fitting.{nodeAt-fits, decoded-fits}
 use Rattle.slots.proofs.Canonical.{value-short}
@@ -26,30 +28,45 @@ enum-known-slot c = search needs
 
 value-requires : tie.Need-value-requires
 value-requires c κs =
-    let a = asked-seen _ (c .before .before .before .before .before .before .before .args .t .now) _ _ (c .before .before .before .look .ensures) _ (c .before .slot .given .1) in
-    (a .below, sound-canonical _ (a .sound) .whole, a .used, value-short (c .before .before .before .before .before .before .before .args .t .now) (a .sound) _ (a .below) (a .used))
+    let at = c .before in
+    let a = at .before .before .before .before .before .before in
+    let t = a .args .t .now in
+    let k = asked-seen _ t _ _ (at .before .before .look .ensures) _ (at .slot .given .1) in
+    (k .below, sound-canonical _ (k .sound) .whole, k .used, value-short t (k .sound) _ (k .below) (k .used))
 
 copy-requires : tie.Need-copy-requires
 copy-requires c κs =
-    omega (arith, ap length (c .before .value .ensures), nodeAt-fits (tableOf (c .before .before .before .before .before .before .before .before .before .args .t .now)) (c .before .before .before .slot .given .0 .0) (decoded-fits (c .before .before .before .before .before .before .before .before .before .args .t .now) .all) .value, c .before .before .before .before .before .before .before .before .before .pre .long)
+    let at = c .before .before .before in
+    let a = at .before .before .before .before .before .before in
+    let t = a .args .t .now in
+    omega (arith, ap length (c .before .value .ensures), nodeAt-fits (tableOf t) (at .slot .given .0 .0) (decoded-fits t .all) .value, a .pre .long)
 
 given-requires : tie.Need-given-requires
 given-requires c κs = search needs
 
 returns : tie.Need-returns
 returns c =
-    let a = c .before .before .before .before .before .before .before .before in
-    not-seen (a .args .domain) (a .args .t .now) (a .args .path .now) (a .pre .standing) _ _ (read-gives (a .args .domain) (a .args .t .now) (a .args .path .now)) _ (c .before .before .before .before .look .ensures) _ _ (c .before .before .e .given .1) _ (c .refusal .ensures)
+    let at = c .before .before in
+    let a = at .before .before .before .before .before .before in
+    let d = a .args .domain in
+    let t = a .args .t .now in
+    let p = a .args .path .now in
+    not-seen d t p (a .pre .standing) _ _ (read-gives d t p) _ (at .before .before .look .ensures) _ _ (at .e .given .1) _ (c .refusal .ensures)
 
 same-length : tie.Need-same-length
 same-length c = search needs
 
 returns-2 : tie.Need-returns-2
 returns-2 c =
-    let a = c .before .before .before .before .before .before .before .before .before .before .before .before .before in
+    let at = c .before .before .before .before .before .before .before in
+    let a = at .before .before .before .before .before .before in
+    let d = a .args .domain in
+    let t = a .args .t .now in
+    let p = a .args .path .now in
     let v = c .before .before .before .before .before .value .ensures in
-    seen (a .args .domain) (a .args .t .now) (a .args .path .now) (a .pre .standing) _ _ (read-gives (a .args .domain) (a .args .t .now) (a .args .path .now)) _ (c .before .before .before .before .before .before .before .before .before .look .ensures) (a .args .reply .now) _ (c .before .before .before .before .before .before .before .slot .given .1)
-    (nodeAt (tableOf (a .args .t .now)) (c .before .before .before .before .before .before .before .slot .given .0 .0) .value) refl _ (ap length v) _ (c .before .before .before .copy .ensures ∙ ap (λ (ys : Octets). paste 16 ys (a .args .reply .now)) v) _ (c .given .ensures)
+    seen d t p (a .pre .standing) _ _ (read-gives d t p) _ (at .before .before .look .ensures) (a .args .reply .now) _ (at .slot .given .1)
+    (nodeAt (tableOf t) (at .slot .given .0 .0) .value) refl _ (ap length v) _
+    (c .before .before .before .copy .ensures ∙ ap (λ (ys : Octets). paste headerSize ys (a .args .reply .now)) v) _ (c .given .ensures)
 
 pub read-spec : {M : Type 1} → statement M
 read-spec =

@@ -1,9 +1,11 @@
+-- The tests are those of the rule book in its order, and four entries at most are those that are put.
 use mathlib.Core.Path.{refl, sym, _∙_}
 use native.Mathlib.Omega.{arith}
 use Rattle.slots.proofs.Canonical.{sound-canonical}
 use borrow.Author.Tests.{not-true, not-false}
 use Rattle.nodes.proofs.Outcomes.{refused-so, changed-so}
-use Rattle.nodes.proofs.ChangingLaws.{perms-absent, perms-denied, perms-many, perms-done, owner-first, entries-put}
+use Rattle.nodes.proofs.ChangingLaws.{perms-absent, perms-denied, perms-many, perms-done}
+use Rattle.nodes.proofs.PermittingLaws.{many-meant}
 use borrow.Author.Needs.{needs}
 use Rattle.nodes.proofs.permitting.set_perms.Statement.{statement}
 use Rattle.nodes.proofs.permitting.set_perms.Tie as tie
@@ -22,13 +24,10 @@ same-length c = search needs
 
 returns : tie.Need-returns
 returns c =
-    let a = c .before .before .before .before .before .before .before .before .before .before .before .before in
-    λ o es g.
+    let there = c .before .before .before in
+    let a = there .before .before .before .before .before .before .before in
     refused-so (a .args .domain) _ (a .args .t .now) (sound-canonical _ (a .pre .0 .standing .sound)) _ (a .args .reply .now) _ _ (c .refusal .ensures)
-    (perms-absent _ _ _ _ _ (c .before .before .before .before .before .reach .ensures) (c .before .before .before .if1 .taken) o es _ (c .before .absent .ensures _))
-
-shared-slice-read-may-set : tie.Need-shared-slice-read-may-set
-shared-slice-read-may-set c = search needs
+    (perms-absent _ _ _ _ _ (there .before .before .reach .ensures) (there .if1 .taken) _ _ _ (c .before .absent .ensures _))
 
 may-set-requires : tie.Need-may-set-requires
 may-set-requires c κs = search needs
@@ -41,10 +40,12 @@ same-length-2 c = search needs
 
 returns-2 : tie.Need-returns-2
 returns-2 c =
-    let a = c .before .before .before .before .before .before .before .before .before .before .before .before .before .before in
-    λ o es g.
+    let may = c .before .before in
+    let there = may .before .before in
+    let a = there .before .before .before .before .before .before .before in
     refused-so (a .args .domain) _ (a .args .t .now) (sound-canonical _ (a .pre .0 .standing .sound)) _ (a .args .reply .now) _ _ (c .refusal2 .ensures)
-    (perms-denied _ _ _ _ _ (c .before .before .before .before .before .before .before .reach .ensures) (c .before .before .before .before .before .if1 .left) o es (sym (c .before .before .may-set .ensures _ o (owner-first _ _ _ o es g)) ∙ not-true _ (c .before .if2 .taken)))
+    (perms-denied _ _ _ _ _ (there .before .before .reach .ensures) (there .if1 .left) _ _
+    (sym (may .may-set .ensures _ _ refl) ∙ not-true _ (c .before .if2 .taken)))
 
 refusal-requires-3 : tie.Need-refusal-requires-3
 refusal-requires-3 c κs = search needs
@@ -54,13 +55,16 @@ same-length-3 c = search needs
 
 returns-3 : tie.Need-returns-3
 returns-3 c =
-    let a = c .before .before .before .before .before .before .before .before .before .before .before .before .before .before .before in
-    λ o es g.
+    let may = c .before .before .before .before in
+    let there = may .before .before in
+    let a = there .before .before .before .before .before .before .before in
     refused-so (a .args .domain) _ (a .args .t .now) (sound-canonical _ (a .pre .0 .standing .sound)) _ (a .args .reply .now) _ _ (c .refusal3 .ensures)
-    (perms-many _ _ _ _ _ (c .before .before .before .before .before .before .before .before .reach .ensures) (c .before .before .before .before .before .before .if1 .left) o es (sym (c .before .before .before .may-set .ensures _ o (owner-first _ _ _ o es g)) ∙ not-false _ (c .before .before .if2 .left)) (omega (arith, g .many, c .before .if3 .taken)))
+    (perms-many _ _ _ _ _ (there .before .before .reach .ensures) (there .if1 .left) _ _
+    (sym (may .may-set .ensures _ _ refl) ∙ not-false _ (c .before .before .before .if2 .left))
+    (omega (arith, many-meant (a .args .entries) (a .pre .1 .some-entry), c .before .if3 .taken)))
 
-put-entries-requires : tie.Need-put-entries-requires
-put-entries-requires c κs = (c .before .before .before .before .before .before .before .before .reach .ensures .below, sound-canonical _ (c .before .before .before .before .before .before .before .before .before .before .before .before .before .before .before .pre .0 .standing .sound), c .before .before .before .before .before .before .before .before .reach .ensures .used, c .before .before .before .before .before .before .before .before .before .before .before .before .before .before .before .pre .1 .all (c .before .if3 .left))
+permit-requires : tie.Need-permit-requires
+permit-requires c κs = search needs
 
 success-requires : tie.Need-success-requires
 success-requires c κs = search needs
@@ -73,11 +77,16 @@ same-length-5 c = search needs
 
 returns-4 : tie.Need-returns-4
 returns-4 c =
-    let a = c .before .before .before .before .before .before .before .before .before .before .before .before .before .before .before .before .before .before .before .before .before .before in
-    λ o es g.
-    changed-so (a .args .domain) _ _ _ (a .args .reply .now) _ _ _ _ _ _ (c .before .before .success .ensures .0) refl
-    (perms-done _ _ _ _ _ (c .before .before .before .before .before .before .before .before .before .before .before .before .before .before .before .reach .ensures) (c .before .before .before .before .before .before .before .before .before .before .before .before .before .if1 .left) o es (sym (c .before .before .before .before .before .before .before .before .before .before .may-set .ensures _ o (owner-first _ _ _ o es g)) ∙ not-false _ (c .before .before .before .before .before .before .before .before .before .if2 .left)) (omega (arith, g .many, c .before .before .before .before .before .before .before .before .if3 .left)))
-    (entries-put _ _ _ o es g (c .before .before .before .before .before .before .before .before .if3 .left) _ _ _ (c .before .before .before .before .before .before .put-entries .ensures)) (c .before .before .success .ensures .1)
+    let put = c .before .before .before .before .before .before in
+    let few = put .before .before in
+    let may = few .before .before .before in
+    let there = may .before .before in
+    let a = there .before .before .before .before .before .before .before in
+    changed-so (a .args .domain) _ _ _ (a .args .reply .now) _ _ _ _ _ _ (c .before .before .success .ensures) refl
+    (perms-done _ _ _ _ _ (there .before .before .reach .ensures) (there .if1 .left) _ _
+    (sym (may .may-set .ensures _ _ refl) ∙ not-false _ (few .before .before .if2 .left))
+    (omega (arith, many-meant (a .args .entries) (a .pre .1 .some-entry), few .if3 .left)))
+    (put .permit .ensures)
 
 pub set-perms-spec : {M : Type 1} → statement M
 set-perms-spec =
@@ -88,7 +97,6 @@ set-perms-spec =
     refusal-requires
     same-length
     returns
-    shared-slice-read-may-set
     may-set-requires
     refusal-requires-2
     same-length-2
@@ -96,7 +104,7 @@ set-perms-spec =
     refusal-requires-3
     same-length-3
     returns-3
-    put-entries-requires
+    permit-requires
     success-requires
     same-length-4
     same-length-5

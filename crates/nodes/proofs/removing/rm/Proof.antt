@@ -1,3 +1,4 @@
+-- A path that is there is removed if the domain may write it; an absent one is answered by its own function.
 use mathlib.Core.Path.{refl, sym, _∙_}
 use Rattle.slots.proofs.Canonical.{sound-canonical}
 use borrow.Author.Tests.{not-true, not-false}
@@ -33,12 +34,16 @@ same-length-3 c = search needs
 
 returns-2 : tie.Need-returns-2
 returns-2 c =
-    let a = c .before .before .before .before .before .before .before .before .before .before in
+    let may = c .before .before in
+    let there = may .before .before in
+    let a = there .before .before .before .before .before .before in
     refused-so (a .args .domain) _ (a .args .t .now) (sound-canonical _ (a .pre .standing .sound)) _ (a .args .reply .now) _ _ (c .refusal .ensures)
-    (rm-denied _ _ _ _ _ (c .before .before .before .before .before .reach .ensures) (c .before .before .before .before .if1 .left) (sym (c .before .before .may-write .ensures) ∙ not-true _ (c .before .if2 .taken)))
+    (rm-denied _ _ _ _ _ (there .before .reach .ensures) (there .if1 .left) (sym (may .may-write .ensures) ∙ not-true _ (c .before .if2 .taken)))
 
 remove-requires : tie.Need-remove-requires
-remove-requires c κs = sound-canonical _ (c .before .before .before .before .before .before .before .before .before .before .pre .standing .sound)
+remove-requires c κs =
+    let a = c .before .before .before .before .before .before .before .before .before .before in
+    sound-canonical _ (a .pre .standing .sound)
 
 success-requires : tie.Need-success-requires
 success-requires c κs = search needs
@@ -51,10 +56,13 @@ same-length-5 c = search needs
 
 returns-3 : tie.Need-returns-3
 returns-3 c =
-    let a = c .before .before .before .before .before .before .before .before .before .before .before .before .before .before .before .before .before in
-    changed-so (a .args .domain) _ _ _ (a .args .reply .now) _ _ _ _ _ _ (c .before .before .success .ensures .0) refl
-    (rm-done _ _ _ _ _ (c .before .before .before .before .before .before .before .before .before .before .before .before .reach .ensures) (c .before .before .before .before .before .before .before .before .before .before .before .if1 .left) (sym (c .before .before .before .before .before .before .before .before .before .may-write .ensures) ∙ not-false _ (c .before .before .before .before .before .before .before .before .if2 .left)))
-    (c .before .before .before .before .before .before .remove .ensures) (c .before .before .success .ensures .1)
+    let put = c .before .before .before .before .before .before in
+    let may = put .before .before .before in
+    let there = may .before .before in
+    let a = there .before .before .before .before .before .before in
+    changed-so (a .args .domain) _ _ _ (a .args .reply .now) _ _ _ _ _ _ (c .before .before .success .ensures) refl
+    (rm-done _ _ _ _ _ (there .before .reach .ensures) (there .if1 .left) (sym (may .may-write .ensures) ∙ not-false _ (put .before .before .if2 .left)))
+    (put .remove .ensures)
 
 pub rm-spec : {M : Type 1} → statement M
 rm-spec =
