@@ -31,15 +31,19 @@ module _ (w : World) (d : Domain) (ds : Domains) (before after : Octets) (e : w 
 -- ── texts that end with a number and a nul ──
 
 -- the nul behind a number that was put behind a text
-pub number-ended : (n at end : ℕ) (front before l₁ l₂ : Octets) → at ≡ headerSize + length front → length before ≡ replySize → length front ≤ 100 → l₁ ≡ paste headerSize front before →
-    Put at (decimal n) l₁ l₂ end → end < length l₂ → (end + 1 - 16 ≡ length (front ++ (decimal n ++ nul))) × (set l₂ end 0 ≡ paste headerSize (front ++ (decimal n ++ nul)) before)
+pub number-ended : (n at end : ℕ) (front before l₁ l₂ : Octets) → at ≡ headerSize + length front → length before ≡ replySize → length front ≤ 100 →
+    l₁ ≡ paste headerSize front before → Put at (decimal n) l₁ l₂ end → end < length l₂ →
+    (end + 1 - 16 ≡ length (front ++ (decimal n ++ nul))) × (set l₂ end 0 ≡ paste headerSize (front ++ (decimal n ++ nul)) before)
 number-ended n at end front before l₁ l₂ a b f e p h =
-    let t : l₂ ≡ paste headerSize (front ++ decimal n) before = p .bytes ∙ (ap (paste at (decimal n)) e ∙ paste-behind 16 at front (decimal n) before (rw b (omega arith)) a) in
+    let t : l₂ ≡ paste headerSize (front ++ decimal n) before =
+    p .bytes ∙ (ap (paste at (decimal n)) e ∙ paste-behind 16 at front (decimal n) before (rw b (omega arith)) a) in
     let k : length (front ++ decimal n) ≡ length front + length (decimal n) = length-append front (decimal n) in
     let z : end ≡ 16 + length (front ++ decimal n) = omega (arith, p .behind, k, a) in
     let j : front ++ (decimal n ++ nul) ≡ (front ++ decimal n) ++ nul = sym (append-assoc front (decimal n) nul) in (
       rw (j, length-append (front ++ decimal n) nul, z) (omega arith),
-      set-paste l₂ end 0 h ∙ (ap (paste end (0 ∷ [])) t ∙ (paste-behind 16 end (front ++ decimal n) (0 ∷ []) before (rw b (omega arith)) z ∙ ap (λ (x : Octets). paste headerSize x before) (sym j))),
+      set-paste l₂ end 0 h
+          ∙ (ap (paste end (0 ∷ [])) t
+          ∙ (paste-behind 16 end (front ++ decimal n) (0 ∷ []) before (rw b (omega arith)) z ∙ ap (λ (x : Octets). paste headerSize x before) (sym j))),
     )
 
 -- `/local/domain/`
@@ -51,7 +55,8 @@ unfolding pathText base slashed front text
 base-text d = ap (λ (t : Octets). front ++ (t ++ nul)) (append-nil (decimal d))
 
 -- a domain's base, put behind the header
-pub base-told : (d : Domain) (end : ℕ) (before l₁ l₂ : Octets) → length before ≡ replySize → l₁ ≡ paste headerSize front before → Put 30 (decimal d) l₁ l₂ end → end < length l₂ →
+pub base-told : (d : Domain) (end : ℕ) (before l₁ l₂ : Octets) → length before ≡ replySize → l₁ ≡ paste headerSize front before → Put 30 (decimal d) l₁ l₂ end →
+    end < length l₂ →
     Told (done (pathText (base d) ++ nul)) (Done (end + 1 - 16)) before (set l₂ end 0)
 unfolding front text
 base-told d end before l₁ l₂ b e p h =

@@ -3,47 +3,52 @@ use mathlib.Core.Path.{_≡_, refl, sym, ap, subst, _∙_}
 use mathlib.Core.Bool.{Bool, true, false, cond, not, _&&_, and-eq-true-iff}
 use mathlib.Core.List.{List, [], _∷_}
 use mathlib.Core.Option.{none, some, Option·none-ne-some}
-use Prim.Native.Nat.{ℕ, suc, _≤_}
+use Prim.Native.Nat.{ℕ, zero, suc, _-_, _≤_, _<_}
 use native.Mathlib.Omega.{arith}
 use lib.Dec.{eqb, leb}
-use lib.ListN.{length}
-use borrow.Author.Tests.{leb-true}
-use Rattle.rules.specs.Size.{lastDomain, longestValue, longestPath, mostEntries, tableSize}
+use lib.ListN.{length, take, replicate}
+use borrow.Author.Tests.{le-leb}
+use Rattle.rules.specs.Size.{lastDomain, longestValue, longestPath, mostEntries, replySize, tableSize}
 use Rattle.rules.specs.Octets.{Octets}
 use Rattle.rules.specs.Domain.{Domain}
 use Rattle.rules.specs.Path.{Names, namesIn, pathText, fits}
 use Rattle.rules.specs.Node.{Entry, Table, Reached, nodeAt, reach}
 use Rattle.rules.specs.Rights.{mayWrite}
 use Rattle.rules.specs.Payload as P
-use Rattle.rules.specs.Answer.{Reply, OK, Change, Answer, unchanged, changed, room, created, looked, written, directoryMade, taken, maySet, permitted, answered, answer}
+use Rattle.rules.specs.Answer.{Reply, OK, Change, Answer, unchanged, changed, room, created, looked, written, directoryMade, taken, maySet, permitted, answered}
+use Rattle.rules.specs.Answer.{answer}
 use Rattle.rules.specs.Layout.{tableOf, tableBytes}
 use Rattle.rules.specs.Sound.{goodEntries, goodChange, soundTable}
 use Rattle.rules.proofs.Cases.{cond-case}
-use Rattle.rules.proofs.Tables.{Each}
+use Rattle.rules.proofs.Tables.{Each, each-append}
 use Rattle.rules.proofs.Slots.{EntryFits, table-read}
-use Rattle.rules.proofs.Fitting.{AskFits, decoded-fits, answer-fits}
+use Rattle.rules.proofs.Fitting.{AskFits}
 use Rattle.rules.proofs.PathLaws.{full, fits-length}
 use Rattle.rules.proofs.GoodAnswers.{AskGood, change-good}
 use Rattle.rules.proofs.GoodRequests.{AskedGood}
-use Rattle.rules.proofs.SoundWorld.{asked-sound, table-encoded, table-decoded}
+use Rattle.rules.proofs.SoundWorld.{TableSound, asked-sound, table-encoded, table-decoded}
 use Rattle.transactions.specs.Transaction.{changeGiven}
-use Rattle.nodes.specs.Answers.{effectMeant}
-use Rattle.nodes.specs.declared.kinds.Ask.{Ask}
+use Rattle.nodes.specs.Answers.{Ready, effectMeant}
 use Rattle.nodes.specs.declared.kinds.Effect.{Effect}
 use Rattle.nodes.specs.declared.kinds.Effect.the-variants.{Wrote, Removed}
-use Rattle.handlers.specs.Asking.{Lettered, GoodAsk, Asking}
+use Rattle.payload.specs.Meaning.{entryMeant, blank, othersMeant, askMeant, EntrySound, EntriesSound, AskSound}
+use Rattle.payload.specs.declared.answer.Entry as Payload
+use Rattle.payload.specs.declared.answer.Entries.{Entries}
+use Rattle.payload.specs.declared.answer.Ask.{Ask}
+use Rattle.payload.specs.declared.answer.Ask.the-variants as ask
+use Rattle.handlers.specs.Asking.{Asking}
 
 -- ── a change is told by `OK`, and without one the table stays ──
 
 -- whether a change that a request makes is a removal
-abbrev pub Does : P.Ask → Bool → Type 0
-Does P.directory b = ⊥
-Does P.read b = ⊥
-Does P.getPerms b = ⊥
-Does (P.write v) b = b ≡ false
-Does P.mkdir b = b ≡ false
-Does P.rm b = b ≡ true
-Does (P.setPerms o es) b = b ≡ false
+abbrev pub Removes : P.Ask → Bool → Type 0
+Removes P.directory b = ⊥
+Removes P.read b = ⊥
+Removes P.getPerms b = ⊥
+Removes (P.write v) b = b ≡ false
+Removes P.mkdir b = b ≡ false
+Removes P.rm b = b ≡ true
+Removes (P.setPerms o es) b = b ≡ false
 
 module _ (d : Domain) (ns : Names) (t : Table) where
   abbrev Okay : (Bool → Type 0) → Answer → Type 0
@@ -65,7 +70,7 @@ module _ (d : Domain) (ns : Names) (t : Table) where
     unfolding created
     created-okay k r v = either (mayWrite d (nodeAt t (r .slot))) _ _ (either (room d ns t (r .left) v) _ _ (done false k _) (still _)) (still _)
 
-  answered-okay : (a : P.Ask) (l : Names) (i : ℕ) → Okay (Does a) (answered d ns t a (record { slot = i; left = l }))
+  answered-okay : (a : P.Ask) (l : Names) (i : ℕ) → Okay (Removes a) (answered d ns t a (record { slot = i; left = l }))
   unfolding answered looked written directoryMade taken permitted
   answered-okay P.directory [] i = still _ _
   answered-okay P.directory (n ∷ l) i = still _ _
@@ -73,13 +78,15 @@ module _ (d : Domain) (ns : Names) (t : Table) where
   answered-okay P.read (n ∷ l) i = still _ _
   answered-okay P.getPerms [] i = still _ _
   answered-okay P.getPerms (n ∷ l) i = still _ _
-  answered-okay (P.write v) [] i = either _ (mayWrite d (nodeAt t i)) _ _ (either _ (leb (length v) longestValue) _ _ (done _ false refl _) (still _ _)) (still _ _)
+  answered-okay (P.write v) [] i =
+      either _ (mayWrite d (nodeAt t i)) _ _ (either _ (leb (length v) longestValue) _ _ (done _ false refl _) (still _ _)) (still _ _)
   answered-okay (P.write v) (n ∷ l) i = created-okay _ refl _ v
   answered-okay P.mkdir [] i = still _ _
   answered-okay P.mkdir (n ∷ l) i = created-okay _ refl _ []
   answered-okay P.rm [] i = either _ (mayWrite d (nodeAt t i)) _ _ (done _ true refl _) (still _ _)
   answered-okay P.rm (n ∷ l) i = still _ _
-  answered-okay (P.setPerms o es) [] i = either _ (maySet d ns t (nodeAt t i) o) _ _ (either _ (leb (suc (length es)) mostEntries) _ _ (done _ false refl _) (still _ _)) (still _ _)
+  answered-okay (P.setPerms o es) [] i =
+      either _ (maySet d ns t (nodeAt t i) o) _ _ (either _ (leb (suc (length es)) mostEntries) _ _ (done _ false refl _) (still _ _)) (still _ _)
   answered-okay (P.setPerms o es) (n ∷ l) i = still _ _
 
   module _ (a : P.Ask) where
@@ -87,9 +94,9 @@ module _ (d : Domain) (ns : Names) (t : Table) where
     unfolding answer
     change-okay c e = answered-okay a (reach t ns .left) (reach t ns .slot) .0 c e .0
 
-    pub change-does : (c : Change) → answer d a ns t .change ≡ some c → Does a (c .removal)
+    pub change-removes : (c : Change) → answer d a ns t .change ≡ some c → Removes a (c .removal)
     unfolding answer
-    change-does c e = answered-okay a (reach t ns .left) (reach t ns .slot) .0 c e .1
+    change-removes c e = answered-okay a (reach t ns .left) (reach t ns .slot) .0 c e .1
 
     pub table-still : answer d a ns t .change ≡ none → answer d a ns t .table ≡ t
     unfolding answer
@@ -108,52 +115,91 @@ change-made true path x e = ap (λ (y : Effect). effectMeant y (namesIn path)) e
 
 -- ── a request in its bounds ──
 
-entries-fit : (es : List Entry) → goodEntries es ≡ true → Lettered es → Each EntryFits es
+-- an entry within its bounds
+abbrev Bounded : Entry → Type 0
+Bounded e = (e .access < 4) × (e .domain ≤ lastDomain)
+
+bounded : (e : Payload.Entry) → EntrySound e → Bounded (entryMeant e)
+bounded e h = (h .access, h .domain)
+
+each-take : (n : ℕ) (es : List Entry) → Each Bounded es → Each Bounded (take n es)
+each-take zero es h = tt
+each-take (suc n) [] h = tt
+each-take (suc n) (e ∷ es) h = (h .0, each-take n es (h .1))
+
+each-blank : (n : ℕ) → Each Bounded (replicate n blank)
+each-blank zero = tt
+each-blank (suc n) = ((omega arith, omega arith), each-blank n)
+
+each-other : (k : Entries) → EntriesSound k → Each Bounded (othersMeant k)
+unfolding othersMeant
+each-other k h =
+    each-append Bounded (take (k .count - 1) (entryMeant (k .second) ∷ entryMeant (k .third) ∷ entryMeant (k .fourth) ∷ []))
+    (replicate (k .count - mostEntries) blank)
+    (each-take (k .count - 1) _ (bounded _ (h .second), (bounded _ (h .third), (bounded _ (h .fourth), tt))))
+    (each-blank (k .count - mostEntries))
+
+bounded-good : (es : List Entry) → Each Bounded es → goodEntries es ≡ true
 unfolding goodEntries
-entries-fit [] h l = tt
-entries-fit (e ∷ es) h l =
-    let p = and-eq-true-iff (leb (e .domain) lastDomain) (goodEntries es) .0 h in
-    (record { access = l .0; domain = omega (arith, leb-true (e .domain) lastDomain (p .0)) }, entries-fit es (p .1) (l .1))
+bounded-good [] h = refl
+bounded-good (e ∷ es) h =
+    and-eq-true-iff (leb (e .domain) lastDomain) (goodEntries es) .1 (le-leb (e .domain) lastDomain (h .0 .1), bounded-good es (h .1))
 
-good-entries : (a : P.Ask) → GoodAsk a → AskGood a
-good-entries P.directory g = tt
-good-entries P.read g = tt
-good-entries P.getPerms g = tt
-good-entries (P.write v) g = tt
-good-entries P.mkdir g = tt
-good-entries P.rm g = tt
-good-entries (P.setPerms o es) g = g .0
+bounded-fits : (es : List Entry) → Each Bounded es → Each EntryFits es
+bounded-fits [] h = tt
+bounded-fits (e ∷ es) h = (record { access = h .0 .0; domain = omega (arith, h .0 .1) }, bounded-fits es (h .1))
 
-fitting : (a : P.Ask) → GoodAsk a → AskFits a
-fitting P.directory g = tt
-fitting P.read g = tt
-fitting P.getPerms g = tt
-fitting (P.write v) g = tt
-fitting P.mkdir g = tt
-fitting P.rm g = tt
-fitting (P.setPerms o es) g = let e = entries-fit (o ∷ es) (g .0) (g .1) in (e .0, e .1)
+-- the entries that are asked for name domains
+pub ask-good : (s : Octets) (a : Ask) → AskSound s a → AskGood (askMeant s a)
+ask-good s ask.Directory h = tt
+ask-good s ask.Read h = tt
+ask-good s ask.GetPerms h = tt
+ask-good s (ask.Write from) h = tt
+ask-good s ask.Mkdir h = tt
+ask-good s ask.Rm h = tt
+ask-good s (ask.SetPerms es) h = bounded-good (entryMeant (es .first) ∷ othersMeant es) (bounded _ (h .first), each-other es h)
 
--- the table that an answer leaves is read back from its bytes
-pub table-back : (d : Domain) (a : P.Ask) (ns : Names) (t t′ : Octets) → d ≤ lastDomain → GoodAsk a → t′ ≡ tableBytes (answer d a ns (tableOf t) .table) →
-    tableOf t′ ≡ answer d a ns (tableOf t) .table
-table-back d a ns t t′ h g e =
-    let f = answer-fits d a ns (tableOf t) (omega arith) (fitting a g) (decoded-fits t) in
-    ap tableOf e ∙ table-read _ (f .long) (f .all)
+-- the entries that are asked for fit their fields
+pub ask-fits : (s : Octets) (a : Ask) → AskSound s a → AskFits (askMeant s a)
+ask-fits s ask.Directory h = tt
+ask-fits s ask.Read h = tt
+ask-fits s ask.GetPerms h = tt
+ask-fits s (ask.Write from) h = tt
+ask-fits s ask.Mkdir h = tt
+ask-fits s ask.Rm h = tt
+ask-fits s (ask.SetPerms es) h =
+    let f = bounded-fits (entryMeant (es .first) ∷ othersMeant es) (bounded _ (h .first), each-other es h) in
+    (f .0, f .1)
 
-module _ {d : Domain} {ask : Ask} {path v : Octets} {n : ℕ} {access domains : List ℕ} (k : Asking d ask path v n access domains) where
-  good : AskedGood (k .request) (namesIn path)
-  good = record { names = full path (k .full) .names; proper = k .proper; entries = good-entries (k .request) (k .good); fits = fitting (k .request) (k .good) }
+module _ {d : Domain} {ask : Ask} {path s : Octets} (k : Asking d ask path s) where
+  abbrev pub request : P.Ask
+  request = askMeant s ask
 
-  module _ (t : Octets) (s : soundTable t ≡ true) where
+  good : AskedGood request (namesIn path)
+  good = record { names = full path (k .full) .names; proper = k .proper; entries = ask-good s ask (k .sound); fits = ask-fits s ask (k .sound) }
+
+  module _ (t : Octets) (h : soundTable t ≡ true) where
+    -- what its answer wants
+    pub ready : (reply : Octets) → length reply ≡ replySize → Ready t path reply d × AskSound s ask
+    ready reply l = (record { standing = record { sound = h; full = k .full }; long = l; domain = omega (arith, k .domain) }, k .sound)
+
     -- the table that its answer leaves
-    pub left-sound : (t′ : Octets) → t′ ≡ tableBytes (answer d (k .request) (namesIn path) (tableOf t) .table) → (soundTable t′ ≡ true) × (length t′ ≡ tableSize)
-    left-sound t′ e = rw e (table-encoded _ (asked-sound d (k .request) (namesIn path) (tableOf t) (k .domain) good (table-decoded t s)))
+    after : TableSound (answer d request (namesIn path) (tableOf t) .table)
+    after = asked-sound d request (namesIn path) (tableOf t) (k .domain) good (table-decoded t h)
+
+    module _ (t′ : Octets) (e : t′ ≡ tableBytes (answer d request (namesIn path) (tableOf t) .table)) where
+      pub left-sound : (soundTable t′ ≡ true) × (length t′ ≡ tableSize)
+      left-sound = rw e (table-encoded _ after)
+
+      -- read back from its bytes
+      pub left-back : tableOf t′ ≡ answer d request (namesIn path) (tableOf t) .table
+      left-back = ap tableOf e ∙ table-read _ (after .fitting .long) (after .fitting .all)
 
     -- the path of its change
-    pub path-short : (c : Change) → answer d (k .request) (namesIn path) (tableOf t) .change ≡ some c → length path ≤ longestPath
+    pub path-short : (c : Change) → answer d request (namesIn path) (tableOf t) .change ≡ some c → length path ≤ longestPath
     unfolding goodChange
     path-short c e =
-        let b = table-decoded t s in
-        let g = change-good d (k .request) (namesIn path) (tableOf t) (b .good) (b .fitting) (full path (k .full) .names) (k .proper) c e in
-        let h = and-eq-true-iff (fits (c .names)) (not (c .removal && eqb (length (c .names)) 0)) .0 (g .1) .0 in
-        subst (λ (x : Octets). length x ≤ longestPath) (ap pathText (g .0) ∙ sym (full path (k .full) .text)) (fits-length (c .names) h)
+        let b = table-decoded t h in
+        let g = change-good d request (namesIn path) (tableOf t) (b .good) (b .fitting) (full path (k .full) .names) (k .proper) c e in
+        let f = and-eq-true-iff (fits (c .names)) (not (c .removal && eqb (length (c .names)) 0)) .0 (g .1) .0 in
+        subst (λ (x : Octets). length x ≤ longestPath) (ap pathText (g .0) ∙ sym (full path (k .full) .text)) (fits-length (c .names) f)

@@ -1,7 +1,7 @@
 -- A node request in a transaction: what is left where it changed nothing, a change was entered, or a ninth refused.
 use mathlib.Core.Path.{_≡_, refl, sym, ap, ap₂, subst, _∙_}
 use mathlib.Core.Bool.{Bool}
-use mathlib.Core.List.{List, [], _∷_, _++_, flatMap}
+use mathlib.Core.List.{List, [], _++_, flatMap}
 use mathlib.Core.Option.{Option, none, some}
 use Prim.Native.Nat.{ℕ, _+_, _-_, _*_, _≤_, _<_}
 use native.Mathlib.Nat.{add-sub-cancel-left}
@@ -17,18 +17,18 @@ use Rattle.rules.specs.Path.{namesIn}
 use Rattle.rules.specs.Node as N
 use Rattle.rules.specs.Payload as P
 use Rattle.rules.specs.Answer as A
-use Rattle.rules.specs.Answer.{done, refused, OK, ENOSPC, errnoText, Change, answer}
+use Rattle.rules.specs.Answer.{refused, OK, ENOSPC, errnoText, Change, answer}
 use Rattle.rules.specs.Layout.{Transaction, Transactions, withChange, tableBytes, tableOf, transactionsOf, transactionsBytes}
 use Rattle.rules.specs.World as W
 use Rattle.rules.specs.World.{World, left, to, copyOf, withCopy, withTransactions}
 use Rattle.rules.proofs.Tables.{decoded-at}
 use Rattle.rules.proofs.Paste.{paste-own}
-use Rattle.rules.proofs.EntryLayouts.{whole, rows-joined, map-whole}
+use Rattle.rules.proofs.EntryLayouts.{whole, map-whole}
 use Rattle.slots.proofs.Canonical.{sound-canonical}
 use Rattle.transactions.specs.Transaction.{transactionOf, changeGiven, changedBy}
-use Rattle.transactions.proofs.Written.{kept-transactions}
-use Rattle.nodes.specs.Answers.{effectMeant, Replies, Answers, Asks, AnsweredAs}
-use Rattle.nodes.specs.declared.kinds.Ask.{Ask}
+use Rattle.payload.specs.Meaning.{askMeant}
+use Rattle.payload.specs.declared.answer.Ask.{Ask}
+use Rattle.nodes.specs.Answers.{effectMeant, Answers, Answered}
 use Rattle.replies.specs.declared.kinds.Errno.the-variants.{NoSpace}
 use Rattle.replies.specs.declared.kinds.Reply.{Reply}
 use Rattle.replies.specs.declared.kinds.Reply.the-variants.{Refused}
@@ -38,8 +38,9 @@ use Rattle.nodes.specs.declared.kinds.Answer.{Answer}
 use Rattle.replies.specs.Framed.{Told}
 use Rattle.replies.specs.Handled.{Handled}
 use Rattle.replies.specs.declared.kinds.Outcome.{Outcome}
-use Rattle.handlers.specs.Leaves.{tables, itsNodes, itsWatches, itsDomains}
+use Rattle.replies.specs.Does.{tables, itsNodes, itsWatches, itsDomains}
 use Rattle.handlers.specs.Asking.{copyIn, Asking, InCopy, Changing, ninthReply}
+use Rattle.handlers.proofs.Alone.{copies-alone, transactions-alone}
 use Rattle.handlers.proofs.Ways.{outcomeOf, same-tables, done-so}
 use Rattle.handlers.proofs.StartLaws.{copy-put}
 use Rattle.handlers.proofs.Answers.{change-okay, table-still, madeBy, change-made, left-sound, path-short}
@@ -55,7 +56,8 @@ paste-over i x y l h k =
     let n : length p ≡ i = length-take-le i l (omega arith) in
     let m = length y - length x in
     let b : drop (length y) (x ++ q) ≡ drop m q =
-    ap (λ (j : ℕ). drop j (x ++ q)) (let e : length y ≡ length x + m = omega arith in e) ∙ (sym (drop-drop m (length x) (x ++ q)) ∙ ap (drop m) (drop-at x q (length x) refl)) in
+    ap (λ (j : ℕ). drop j (x ++ q)) (let e : length y ≡ length x + m = omega arith in e)
+    ∙ (sym (drop-drop m (length x) (x ++ q)) ∙ ap (drop m) (drop-at x q (length x) refl)) in
     let d : drop (i + length y) (p ++ (x ++ q)) ≡ drop (i + length y) l =
     sym (drop-drop (length y) i (p ++ (x ++ q)))
     ∙ (ap (drop (length y)) (drop-at p (x ++ q) i n)
@@ -70,21 +72,20 @@ copy-part cs k = ap (λ (n : ℕ). take n (drop (k * tableSize) cs)) (add-sub-ca
 part-put : (cs t : Octets) (k : ℕ) → length t ≡ tableSize → putMid (k * tableSize) (k * tableSize + tableSize - k * tableSize) cs t ≡ paste (k * tableSize) t cs
 unfolding paste
 part-put cs t k l =
-    ap (λ (x : Octets). take (k * tableSize) cs ++ (t ++ x)) (post-is (k * tableSize) (k * tableSize + tableSize) cs (omega arith) ∙ ap (λ (n : ℕ). drop (k * tableSize + n) cs) (sym l))
+    ap (λ (x : Octets). take (k * tableSize) cs ++ (t ++ x))
+    (post-is (k * tableSize) (k * tableSize + tableSize) cs (omega arith) ∙ ap (λ (n : ℕ). drop (k * tableSize + n) cs) (sym l))
 
 -- as the rule book has it
 pub copy-of : (w : World) (cs : Octets) (k : ℕ) → w .copies ≡ chunks mostTransactions tableSize cs → k < mostTransactions → copyOf w k ≡ tableOf (copyIn cs k)
 unfolding copyOf
-copy-of w cs k e h = ap (λ (x : List Octets). tableOf (getD x k [])) e ∙ ap tableOf (sym (ap (λ (x : List Octets). getD x k []) (map-whole (chunks mostTransactions tableSize cs))) ∙ decoded-at whole mostTransactions tableSize k cs [] h)
+copy-of w cs k e h =
+    ap (λ (x : List Octets). tableOf (getD x k [])) e ∙ ap tableOf
+    (sym (ap (λ (x : List Octets). getD x k []) (map-whole (chunks mostTransactions tableSize cs))) ∙ decoded-at whole mostTransactions tableSize k cs [] h)
 
 -- ── replies ──
 
-pub replied : (a : A.Reply) (r : Reply) (before after : Octets) → Replies a r before after → Told a r before after
-replied (done s) r before after h = h
-replied (refused e) r before after h = (h .0, ap (paste headerSize (errnoText e ++ nul)) (h .1))
-
 -- a reply that said `OK`, and is refused for want of space
-over-told : (r : Reply) (before after : Octets) → length before ≡ replySize → Replies OK r before after → Told (refused ENOSPC) (Refused NoSpace) before after
+over-told : (r : Reply) (before after : Octets) → length before ≡ replySize → Told OK r before after → Told (refused ENOSPC) (Refused NoSpace) before after
 unfolding OK text errnoText
 over-told r before after l h = (refl, ap (paste headerSize (errnoText ENOSPC ++ nul)) (h .1) ∙ paste-over 16 _ _ before (omega arith) (rw l (omega arith)))
 
@@ -100,35 +101,29 @@ module _ (a : A.Answer) where
   ninth-reply c e = rw e refl
 
 -- what is told in a transaction that has eight changes, by an answer on a table of the copy's bytes
-module _ (d : Domain) (ask : Ask) (path v : Octets) (n : ℕ) (access domains : List ℕ) (copied t t′ reply reply′ : Octets) (here : t ≡ copied) (r : Answer)
-    (told : AnsweredAs d ask v n access domains path t t′ reply reply′ r) (o : Outcome) where
-  abbrev Eighth : Type 0
-  Eighth = ((a : P.Ask) → Asks ask v n access domains a → Told (ninthReply (answer d a (namesIn path) (tableOf copied))) (o .reply) reply reply′) × (o ≡ outcomeOf (o .reply) 0)
+module _ (d : Domain) (a : P.Ask) (path copied t t′ reply reply′ : Octets) (here : t ≡ copied) (r : Answer)
+    (told : Answered d a path t t′ reply reply′ r) (o : Outcome) where
+  abbrev own : A.Answer
+  own = answer d a (namesIn path) (tableOf copied)
 
-  answered-here : (a : P.Ask) → Asks ask v n access domains a → Answers (namesIn path) (answer d a (namesIn path) (tableOf copied)) t′ reply reply′ r
-  answered-here a is = subst (λ (x : Octets). Answers (namesIn path) (answer d a (namesIn path) (tableOf x)) t′ reply reply′ r) here (told a is)
+  abbrev Eighth : Type 0
+  Eighth = Told (ninthReply own) (o .reply) reply reply′ × (o ≡ outcomeOf (o .reply) 0)
+
+  answered-here : Answers (namesIn path) own t′ reply reply′ r
+  answered-here = subst (λ (x : Octets). Answers (namesIn path) (answer d a (namesIn path) (tableOf x)) t′ reply reply′ r) here told
 
   pub eight-still : r .effect ≡ Nothing → o ≡ outcomeOf (r .reply) 0 → Eighth
   eight-still e p =
-      rw p (
-        λ a is.
-            let z = answered-here a is in
-            let q = still-reply (answer d a (namesIn path) (tableOf copied)) (sym (z .change) ∙ ap (λ (y : Effect). effectMeant y (namesIn path)) e) in
-            subst (λ (y : A.Reply). Told y (r .reply) reply reply′) (sym q) (replied (answer d a (namesIn path) (tableOf copied) .reply) (r .reply) reply reply′ (z .reply)),
-        refl,
-      )
+      let q = still-reply own (sym (answered-here .change) ∙ ap (λ (y : Effect). effectMeant y (namesIn path)) e) in
+      rw p (subst (λ (y : A.Reply). Told y (r .reply) reply reply′) (sym q) (answered-here .reply), refl)
 
   pub eight-refused : length reply ≡ replySize → (removed : Bool) → r .effect ≡ madeBy removed → o ≡ outcomeOf (Refused NoSpace) 0 → Eighth
   eight-refused l removed x p =
-      rw p (
-        λ a is.
-            let z = answered-here a is in
-            let e = sym (z .change) ∙ change-made removed path (r .effect) x in
-            let y = change-okay d (namesIn path) (tableOf copied) a (changeGiven removed path) e in
-            subst (λ (u : A.Reply). Told u (Refused NoSpace) reply reply′) (sym (ninth-reply (answer d a (namesIn path) (tableOf copied)) (changeGiven removed path) e))
-            (over-told (r .reply) reply reply′ l (subst (λ (u : A.Reply). Replies u (r .reply) reply reply′) y (z .reply))),
-        refl,
-      )
+      let c = changeGiven removed path in
+      let e = sym (answered-here .change) ∙ change-made removed path (r .effect) x in
+      let okay = change-okay d (namesIn path) (tableOf copied) a c e in
+      let over = over-told (r .reply) reply reply′ l (subst (λ (u : A.Reply). Told u (r .reply) reply reply′) okay (answered-here .reply)) in
+      rw p (subst (λ (u : A.Reply). Told u (Refused NoSpace) reply reply′) (sym (ninth-reply own c e)) over, refl)
 
 -- ── in a transaction ──
 
@@ -154,64 +149,68 @@ module _ (w : World) (k : ℕ) (x : Transaction) (a : A.Answer) where
       go none e = inside-still e ∙ ap (λ (r : A.Reply). to w r w []) (sym (still-reply a e))
       go (some c) e = inside-ninth c e h ∙ ap (λ (r : A.Reply). to w r w []) (sym (ninth-reply a c e))
 
-module _ (cs xs : Octets) (k : ℕ) (reply : Octets) (s : InCopy cs xs k reply) (w : World) (cw : w .copies ≡ chunks mostTransactions tableSize cs) (xw : w .transactions ≡ transactionsOf xs) where
-  transactions-back : xs ≡ transactionsBytes (w .transactions)
-  transactions-back = sym (kept-transactions xs (s .place .kept)) ∙ ap transactionsBytes (sym xw)
-
-  copies-back : cs ≡ flatMap whole (w .copies)
-  copies-back = sym (rows-joined mostTransactions tableSize cs (s .whole)) ∙ ap (flatMap whole) (sym cw)
-
+module _ (cs xs : Octets) (k : ℕ) (reply : Octets) (s : InCopy cs xs k reply) (w : World)
+    (cw : w .copies ≡ chunks mostTransactions tableSize cs) (xw : w .transactions ≡ transactionsOf xs) where
   -- it has eight changes
-  pub full-handled : (a : N.Table → A.Answer) → mostChanges ≤ length (transactionOf xs k .changes) → (events reply′ : Octets) (o : Outcome)
-      → Told (ninthReply (a (tableOf (take (k * tableSize + tableSize - k * tableSize) (drop (k * tableSize) cs))))) (o .reply) reply reply′ →
-      o ≡ outcomeOf (o .reply) 0 → Handled (W.inside w k (transactionOf xs k) (a (copyOf w k))) (tables (itsNodes w) cs (itsWatches w) xs (itsDomains w)) reply reply′ events events o
+  pub full-handled : (a : N.Table → A.Answer) → mostChanges ≤ length (transactionOf xs k .changes) → (events reply′ : Octets) (o : Outcome) →
+      Told (ninthReply (a (tableOf (take (k * tableSize + tableSize - k * tableSize) (drop (k * tableSize) cs))))) (o .reply) reply reply′ →
+      o ≡ outcomeOf (o .reply) 0 →
+      Handled (W.inside w k (transactionOf xs k) (a (copyOf w k))) (tables (itsNodes w) cs (itsWatches w) xs (itsDomains w)) reply reply′ events events o
   full-handled a many events reply′ o t p =
+      let here = ap tableOf (copy-part cs k) ∙ sym (copy-of w cs k cw (s .place .below)) in
       done-so w _ reply o events (ninthReply (a (copyOf w k))) w reply′ (o .reply) _ (inside-full w k (transactionOf xs k) (a (copyOf w k)) many) p
-      (subst (λ (y : N.Table). Told (ninthReply (a y)) (o .reply) reply reply′) (ap tableOf (copy-part cs k) ∙ sym (copy-of w cs k cw (s .place .below))) t) (same-tables refl copies-back refl transactions-back refl)
+      (subst (λ (y : N.Table). Told (ninthReply (a y)) (o .reply) reply reply′) here t)
+      (same-tables refl (copies-alone w cs (s .whole) cw) refl (transactions-alone w xs (s .place .kept) xw) refl)
 
-module _ {d : Domain} {ask : Ask} {path v : Octets} {n : ℕ} {access domains : List ℕ} (q : Asking d ask path v n access domains) where
+module _ {d : Domain} {ask : Ask} {path v : Octets} (q : Asking d ask path v) where
   module _ (cs xs : Octets) (k : ℕ) (reply : Octets) (s : InCopy cs xs k reply) (t t′ reply′ : Octets) (r : Answer) (here : t ≡ copyIn cs k)
-      (told : AnsweredAs d ask v n access domains path t t′ reply reply′ r) where
+      (told : Answered d (askMeant v ask) path t t′ reply reply′ r) where
     -- what a change's entry wants
     pub changing : length (transactionOf xs k .changes) < mostChanges → (removed : Bool) → r .effect ≡ madeBy removed → Changing xs k path
     changing few removed e =
-        let short = path-short q t (rw here (s .sound)) (changeGiven removed path) (sym (told (q .request) (q .asks) .change) ∙ change-made removed path (r .effect) e) in
+        let short = path-short q t (rw here (s .sound)) (changeGiven removed path) (sym (told .change) ∙ change-made removed path (r .effect) e) in
         record { place = s .place; few = few; full = q .full; short = short }
 
-    module _ (w : World) (cw : w .copies ≡ chunks mostTransactions tableSize cs) (xw : w .transactions ≡ transactionsOf xs) (a : P.Ask) (is : Asks ask v n access domains a) (events : Octets)
+    module _ (w : World) (cw : w .copies ≡ chunks mostTransactions tableSize cs) (xw : w .transactions ≡ transactionsOf xs) (events : Octets)
         (o : Outcome) where
       abbrev cs′ : Octets
       cs′ = putMid (k * tableSize) (k * tableSize + tableSize - k * tableSize) cs t′
 
       long : length t′ ≡ tableSize
-      long = left-sound q t (rw here (s .sound)) t′ (told (q .request) (q .asks) .table) .1
+      long = left-sound q t (rw here (s .sound)) t′ (told .table) .1
 
       abbrev z : A.Answer
-      z = answer d a (namesIn path) (copyOf w k)
+      z = answer d (askMeant v ask) (namesIn path) (copyOf w k)
 
       copied : tableOf t ≡ copyOf w k
       copied = ap tableOf here ∙ sym (copy-of w cs k cw (s .place .below))
 
       answered : Answers (namesIn path) z t′ reply reply′ r
-      answered = subst (λ (y : N.Table). Answers (namesIn path) (answer d a (namesIn path) y) t′ reply reply′ r) copied (told a is)
+      answered =
+          subst (λ (y : N.Table). Answers (namesIn path) (answer d (askMeant v ask) (namesIn path) y) t′ reply reply′ r) copied told
 
-      pub nothing-handled : r .effect ≡ Nothing → o ≡ outcomeOf (r .reply) 0 → Handled (W.inside w k (transactionOf xs k) z) (tables (itsNodes w) cs′ (itsWatches w) xs (itsDomains w)) reply reply′ events events o
+      pub nothing-handled : r .effect ≡ Nothing → o ≡ outcomeOf (r .reply) 0 →
+          Handled (W.inside w k (transactionOf xs k) z) (tables (itsNodes w) cs′ (itsWatches w) xs (itsDomains w)) reply reply′ events events o
       nothing-handled e p =
           let f : z .change ≡ none = sym (answered .change) ∙ ap (λ (y : Effect). effectMeant y (namesIn path)) e in
+          let still = table-still d (namesIn path) (copyOf w k) (askMeant v ask) f in
           let u : t′ ≡ copyIn cs k =
-          answered .table ∙ ap tableBytes (table-still d (namesIn path) (copyOf w k) a f ∙ copy-of w cs k cw (s .place .below)) ∙ sound-canonical (copyIn cs k) (s .sound) .kept in
-          done-so w _ reply o events (z .reply) w reply′ (r .reply) _ (inside-still w k _ z f) p (replied (z .reply) (r .reply) reply reply′ (answered .reply))
+          answered .table ∙ ap tableBytes (still ∙ copy-of w cs k cw (s .place .below)) ∙ sound-canonical (copyIn cs k) (s .sound) .kept in
+          let own = paste-own (k * tableSize) tableSize cs (omega (arith, s .whole, s .place .below)) in
+          done-so w _ reply o events (z .reply) w reply′ (r .reply) _ (inside-still w k _ z f) p (answered .reply)
           (same-tables refl
-          (part-put cs t′ k long ∙ ap (λ (y : Octets). paste (k * tableSize) y cs) u ∙ paste-own (k * tableSize) tableSize cs (omega (arith, s .whole, s .place .below)) ∙ copies-back cs xs k reply s w cw xw) refl
-          (transactions-back cs xs k reply s w cw xw) refl)
+          (part-put cs t′ k long ∙ ap (λ (y : Octets). paste (k * tableSize) y cs) u ∙ own ∙ copies-alone w cs (s .whole) cw) refl
+          (transactions-alone w xs (s .place .kept) xw) refl)
 
       pub change-handled : (removed : Bool) → r .effect ≡ madeBy removed → length (transactionOf xs k .changes) < mostChanges → (xs′ : Octets) →
           xs′ ≡ transactionsBytes (set (transactionsOf xs) k (some (changedBy (transactionOf xs k) removed path))) → o ≡ outcomeOf (r .reply) 0 →
           Handled (W.inside w k (transactionOf xs k) z) (tables (itsNodes w) cs′ (itsWatches w) xs′ (itsDomains w)) reply reply′ events events o
       unfolding changedBy
       change-handled removed e few xs′ b p =
-          done-so w _ reply o events (z .reply) _ reply′ (r .reply) _ (inside-done w k (transactionOf xs k) z (changeGiven removed path) (sym (answered .change) ∙ change-made removed path (r .effect) e) few) p
-          (replied (z .reply) (r .reply) reply reply′ (answered .reply))
+          let c = changeGiven removed path in
+          let made = sym (answered .change) ∙ change-made removed path (r .effect) e in
+          let put = copy-put cs k t′ cs′ (s .whole) long (s .place .below) (part-put cs t′ k long) in
+          done-so w _ reply o events (z .reply) _ reply′ (r .reply) _ (inside-done w k (transactionOf xs k) z c made few) p (answered .reply)
           (same-tables refl
-          (copy-put cs k t′ cs′ (s .whole) long (s .place .below) (part-put cs t′ k long) ∙ ap₂ (λ (y : List Octets) (u : Octets). flatMap whole (set y k u)) (sym cw) (answered .table)) refl
+          (put ∙ ap₂ (λ (y : List Octets) (u : Octets). flatMap whole (set y k u)) (sym cw) (answered .table)) refl
           (b ∙ ap (λ (y : Transactions). transactionsBytes (set y k (some (changedBy (transactionOf xs k) removed path)))) (sym xw)) refl)

@@ -22,7 +22,7 @@ use Rattle.replies.specs.declared.kinds.Reply.{Reply}
 use Rattle.replies.specs.Framed.{Told}
 use Rattle.replies.specs.Handled.{Handled}
 use Rattle.replies.specs.declared.kinds.Outcome.{Outcome}
-use Rattle.handlers.proofs.Ways.{leaves}
+use Rattle.handlers.proofs.Ways.{itsTables}
 
 module _ (w : World) (d : Domain) (page channel : ℕ) (ds : Domains) (here : w .domains ≡ ds) (all : length ds ≡ mostDomains) where
   pub introduce-twice : introduced d ds ≡ true → introducing w d page channel ≡ left w (refused EEXIST)
@@ -46,9 +46,11 @@ module _ (w : World) (d : Domain) (page channel : ℕ) (ds : Domains) (here : w 
     introduce-done h = rw (here, new, all, ← found, lt-ltb k mostDomains h) refl
 
 -- an outcome with a page and a channel
-pub introduced-so : (o : W.Outcome) (after : World) (rs : List Record) (page channel : ℕ) (reply reply′ events events′ : Octets) (x : Reply) (n : ℕ) (t : Tables) (r : Outcome)
-    → o ≡ record { reply = OK; world = after; records = rs; page = page; channel = channel } → r ≡ record { reply = x; events = n; page = page; channel = channel }
-    → Told OK x reply reply′ → events′ ≡ paste 0 (flatMap recordBytes rs) events → n ≡ length rs → t ≡ leaves after → Handled o t reply reply′ events events′ r
+pub introduced-so : (o : W.Outcome) (after : World) (rs : List Record) (page channel : ℕ) (reply reply′ events events′ : Octets) (x : Reply) (n : ℕ)
+    (t : Tables) (r : Outcome) → o ≡ record { reply = OK; world = after; records = rs; page = page; channel = channel } →
+    r ≡ record { reply = x; events = n; page = page; channel = channel } →
+    Told OK x reply reply′ → events′ ≡ paste 0 (flatMap recordBytes rs) events → n ≡ length rs → t ≡ itsTables after →
+    Handled o t reply reply′ events events′ r
 unfolding tablesOf
 introduced-so o after rs page channel reply reply′ events events′ x n t r q p h b l k =
     rw (q, p) (record { tables = k; reply = h; events = b; count = l; page = refl; channel = refl })

@@ -26,7 +26,7 @@ use Rattle.events.specs.Stores.{Stores}
 use Rattle.replies.specs.Framed.{Told}
 use Rattle.replies.specs.Handled.{Handled}
 use Rattle.replies.specs.declared.kinds.Outcome.{Outcome}
-use Rattle.handlers.specs.Leaves.{tables, itsCopies, itsWatches, itsDomains}
+use Rattle.replies.specs.Does.{tables, itsCopies, itsWatches, itsDomains}
 use Rattle.handlers.specs.Asking.{copyIn}
 use Rattle.handlers.specs.Transacting.{Holds, HeldOr, Committable}
 use Rattle.handlers.proofs.Ways.{outcomeOf, same-tables, heard-so}
@@ -76,10 +76,12 @@ module _ (s : Octets) (c : Connection) (k : ℕ) (kept : KeptTransactions s) (be
   place-held false none q e = λ w t. held-at w c k none (ap (λ (xs : Transactions). getD xs k none) t ∙ q)
   place-held false (some x) q e = λ w t. held-at w c k (some x) (ap (λ (xs : Transactions). getD xs k none) t ∙ q) ∙ rw (sym e) refl
 
-pub held-or : (s : Octets) (c : Connection) (tx : ℕ) (b : Bool) → KeptTransactions s → (tx ≡ 0 → ⊥) → tx ≤ 3 → b ≡ passes (heldBy c) (getD (transactionsOf s) (tx - 1) none) → HeldOr s c tx b
+pub held-or : (s : Octets) (c : Connection) (tx : ℕ) (b : Bool) → KeptTransactions s → (tx ≡ 0 → ⊥) → tx ≤ 3 →
+    b ≡ passes (heldBy c) (getD (transactionsOf s) (tx - 1) none) → HeldOr s c tx b
 held-or s c zero b k z l e = absurd (z refl)
 held-or s c (suc n) b k z l e =
-    place-held s c n k (omega arith) b _ refl (e ∙ ap (λ (j : ℕ). passes (heldBy c) (getD (transactionsOf s) j none)) (let y : suc n - 1 ≡ n = omega arith in y))
+    place-held s c n k (omega arith) b _ refl
+    (e ∙ ap (λ (j : ℕ). passes (heldBy c) (getD (transactionsOf s) j none)) (let y : suc n - 1 ≡ n = omega arith in y))
 
 -- a test of it, by its answer b
 pub it-holds : (s : Octets) (c : Connection) (tx : ℕ) (b : Bool) → HeldOr s c tx b → not b ≡ false → Holds s c tx
@@ -175,7 +177,8 @@ module _ (nodes cs ws xs reply events : Octets) (s : Committable nodes cs ws xs 
   pub copy-fits : 0 + length t ≤ length nodes
   copy-fits = omega (arith, copy-long, table-long)
 
-  module _ (nodes′ : Octets) (put : nodes′ ≡ paste 0 t nodes) (w : World) (nw : w .nodes ≡ tableOf nodes) (cw : w .copies ≡ chunks mostTransactions tableSize cs) (ww : w .watches ≡ watchesOf ws)
+  module _ (nodes′ : Octets) (put : nodes′ ≡ paste 0 t nodes) (w : World) (nw : w .nodes ≡ tableOf nodes)
+      (cw : w .copies ≡ chunks mostTransactions tableSize cs) (ww : w .watches ≡ watchesOf ws)
       (xw : w .transactions ≡ transactionsOf xs) where
     pub commit-handled : (xs′ reply′ events′ : Octets) (n : ℕ) (r : Reply.Reply) (out : Outcome)
         → xs′ ≡ transactionsBytes (staledIf (not (isEmpty (transactionOf xs k .changes))) (set (transactionsOf xs) k none))
@@ -185,9 +188,11 @@ module _ (nodes cs ws xs reply events : Octets) (s : Committable nodes cs ws xs 
     commit-handled xs′ reply′ events′ n r out e h told p =
         let f = recorded-first _ _ _ _ h in
         let c : tableOf t ≡ copyOf w k = ap tableOf here ∙ sym (copy-of w cs k cw (o .below)) in
-        let same : heard (tableOf nodes) (tableOf t) (watchesOf ws) (transactionOf xs k .changes) ≡ heard (w .nodes) (copyOf w k) (w .watches) (transactionOf xs k .changes) =
-        rw (c, nw, ww) refl in
+        let made = transactionOf xs k .changes in
+        let same : heard (tableOf nodes) (tableOf t) (watchesOf ws) made ≡ heard (w .nodes) (copyOf w k) (w .watches) made = rw (c, nw, ww) refl in
         heard-so w _ reply out OK _ _ reply′ events events′ r n _ (commit-done w k (transactionOf xs k)) p told
         (f .0 ∙ ap (λ (rs : List Record). paste 0 (flatMap recordBytes rs) events) same) (f .1 ∙ ap length same)
-        (same-tables (put ∙ paste-whole t nodes (copy-long ∙ sym table-long) ∙ here ∙ (sym (sound-canonical (copyIn cs k) (s .copy k o) .kept) ∙ ap tableBytes (sym (copy-of w cs k cw (o .below))))) refl refl
+        (same-tables
+        (put ∙ paste-whole t nodes (copy-long ∙ sym table-long) ∙ here
+        ∙ (sym (sound-canonical (copyIn cs k) (s .copy k o) .kept) ∙ ap tableBytes (sym (copy-of w cs k cw (o .below))))) refl refl
         (e ∙ ap (λ (y : Transactions). transactionsBytes (staledIf (not (isEmpty (transactionOf xs k .changes))) (set y k none))) (sym xw)) refl)

@@ -1,3 +1,4 @@
+pub mod Alone
 pub mod Ways
 pub mod WatchingLaws
 pub mod AboutLaws

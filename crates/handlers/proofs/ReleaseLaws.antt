@@ -14,11 +14,13 @@ use Rattle.rules.specs.Domain.{Domain}
 use Rattle.rules.specs.Path.{releaseName}
 use Rattle.rules.specs.Node.{Table, ownedBy, withoutAll}
 use Rattle.rules.specs.Answer.{OK, ENOENT, refused}
-use Rattle.rules.specs.Event.{Watch, Watches, heard, heardOf}
-use Rattle.rules.specs.Layout.{Transaction, Transactions, Domains, tableBytes, tableOf, watchesBytes, watchesOf, transactionsBytes, transactionsOf, domainsBytes, domainsOf}
+use Rattle.rules.specs.Event.{Watch, Watches, Record, heard, heardOf}
+use Rattle.rules.specs.Layout.{Transaction, Transactions, Domains, tableBytes, tableOf, watchesBytes, watchesOf, transactionsBytes, transactionsOf}
+use Rattle.rules.specs.Layout.{domainsBytes, domainsOf}
 use Rattle.rules.specs.Sound.{introduced}
 use Rattle.rules.specs.World as W
-use Rattle.rules.specs.World.{World, left, to, staled, staledIf, speaksFor, withoutWatches, withoutTransactions, releasing, withNodes, withWatches, withTransactions, withDomains}
+use Rattle.rules.specs.World.{World, left, to, staled, staledIf, speaksFor, withoutWatches, withoutTransactions, releasing, withNodes, withWatches}
+use Rattle.rules.specs.World.{withTransactions, withDomains}
 use Rattle.rules.proofs.GoodNodes.{withoutAll-good}
 use Rattle.rules.proofs.Fitting.{withoutAll-fits}
 use Rattle.rules.proofs.Slots.{table-read}
@@ -39,7 +41,7 @@ use Rattle.replies.specs.declared.kinds.Reply.{Reply}
 use Rattle.replies.specs.Framed.{Told}
 use Rattle.replies.specs.Handled.{Handled}
 use Rattle.replies.specs.declared.kinds.Outcome.{Outcome}
-use Rattle.handlers.specs.Leaves.{tables, itsCopies}
+use Rattle.replies.specs.Does.{tables, itsCopies}
 use Rattle.handlers.specs.Releasing.{Forgotten, Releasable, Released}
 use Rattle.handlers.proofs.Ways.{outcomeOf, same-tables, heard-so}
 use Rattle.handlers.proofs.PlainLaws.{recorded-first}
@@ -56,12 +58,17 @@ unwatched-kept : (ws : Octets) → KeptWatches ws → (d : Domain) (t : Octets) 
 unfolding withoutWatches
 unwatched-kept ws k d t e = without-watches ws k (λ (v : Watch). eqb d (v .owner)) t e
 
-module _ (ws xs ds : Octets) (k : KeptTransactions xs) (d : Domain) (ws′ xs₁ xs′ ds′ : Octets) (unwatched : ws′ ≡ watchesBytes (withoutWatches (eqb d) (watchesOf ws)))
+module _ (ws xs ds : Octets) (k : KeptTransactions xs) (d : Domain) (ws′ xs₁ xs′ ds′ : Octets)
+    (unwatched : ws′ ≡ watchesBytes (withoutWatches (eqb d) (watchesOf ws)))
     (ended : xs₁ ≡ transactionsBytes (withoutTransactions (eqb d) (transactionsOf xs))) (gone : ds′ ≡ domainsBytes (without (eqb d) (domainsOf ds))) where
   pub forgotten-stale : (b : Bool) → b ≡ true → xs′ ≡ transactionsBytes (staled (transactionsOf xs₁)) → Forgotten ws xs ds d b ws′ xs′ ds′
   unfolding staledIf
   forgotten-stale b e h =
-      record { unwatched = unwatched; ended = rw e (h ∙ ap (λ (y : Transactions). transactionsBytes (staled y)) (ended-kept xs k d xs₁ ended .1)); forgotten = gone }
+      record {
+        unwatched = unwatched;
+        ended = rw e (h ∙ ap (λ (y : Transactions). transactionsBytes (staled y)) (ended-kept xs k d xs₁ ended .1));
+        forgotten = gone;
+      }
 
   pub forgotten-still : (b : Bool) → b ≡ false → xs′ ≡ xs₁ → Forgotten ws xs ds d b ws′ xs′ ds′
   unfolding staledIf
@@ -74,7 +81,8 @@ unfolding isEmpty
 none-left [] = refl
 none-left (i ∷ is) = rw eqb·suc-zero refl
 
-module _ (nodes ws xs ds events : Octets) (s : Releasable nodes ws xs ds events) (d : Domain) (low : 1 ≤ d) (list : List ℕ) (long : length list ≡ slots) (n : ℕ) (o : Owned nodes d list n) where
+module _ (nodes ws xs ds events : Octets) (s : Releasable nodes ws xs ds events) (d : Domain) (low : 1 ≤ d) (list : List ℕ) (long : length list ≡ slots)
+    (n : ℕ) (o : Owned nodes d list n) where
   abbrev pub mine : List ℕ
   mine = ownedBy (tableOf nodes) d
 
@@ -84,7 +92,10 @@ module _ (nodes ws xs ds events : Octets) (s : Releasable nodes ws xs ds events)
   rest-sound : TableSound rest
   rest-sound =
       let t = table-decoded nodes (s .sound) in
-      record { good = withoutAll-good mine (tableOf nodes) (t .good) (owned-fine (tableOf nodes) d (t .good) low); fitting = withoutAll-fits mine (tableOf nodes) (t .fitting) }
+      record {
+        good = withoutAll-good mine (tableOf nodes) (t .good) (owned-fine (tableOf nodes) d (t .good) low);
+        fitting = withoutAll-fits mine (tableOf nodes) (t .fitting);
+      }
 
   -- whether there are any
   pub any-mine : not (eqb n 0) ≡ not (isEmpty mine)
@@ -110,14 +121,17 @@ module _ (nodes ws xs ds events : Octets) (s : Releasable nodes ws xs ds events)
         s .room,
       )
 
-      module _ (events₁ : Octets) (n₁ : ℕ) (r : Events.Recorded 0 (heard (tableOf before) (tableOf nodes′) (watchesOf ws′) (map (removalOf (tableOf before)) (take n list))) events events₁ n₁) where
+      abbrev gone-heard : List Record
+      gone-heard = heard (tableOf before) (tableOf nodes′) (watchesOf ws′) (map (removalOf (tableOf before)) (take n list))
+
+      module _ (events₁ : Octets) (n₁ : ℕ) (r : Events.Recorded 0 gone-heard events events₁ n₁) where
         few : n₁ ≤ n
         few =
             let h = heard-few (tableOf before) (tableOf nodes′) (watchesOf ws′) (map (removalOf (tableOf before)) (take n list)) in
             let l : length (map (removalOf (tableOf before)) (take n list)) ≤ n = simp (length-map, length-take) (omega arith) in
             omega (arith, r .count, h, l)
 
-        many : (0 + length (heard (tableOf before) (tableOf nodes′) (watchesOf ws′) (map (removalOf (tableOf before)) (take n list)))) * recordSize ≤ length events
+        many : (0 + length gone-heard) * recordSize ≤ length events
         many = rw (s .room) (omega (arith, few, r .count, o .few))
 
         -- what the record of the domain's event wants
@@ -127,7 +141,8 @@ module _ (nodes ws xs ds events : Octets) (s : Releasable nodes ws xs ds events)
           record { whole = recorded-length 0 _ events events₁ n₁ many r ∙ s .room; few = omega (arith, o .few, few) },
         )
 
-        pub released : removal ≡ not (isEmpty mine) → (events′ : Octets) (m : ℕ) → Events.Recorded n₁ (heardOf (eventName true) d (watchesOf ws′)) events₁ events′ m →
+        pub released : removal ≡ not (isEmpty mine) → (events′ : Octets) (m : ℕ) →
+            Events.Recorded n₁ (heardOf (eventName true) d (watchesOf ws′)) events₁ events′ m →
             Released nodes ws xs ds d events nodes′ ws′ xs′ ds′ events′ m
         unfolding eventName
         released e events′ m q =
@@ -160,8 +175,10 @@ module _ (w : World) (d : Domain) (ds : Domains) (here : w .domains ≡ ds) wher
   unfolding releasing left to speaksFor W.removalOf removalOf
   release-done h = rw (here, h, empty-mapped (W.removalOf w) gone) refl
 
-module _ (nodes ws xs ds : Octets) (d : Domain) (events nodes′ ws′ xs′ ds′ events′ : Octets) (n : ℕ) (q : Released nodes ws xs ds d events nodes′ ws′ xs′ ds′ events′ n)
-    (w : World) (nw : w .nodes ≡ tableOf nodes) (ww : w .watches ≡ watchesOf ws) (xw : w .transactions ≡ transactionsOf xs) (dw : w .domains ≡ domainsOf ds) where
+module _ (nodes ws xs ds : Octets) (d : Domain) (events nodes′ ws′ xs′ ds′ events′ : Octets) (n : ℕ)
+    (q : Released nodes ws xs ds d events nodes′ ws′ xs′ ds′ events′ n)
+    (w : World) (nw : w .nodes ≡ tableOf nodes) (ww : w .watches ≡ watchesOf ws) (xw : w .transactions ≡ transactionsOf xs)
+    (dw : w .domains ≡ domainsOf ds) where
   pub released-handled : introduced d (domainsOf ds) ≡ true → (reply reply′ : Octets) (x : Reply) (r : Outcome) → Told OK x reply reply′ → r ≡ outcomeOf x n →
       Handled (releasing w d) (tables nodes′ (itsCopies w) ws′ xs′ ds′) reply reply′ events events′ r
   released-handled h reply reply′ x r t p =

@@ -24,7 +24,8 @@ use Rattle.replies.specs.Framed.{Told}
 use Rattle.handlers.proofs.AboutLaws.{number-ended}
 
 -- a table's bytes in place of copy k
-pub copy-put : (cs : Octets) (k : ℕ) (t cs′ : Octets) → length cs ≡ mostTransactions * tableSize → length t ≡ tableSize → k < mostTransactions → cs′ ≡ paste (k * tableSize) t cs →
+pub copy-put : (cs : Octets) (k : ℕ) (t cs′ : Octets) → length cs ≡ mostTransactions * tableSize → length t ≡ tableSize → k < mostTransactions →
+    cs′ ≡ paste (k * tableSize) t cs →
     cs′ ≡ flatMap whole (set (chunks mostTransactions tableSize cs) k t)
 copy-put cs k t cs′ l m h e =
     e ∙ (ap (paste (k * tableSize) t) (sym (rows-joined mostTransactions tableSize cs l))
@@ -32,7 +33,8 @@ copy-put cs k t cs′ l m h e =
 
 -- the copies of w, with its nodes' bytes as copy k
 pub copied : (w : World) (cs nodes : Octets) (k : ℕ) (cs′ : Octets) → length cs ≡ mostTransactions * tableSize → Canonical nodes → w .nodes ≡ tableOf nodes →
-    w .copies ≡ chunks mostTransactions tableSize cs → k < mostTransactions → cs′ ≡ paste (k * tableSize) nodes cs → cs′ ≡ flatMap whole (set (w .copies) k (tableBytes (w .nodes)))
+    w .copies ≡ chunks mostTransactions tableSize cs → k < mostTransactions → cs′ ≡ paste (k * tableSize) nodes cs →
+    cs′ ≡ flatMap whole (set (w .copies) k (tableBytes (w .nodes)))
 copied w cs nodes k cs′ l n e q h p =
     copy-put cs k nodes cs′ l (n .whole) h p
     ∙ ap₂ (λ (x : List Octets) (y : Octets). flatMap whole (set x k y)) (sym q) (sym (ap tableBytes e ∙ n .kept))
@@ -54,7 +56,8 @@ module _ (w : World) (c : Connection) (xs : Transactions) (here : w .transaction
     start-done h = rw (here, three, ← found, lt-ltb k 3 h, add-one k) refl
 
 -- the id and a nul behind the header
-pub id-told : (n end : ℕ) (before l : Octets) → length before ≡ replySize → Put headerSize (decimal n) before l end → end < length l → Told (done (decimal n ++ nul)) (Done (end + 1 - 16)) before (set l end 0)
+pub id-told : (n end : ℕ) (before l : Octets) → length before ≡ replySize → Put headerSize (decimal n) before l end → end < length l →
+    Told (done (decimal n ++ nul)) (Done (end + 1 - 16)) before (set l end 0)
 id-told n end before l b p h =
     let k = number-ended n 16 end [] before before l refl b (omega arith) (sym (paste-nil 16 before)) p h in
     (ap Done (k .0), k .1)

@@ -47,11 +47,14 @@ and-assoc false b c = refl
 
 pub place-named : (r : Bool) (text : Octets) → given text ≡ special text → placeIn r text ≡ event text
 unfolding placeIn
-place-named r text h = ap (λ (g : Given). elim g as (λ x. Place) [ malformed ↦ event [] | absolute ns ↦ path r ns | relative ns ↦ event [] | special e ↦ event e ]) h
+place-named r text h =
+    ap (λ (g : Given). elim g as (λ x. Place) [ malformed ↦ event [] | absolute ns ↦ path r ns | relative ns ↦ event [] | special e ↦ event e ]) h
 
 pub place-full : (r : Bool) (text : Octets) → isFull text ≡ true → placeIn r text ≡ path r (namesIn text)
 unfolding placeIn
-place-full r text h = ap (λ (g : Given). elim g as (λ x. Place) [ malformed ↦ event [] | absolute ns ↦ path r ns | relative ns ↦ event [] | special e ↦ event e ]) (full-given text h)
+place-full r text h =
+    ap (λ (g : Given). elim g as (λ x. Place) [ malformed ↦ event [] | absolute ns ↦ path r ns | relative ns ↦ event [] | special e ↦ event e ])
+    (full-given text h)
 
 module _ (w : World) (text t : Octets) (r : Bool) where
   pub token-long : longestToken < length t → false ≡ (placeFits w (placeIn r text) && leb (length t) longestToken)
@@ -91,7 +94,9 @@ module _ (w : World) (c : Connection) (p : Place) (t : Octets) (depth : Option �
     module _ (short : (placeFits w p && leb (length t) longestToken) ≡ true) (k : ℕ) (found : k ≡ lowest ws) where
       pub watch-full : mostWatches ≤ k → watching w c p t depth ≡ left w (refused ENOSPC)
       unfolding watching placeFits left to
-      watch-full h = rw (here, new, sym (and-assoc (placeFits w p) (leb (length t) longestToken) (ltb (lowest ws) (length ws))), short, all, ← found, le-ltb k mostWatches h) refl
+      watch-full h =
+          let e = sym (and-assoc (placeFits w p) (leb (length t) longestToken) (ltb (lowest ws) (length ws))) in
+          rw (here, new, e, short, all, ← found, le-ltb k mostWatches h) refl
 
       abbrev pub watches-after : Watches
       watches-after = set ws k (some (record { owner = c; place = p; depth = depth; token = t }))
@@ -99,7 +104,9 @@ module _ (w : World) (c : Connection) (p : Place) (t : Octets) (depth : Option �
       pub watch-done : k < mostWatches → watching w c p t depth
           ≡ to w OK (withWatches w watches-after) (firstHeard k p watches-after)
       unfolding watching placeFits left to
-      watch-done h = rw (here, new, sym (and-assoc (placeFits w p) (leb (length t) longestToken) (ltb (lowest ws) (length ws))), short, all, ← found, lt-ltb k mostWatches h) refl
+      watch-done h =
+          let e = sym (and-assoc (placeFits w p) (leb (length t) longestToken) (ltb (lowest ws) (length ws))) in
+          rw (here, new, e, short, all, ← found, lt-ltb k mostWatches h) refl
 
 pub reset-done : (w : World) (c : Connection) → resetting w c
     ≡ to w OK (withTransactions (withWatches w (withoutWatches (eqb c) (w .watches))) (withoutTransactions (eqb c) (w .transactions))) []
@@ -108,10 +115,15 @@ reset-done w c = refl
 
 -- ── a new watch ──
 
-pub place-text : (special : Bool) (text : Octets) (r : Bool) → PlacedAs special text → placeText (placeIn r text) ≡ text
+place-text : (special : Bool) (text : Octets) (r : Bool) → PlacedAs special text → placeText (placeIn r text) ≡ text
 unfolding placeText
 place-text true text r h = ap placeText (place-named r text h)
 place-text false text r h = ap placeText (place-full r text h) ∙ sym (full text h .text)
+
+-- whether there is such a watch already, by the text of its place
+module _ (special : Bool) (c : Connection) (text : Octets) (r : Bool) (t : Octets) (ws : Watches) (b : Bool) where
+  pub watched-place : PlacedAs special text → watched c text t ws ≡ b → watched c (placeText (placeIn r text)) t ws ≡ b
+  watched-place p e = ap (λ (x : Octets). watched c x t ws) (place-text special text r p) ∙ e
 
 event-short : (text : Octets) → given text ≡ special text → length text ≤ longestPath
 unfolding introduceName releaseName Octets.text
@@ -132,10 +144,16 @@ fit-watch w true r c text t p n h e =
 fit-watch w false r c text t p n h e =
     let q = and-eq-true-iff (placeFits w (placeIn r text)) (leb (length t) longestToken) .0 e in
     let f : fits (namesIn text) ≡ true = sym (ap (placeFits w) (place-full r text p)) ∙ q .0 in
-    record { owner = h; placed = watches.full p; path = subst (λ (x : Octets). length x ≤ longestPath) (sym (full text p .text)) (fits-length (namesIn text) f); few = leb-true (length t) longestToken (q .1) }
+    record {
+      owner = h;
+      placed = watches.full p;
+      path = subst (λ (x : Octets). length x ≤ longestPath) (sym (full text p .text)) (fits-length (namesIn text) f);
+      few = leb-true (length t) longestToken (q .1);
+    }
 
 -- the table after it is put in
-module _ (s : Octets) (kept : KeptWatches s) (k : ℕ) (below : k < mostWatches) (c : Connection) (text : Octets) (r : Bool) (d : Depth) (t : Octets) (f : FitWatch c text r t) (shallow : entryOr 0 (depthMeant d) < 256)
+module _ (s : Octets) (kept : KeptWatches s) (k : ℕ) (below : k < mostWatches) (c : Connection) (text : Octets) (r : Bool) (d : Depth) (t : Octets)
+    (f : FitWatch c text r t) (shallow : entryOr 0 (depthMeant d) < 256)
     (b : Octets) (put : b ≡ watchesBytes (set (watchesOf s) k (some (watchGiven c text r d t)))) where
   abbrev pub new-watch : Watch
   new-watch = record { owner = c; place = placeIn r text; depth = depthMeant d; token = t }

@@ -1,7 +1,6 @@
 -- A node request: what it works on, who hears it, and what is entered.
 use mathlib.Core.Path.{_≡_}
 use mathlib.Core.Bool.{true, false}
-use mathlib.Core.List.{List, [], _∷_}
 use mathlib.Core.Option.{none, some}
 use Prim.Native.Nat.{ℕ, _*_, _<_, _≤_}
 use lib.ListN.{length, take, drop}
@@ -9,21 +8,21 @@ use Rattle.rules.specs.Size.{lastDomain, replySize, tableSize, copiesSize, even
 use Rattle.rules.specs.Octets.{Octets}
 use Rattle.rules.specs.Domain.{Domain}
 use Rattle.rules.specs.Path.{isFull, namesIn}
-use Rattle.rules.specs.Node.{Entry, Table}
+use Rattle.rules.specs.Node.{Table}
 use Rattle.rules.specs.Payload as P
 use Rattle.rules.specs.Answer as A
 use Rattle.rules.specs.Answer.{Change, ENOSPC, refused}
 use Rattle.rules.specs.Event.{Watches, hears, maskOf, heardChange}
 use Rattle.rules.specs.Layout.{tableOf, watchesOf, transactionsBytes, transactionsOf}
-use Rattle.rules.specs.Sound.{goodEntries, soundTable}
+use Rattle.rules.specs.Sound.{soundTable}
 use Rattle.rules.specs.World.{staled}
 use Rattle.watches.specs.Watch.{KeptWatches}
 use Rattle.transactions.specs.Transaction.{KeptTransactions, transactionOf, changeGiven, OpenTransaction}
 use Rattle.events.specs.Records as Events
 use Rattle.events.specs.Records.{Mask}
-use Rattle.nodes.specs.Answers.{Askable, Asks}
-use Rattle.nodes.specs.declared.kinds.Ask.{Ask}
-use Rattle.nodes.specs.declared.kinds.Ask.the-variants.{Directory, Read, GetPerms, Write, Mkdir, Rm, SetPerms}
+use Rattle.payload.specs.Meaning.{askMeant, AskSound}
+use Rattle.payload.specs.declared.answer.Ask.{Ask}
+use Rattle.payload.specs.declared.answer.Ask.the-variants.{Directory, Read, GetPerms, Write, Mkdir, Rm, SetPerms}
 use Rattle.replies.specs.declared.kinds.Reply.{Reply}
 use Rattle.replies.specs.declared.kinds.Outcome.{Outcome}
 
@@ -31,30 +30,12 @@ use Rattle.replies.specs.declared.kinds.Outcome.{Outcome}
 abbrev pub copyIn : Octets → ℕ → Octets
 copyIn copies k = take tableSize (drop (k * tableSize) copies)
 
--- entries whose access has a letter
-abbrev pub Lettered : List Entry → Type 0
-Lettered [] = Unit {0}
-Lettered (e ∷ es) = (e .access < 4) × Lettered es
-
--- good entries, where there are any
-abbrev pub GoodAsk : P.Ask → Type 0
-GoodAsk P.directory = Unit {0}
-GoodAsk P.read = Unit {0}
-GoodAsk P.getPerms = Unit {0}
-GoodAsk (P.write v) = Unit {0}
-GoodAsk P.mkdir = Unit {0}
-GoodAsk P.rm = Unit {0}
-GoodAsk (P.setPerms o es) = (goodEntries (o ∷ es) ≡ true) × Lettered (o ∷ es)
-
--- what domain d asks for a full path: a request of the rule book, in its bounds
-pub record Asking (d : Domain) (ask : Ask) (path v : Octets) (n : ℕ) (access domains : List ℕ) : Type 0 where
+-- what domain d asks for a full path: a request of the rule book, in its bounds, on the payload s
+pub record Asking (d : Domain) (ask : Ask) (path s : Octets) : Type 0 where
   pub domain : d ≤ lastDomain
   pub full : isFull path ≡ true
-  pub stored : Askable ask n access domains
-  pub request : P.Ask
-  pub asks : Asks ask v n access domains request
-  pub proper : P.proper request (namesIn path) ≡ true
-  pub good : GoodAsk request
+  pub sound : AskSound s ask
+  pub proper : P.proper (askMeant s ask) (namesIn path) ≡ true
 
 -- the store: a sound node table, watches and transactions whose bytes are those of what they mean
 pub record OnStore (nodes watches transactions reply events : Octets) : Type 0 where
@@ -69,13 +50,14 @@ abbrev pub Hearing : Ask → Table → Watches → Octets → ℕ → Type 0
 Hearing Directory t ws path m = Unit {0}
 Hearing Read t ws path m = Unit {0}
 Hearing GetPerms t ws path m = Unit {0}
-Hearing Write t ws path m = Mask (maskOf (hears t t (changeGiven false path)) ws) m
+Hearing (Write from) t ws path m = Mask (maskOf (hears t t (changeGiven false path)) ws) m
 Hearing Mkdir t ws path m = Mask (maskOf (hears t t (changeGiven false path)) ws) m
 Hearing Rm t ws path m = Mask (maskOf (hears t t (changeGiven true path)) ws) m
-Hearing SetPerms t ws path m = Mask (maskOf (hears t t (changeGiven false path)) ws) m
+Hearing (SetPerms es) t ws path m = Mask (maskOf (hears t t (changeGiven false path)) ws) m
 
 -- all open transactions are stale, and the change is recorded
-pub record Changed (before : Table) (nodes watches transactions : Octets) (c : Change) (r : Reply) (events transactions′ events′ : Octets) (o : Outcome) : Type 0 where
+pub record Changed (before : Table) (nodes watches transactions : Octets) (c : Change) (r : Reply) (events transactions′ events′ : Octets)
+    (o : Outcome) : Type 0 where
   pub stale : transactions′ ≡ transactionsBytes (staled (transactionsOf transactions))
   pub count : ℕ
   pub heard : Events.Recorded 0 (heardChange before (tableOf nodes) (watchesOf watches) c) events events′ count

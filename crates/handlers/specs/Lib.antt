@@ -1,4 +1,3 @@
-pub mod Leaves
 pub mod Asking
 pub mod Watching
 pub mod Transacting

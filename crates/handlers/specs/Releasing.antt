@@ -36,10 +36,12 @@ pub record Releasable (nodes watches transactions domains events : Octets) : Typ
   pub room : length events ≡ eventsSize
 
 -- the store without the nodes that domain d owns, the other tables without d, and the records of both
-pub record Released (nodes watches transactions domains : Octets) (d : Domain) (events nodes′ watches′ transactions′ domains′ events′ : Octets) (n : ℕ) : Type 0 where
+pub record Released (nodes watches transactions domains : Octets) (d : Domain) (events nodes′ watches′ transactions′ domains′ events′ : Octets)
+    (n : ℕ) : Type 0 where
   pub removed : nodes′ ≡ tableBytes (withoutAll (tableOf nodes) (ownedBy (tableOf nodes) d))
   pub without : Forgotten watches transactions domains d (not (isEmpty (ownedBy (tableOf nodes) d))) watches′ transactions′ domains′
   pub recorded :
       let after = withoutAll (tableOf nodes) (ownedBy (tableOf nodes) d) in
       let ws = withoutWatches (eqb d) (watchesOf watches) in
-      Events.Recorded 0 (heard (tableOf nodes) after ws (map (removalOf (tableOf nodes)) (ownedBy (tableOf nodes) d)) ++ heardOf releaseName d ws) events events′ n
+      let gone = map (removalOf (tableOf nodes)) (ownedBy (tableOf nodes) d) in
+      Events.Recorded 0 (heard (tableOf nodes) after ws gone ++ heardOf releaseName d ws) events events′ n

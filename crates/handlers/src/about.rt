@@ -1,10 +1,9 @@
 // Requests about a domain that change nothing: GET_DOMAIN_PATH and IS_DOMAIN_INTRODUCED.
 ghost use mathlib.Core.Path.{_≡_};
 ghost use mathlib.Core.List.{_++_};
-ghost use Prim.Native.Nat.{_≤_};
 ghost use lib.ListN.{length};
 ghost use Rattle.rules.specs.Size.{replySize, domainsSize};
-ghost use Rattle.rules.specs.Octets.{Octets, nul};
+ghost use Rattle.rules.specs.Octets.{nul};
 ghost use Rattle.rules.specs.Path.{base, pathText};
 ghost use Rattle.rules.specs.Answer.{done};
 ghost use Rattle.rules.specs.Layout.{domainsOf};

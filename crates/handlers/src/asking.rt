@@ -1,12 +1,10 @@
 // A node request on the store, or in a transaction on its copy.
 ghost use mathlib.Core.Path.{_≡_};
 ghost use mathlib.Core.Bool.{true};
-ghost use mathlib.Core.Option.{some};
+ghost use mathlib.Core.Option.{none, some};
 ghost use Prim.Native.Nat.{_≤_};
 ghost use lib.ListN.{length, set};
-ghost use Rattle.rules.specs.Size.{tableSize, replySize, eventsSize, longestPath, mostTransactions};
-ghost use Rattle.rules.specs.Octets.{Octets, chunks};
-ghost use Rattle.rules.specs.Payload as P;
+ghost use Rattle.rules.specs.Size.{replySize, eventsSize, longestPath};
 ghost use Rattle.rules.specs.Path.{isFull, namesIn};
 ghost use Rattle.rules.specs.Node.{Table};
 ghost use Rattle.rules.specs.Answer.{answer};
@@ -18,19 +16,18 @@ ghost use Rattle.rules.specs.World.{World, copyOf};
 ghost use Rattle.transactions.specs.Transaction.{KeptTransactions, transactionOf, changeGiven, changedBy};
 ghost use Rattle.events.specs.Records.{Mask};
 ghost use Rattle.events.specs.Stores.{Store};
-ghost use Rattle.nodes.specs.Answers.{Asks};
+ghost use Rattle.payload.specs.Meaning.{askMeant};
 ghost use Rattle.replies.specs.Framed.{Told};
-ghost use Rattle.replies.specs.Handled.{Handled};
-ghost use Rattle.handlers.specs.Leaves.{tables, itsNodes, itsCopies, itsWatches, itsDomains};
-ghost use Rattle.handlers.specs.Asking.{GoodAsk, Asking, OnStore, Hearing, Changed, InCopy, Changing, ninthReply};
+ghost use Rattle.replies.specs.Does.{lent, Does};
+ghost use Rattle.handlers.specs.Asking.{Asking, OnStore, Hearing, Changed, InCopy, Changing, ninthReply};
 use events::changes::change_since;
 use events::masks::in_store;
 use nodes::answers::answer;
-use nodes::kinds::Ask;
 use nodes::kinds::Effect;
 use octets::parts::copy;
 use octets::sizes::MOST_CHANGES;
 use octets::sizes::TABLE_SIZE;
+use payload::answer::Ask;
 use replies::kinds::Errno;
 use replies::kinds::Outcome;
 use replies::kinds::Reply;
@@ -48,15 +45,15 @@ fn hearing(ask: Ask, nodes: &[u8], watches: &[u8], path: &[u8]) -> u32
         Ask::Directory => 0,
         Ask::Read => 0,
         Ask::GetPerms => 0,
-        Ask::Write => in_store(nodes, watches, path, false),
+        Ask::Write(_) => in_store(nodes, watches, path, false),
         Ask::Mkdir => in_store(nodes, watches, path, false),
         Ask::Rm => in_store(nodes, watches, path, true),
-        Ask::SetPerms => in_store(nodes, watches, path, false),
+        Ask::SetPerms(_) => in_store(nodes, watches, path, false),
     }
 }
 
 // Makes all open transactions stale after a change of the store, and enters who hears it, given those that heard it in the store before.
-fn tell(
+fn after_change(
     heard: u32,
     nodes: &[u8],
     watches: &[u8],
@@ -78,82 +75,53 @@ fn tell(
     with_events(r, n)
 }
 
-// A domain's request on the store.
-pub fn plainly(
+// A domain's request on the store; s is its payload.
+pub fn on_store(
     nodes: &mut [u8],
     watches: &[u8],
     transactions: &mut [u8],
     domain: u32,
     ask: Ask,
     path: &[u8],
-    value: &[u8],
-    count: usize,
-    access: &[u32],
-    domains: &[u32],
+    s: &[u8],
     reply: &mut [u8],
     events: &mut [u8],
 ) -> Outcome
-    requires { ⌜ OnStore (now nodes) (now watches) (now transactions) (now reply) (now events) × Asking domain ask (now path) (now value) count (now access)
-        (now domains) ⌝ }
-    ensures { λ r. ⌜ ((w : World) → w .nodes ≡ tableOf (now (nodes .entry)) → w .watches ≡ watchesOf (now (watches .entry)) →
-        w .transactions ≡ transactionsOf (now (transactions .entry)) → (a : P.Ask) → Asks ask (now (value .entry)) count (now (access .entry))
-        (now (domains .entry)) a → GoodAsk a →
-        Handled (W.plainly w (answer domain a (namesIn (now (path .entry))) (w .nodes)))
-        (tables (now (nodes .exit)) (itsCopies w) (itsWatches w) (now (transactions .exit)) (itsDomains w)) (now (reply .entry)) (now (reply .exit))
-        (now (events .entry)) (now (events .exit)) r) ⌝ }
+    requires { ⌜ OnStore (now nodes) (now watches) (now transactions) (now reply) (now events) × Asking domain ask (now path) (now s) ⌝ }
+    ensures { λ r. ⌜ Does
+        (lent (some (now (nodes .entry))) none (some (now (watches .entry))) (some (now (transactions .entry))) none (now (reply .entry))
+        (some (now (events .entry))))
+        (λ (w : World). W.plainly w (answer domain (askMeant (now (s .entry)) ask) (namesIn (now (path .entry))) (w .nodes)))
+        (lent (some (now (nodes .exit))) none none (some (now (transactions .exit))) none (now (reply .exit)) (some (now (events .exit)))) r ⌝ }
 {
     let heard = hearing(ask, nodes, watches, path);
-    let a = answer(
-        nodes,
-        domain,
-        ask,
-        path,
-        value,
-        count,
-        access,
-        domains,
-        reply,
-    );
+    let a = answer(nodes, domain, ask, path, s, reply);
     let r = a.reply;
     let effect = a.effect;
     match effect {
         Effect::Nothing => with_events(r, 0),
-        Effect::Wrote => tell(heard, nodes, watches, transactions, path, false, r, events),
-        Effect::Removed => tell(heard, nodes, watches, transactions, path, true, r, events),
+        Effect::Wrote => after_change(heard, nodes, watches, transactions, path, false, r, events),
+        Effect::Removed => after_change(heard, nodes, watches, transactions, path, true, r, events),
     }
 }
 
 // A domain's request in a transaction that has eight changes, on its copy: one more is refused.
-fn with_eight(
+fn in_full_transaction(
     copied: &[u8],
     domain: u32,
     ask: Ask,
     path: &[u8],
-    value: &[u8],
-    count: usize,
-    access: &[u32],
-    domains: &[u32],
+    s: &[u8],
     reply: &mut [u8],
 ) -> Outcome
-    requires { ⌜ (soundTable (now copied) ≡ true) × Asking domain ask (now path) (now value) count (now access) (now domains) ×
-        (length (now reply) ≡ replySize) ⌝ }
-    ensures { λ r. ⌜ ((a : P.Ask) → Asks ask (now (value .entry)) count (now (access .entry)) (now (domains .entry)) a →
-        Told (ninthReply (answer domain a (namesIn (now (path .entry))) (tableOf (now (copied .entry))))) (r .reply) (now (reply .entry))
-        (now (reply .exit))) × (r ≡ record { reply = r .reply; events = 0; page = 0; channel = 0 }) ⌝ }
+    requires { ⌜ (soundTable (now copied) ≡ true) × Asking domain ask (now path) (now s) × (length (now reply) ≡ replySize) ⌝ }
+    ensures { λ r. ⌜ Told
+        (ninthReply (answer domain (askMeant (now (s .entry)) ask) (namesIn (now (path .entry))) (tableOf (now (copied .entry)))))
+        (r .reply) (now (reply .entry)) (now (reply .exit)) × (r ≡ record { reply = r .reply; events = 0; page = 0; channel = 0 }) ⌝ }
 {
     let mut t = [0u8; TABLE_SIZE];
     copy(&mut t, 0, copied);
-    let a = answer(
-        &mut t,
-        domain,
-        ask,
-        path,
-        value,
-        count,
-        access,
-        domains,
-        reply,
-    );
+    let a = answer(&mut t, domain, ask, path, s, reply);
     let r = a.reply;
     let effect = a.effect;
     match effect {
@@ -164,7 +132,7 @@ fn with_eight(
 }
 
 // Enters a change in the transaction in place k.
-fn enter(transactions: &mut [u8], k: usize, removed: bool, path: &[u8], r: Reply) -> Outcome
+fn enter_change(transactions: &mut [u8], k: usize, removed: bool, path: &[u8], r: Reply) -> Outcome
     requires { ⌜ Changing (now transactions) k (now path) ⌝ }
     ensures { λ o. ⌜ (now (transactions .exit) ≡ transactionsBytes
         (set (transactionsOf (now (transactions .entry))) k (some (changedBy (transactionOf (now (transactions .entry)) k) removed (now (path .entry)))))) ×
@@ -174,59 +142,35 @@ fn enter(transactions: &mut [u8], k: usize, removed: bool, path: &[u8], r: Reply
     with_events(r, 0)
 }
 
-// A domain's request in the transaction in place k.
-pub fn inside(
+// A domain's request in the transaction in place k; s is its payload.
+pub fn in_transaction(
     copies: &mut [u8],
     transactions: &mut [u8],
     k: usize,
     domain: u32,
     ask: Ask,
     path: &[u8],
-    value: &[u8],
-    count: usize,
-    access: &[u32],
-    domains: &[u32],
+    s: &[u8],
     reply: &mut [u8],
 ) -> Outcome
-    requires { ⌜ InCopy (now copies) (now transactions) k (now reply) × Asking domain ask (now path) (now value) count (now access) (now domains) ⌝ }
-    ensures { λ r. ⌜ ((w : World) → w .copies ≡ chunks mostTransactions tableSize (now (copies .entry)) →
-        w .transactions ≡ transactionsOf (now (transactions .entry)) → (a : P.Ask) → Asks ask (now (value .entry)) count (now (access .entry))
-        (now (domains .entry)) a → (events : Octets) →
-        Handled (W.inside w k (transactionOf (now (transactions .entry)) k) (answer domain a (namesIn (now (path .entry))) (copyOf w k)))
-        (tables (itsNodes w) (now (copies .exit)) (itsWatches w) (now (transactions .exit)) (itsDomains w)) (now (reply .entry))
-        (now (reply .exit)) events events r) ⌝ }
+    requires { ⌜ InCopy (now copies) (now transactions) k (now reply) × Asking domain ask (now path) (now s) ⌝ }
+    ensures { λ r. ⌜ Does
+        (lent none (some (now (copies .entry))) none (some (now (transactions .entry))) none (now (reply .entry)) none)
+        (λ (w : World). W.inside w k (transactionOf (now (transactions .entry)) k)
+        (answer domain (askMeant (now (s .entry)) ask) (namesIn (now (path .entry))) (copyOf w k)))
+        (lent none (some (now (copies .exit))) none (some (now (transactions .exit))) none (now (reply .exit)) none) r ⌝ }
 {
     let from = k * TABLE_SIZE;
     let end = from + TABLE_SIZE;
     if MOST_CHANGES <= changes(transactions, k) {
-        return with_eight(
-            &copies[from..end],
-            domain,
-            ask,
-            path,
-            value,
-            count,
-            access,
-            domains,
-            reply,
-        );
+        return in_full_transaction(&copies[from..end], domain, ask, path, s, reply);
     }
-    let a = answer(
-        &mut copies[from..end],
-        domain,
-        ask,
-        path,
-        value,
-        count,
-        access,
-        domains,
-        reply,
-    );
+    let a = answer(&mut copies[from..end], domain, ask, path, s, reply);
     let r = a.reply;
     let effect = a.effect;
     match effect {
         Effect::Nothing => with_events(r, 0),
-        Effect::Wrote => enter(transactions, k, false, path, r),
-        Effect::Removed => enter(transactions, k, true, path, r),
+        Effect::Wrote => enter_change(transactions, k, false, path, r),
+        Effect::Removed => enter_change(transactions, k, true, path, r),
     }
 }

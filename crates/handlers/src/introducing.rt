@@ -1,16 +1,15 @@
 // INTRODUCE and RELEASE.
 ghost use mathlib.Core.Path.{_≡_};
+ghost use mathlib.Core.Option.{none, some};
 ghost use Prim.Native.Nat.{_≤_};
 ghost use lib.ListN.{length};
 ghost use Rattle.rules.specs.Size.{replySize, eventsSize, lastDomain};
-ghost use Rattle.rules.specs.Layout.{tableOf, watchesOf, transactionsOf, domainsOf};
 ghost use Rattle.rules.specs.World.{World, introducing, releasing};
 ghost use Rattle.domains.specs.Kept.{KeptDomains};
 ghost use Rattle.watches.specs.Watch.{KeptWatches};
 ghost use Rattle.transactions.specs.Transaction.{KeptTransactions};
-ghost use Rattle.replies.specs.Handled.{Handled};
+ghost use Rattle.replies.specs.Does.{lent, Does};
 ghost use Rattle.handlers.specs.Releasing.{Forgotten, Releasable, Released};
-ghost use Rattle.handlers.specs.Leaves.{tables, itsNodes, itsCopies, itsWatches, itsTransactions};
 use domains::changes::add;
 use domains::changes::remove;
 use domains::places::introduced;
@@ -44,9 +43,10 @@ pub fn introduce(
 ) -> Outcome
     requires { ⌜ KeptWatches (now watches) × KeptDomains (now domains) × (domain ≤ lastDomain) × (length (now reply) ≡ replySize) ×
         (length (now events) ≡ eventsSize) ⌝ }
-    ensures { λ r. ⌜ ((w : World) → w .watches ≡ watchesOf (now (watches .entry)) → w .domains ≡ domainsOf (now (domains .entry)) →
-        Handled (introducing w domain page channel) (tables (itsNodes w) (itsCopies w) (itsWatches w) (itsTransactions w) (now (domains .exit)))
-        (now (reply .entry)) (now (reply .exit)) (now (events .entry)) (now (events .exit)) r) ⌝ }
+    ensures { λ r. ⌜ Does
+        (lent none none (some (now (watches .entry))) none (some (now (domains .entry))) (now (reply .entry)) (some (now (events .entry))))
+        (λ (w : World). introducing w domain page channel)
+        (lent none none none none (some (now (domains .exit))) (now (reply .exit)) (some (now (events .exit)))) r ⌝ }
 {
     if introduced(domains, domain) {
         return with_events(Reply::Refused(Errno::Exists), 0);
@@ -121,10 +121,12 @@ pub fn release(
 ) -> Outcome
     requires { ⌜ Releasable (now nodes) (now watches) (now transactions) (now domains) (now events) × (1 ≤ domain) × (domain ≤ lastDomain) ×
         (length (now reply) ≡ replySize) ⌝ }
-    ensures { λ r. ⌜ ((w : World) → w .nodes ≡ tableOf (now (nodes .entry)) → w .watches ≡ watchesOf (now (watches .entry)) →
-        w .transactions ≡ transactionsOf (now (transactions .entry)) → w .domains ≡ domainsOf (now (domains .entry)) →
-        Handled (releasing w domain) (tables (now (nodes .exit)) (itsCopies w) (now (watches .exit)) (now (transactions .exit)) (now (domains .exit)))
-        (now (reply .entry)) (now (reply .exit)) (now (events .entry)) (now (events .exit)) r) ⌝ }
+    ensures { λ r. ⌜ Does
+        (lent (some (now (nodes .entry))) none (some (now (watches .entry))) (some (now (transactions .entry))) (some (now (domains .entry)))
+        (now (reply .entry)) (some (now (events .entry))))
+        (λ (w : World). releasing w domain)
+        (lent (some (now (nodes .exit))) none (some (now (watches .exit))) (some (now (transactions .exit))) (some (now (domains .exit)))
+        (now (reply .exit)) (some (now (events .exit)))) r ⌝ }
 {
     if !introduced(domains, domain) {
         return with_events(Reply::Refused(Errno::NoEntry), 0);

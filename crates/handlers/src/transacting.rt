@@ -2,18 +2,16 @@
 ghost use mathlib.Core.Path.{_≡_};
 ghost use Prim.Native.Nat.{_<_};
 ghost use mathlib.Core.Bool.{not};
-ghost use mathlib.Core.Option.{none};
+ghost use mathlib.Core.Option.{none, some};
 ghost use lib.ListN.{length, set};
-ghost use Rattle.rules.specs.Size.{replySize, tableSize, copiesSize, mostTransactions};
-ghost use Rattle.rules.specs.Octets.{Octets, chunks};
+ghost use Rattle.rules.specs.Size.{replySize, copiesSize};
 ghost use Rattle.rules.specs.Entries.{isEmpty};
-ghost use Rattle.rules.specs.Layout.{tableOf, watchesOf, transactionsBytes, transactionsOf};
+ghost use Rattle.rules.specs.Layout.{transactionsBytes, transactionsOf};
 ghost use Rattle.rules.specs.World.{World, staledIf, starting, committing, ending};
 ghost use Rattle.slots.specs.Slot.{Canonical};
 ghost use Rattle.transactions.specs.Transaction.{KeptTransactions, transactionOf, OpenTransaction};
 ghost use Rattle.handlers.specs.Transacting.{HeldOr, Committable};
-ghost use Rattle.replies.specs.Handled.{Handled};
-ghost use Rattle.handlers.specs.Leaves.{tables, itsNodes, itsCopies, itsWatches, itsDomains};
+ghost use Rattle.replies.specs.Does.{lent, Does};
 use events::changes::changes;
 use octets::parts::copy;
 use octets::sizes::HEADER_SIZE;
@@ -42,10 +40,10 @@ pub fn start(
 ) -> Outcome
     requires { ⌜ Canonical (now nodes) × (length (now copies) ≡ copiesSize) × KeptTransactions (now transactions) × (c < 65536) ×
         (length (now reply) ≡ replySize) ⌝ }
-    ensures { λ r. ⌜ ((w : World) → w .nodes ≡ tableOf (now (nodes .entry)) → w .copies ≡ chunks mostTransactions tableSize (now (copies .entry)) →
-        w .transactions ≡ transactionsOf (now (transactions .entry)) → (events : Octets) →
-        Handled (starting w c) (tables (itsNodes w) (now (copies .exit)) (itsWatches w) (now (transactions .exit)) (itsDomains w)) (now (reply .entry))
-        (now (reply .exit)) events events r) ⌝ }
+    ensures { λ r. ⌜ Does
+        (lent (some (now (nodes .entry))) (some (now (copies .entry))) none (some (now (transactions .entry))) none (now (reply .entry)) none)
+        (λ (w : World). starting w c)
+        (lent none (some (now (copies .exit))) none (some (now (transactions .exit))) none (now (reply .exit)) none) r ⌝ }
 {
     let k = lowest_free(transactions);
     if TRANSACTIONS <= k {
@@ -97,11 +95,11 @@ fn commit(
     events: &mut [u8],
 ) -> Outcome
     requires { ⌜ Committable (now nodes) (now copies) (now watches) (now transactions) (now reply) (now events) × OpenTransaction (now transactions) k ⌝ }
-    ensures { λ r. ⌜ ((w : World) → w .nodes ≡ tableOf (now (nodes .entry)) → w .copies ≡ chunks mostTransactions tableSize (now (copies .entry)) →
-        w .watches ≡ watchesOf (now (watches .entry)) → w .transactions ≡ transactionsOf (now (transactions .entry)) →
-        Handled (committing w k (transactionOf (now (transactions .entry)) k))
-        (tables (now (nodes .exit)) (itsCopies w) (itsWatches w) (now (transactions .exit)) (itsDomains w)) (now (reply .entry)) (now (reply .exit))
-        (now (events .entry)) (now (events .exit)) r) ⌝ }
+    ensures { λ r. ⌜ Does
+        (lent (some (now (nodes .entry))) (some (now (copies .entry))) (some (now (watches .entry))) (some (now (transactions .entry))) none
+        (now (reply .entry)) (some (now (events .entry))))
+        (λ (w : World). committing w k (transactionOf (now (transactions .entry)) k))
+        (lent (some (now (nodes .exit))) none none (some (now (transactions .exit))) none (now (reply .exit)) (some (now (events .exit)))) r ⌝ }
 {
     let from = k * TABLE_SIZE;
     let copied = &copies[from..from + TABLE_SIZE];
@@ -124,10 +122,11 @@ pub fn end(
     events: &mut [u8],
 ) -> Outcome
     requires { ⌜ Committable (now nodes) (now copies) (now watches) (now transactions) (now reply) (now events) ⌝ }
-    ensures { λ r. ⌜ ((w : World) → w .nodes ≡ tableOf (now (nodes .entry)) → w .copies ≡ chunks mostTransactions tableSize (now (copies .entry)) →
-        w .watches ≡ watchesOf (now (watches .entry)) → w .transactions ≡ transactionsOf (now (transactions .entry)) →
-        Handled (ending w c tx commits) (tables (now (nodes .exit)) (itsCopies w) (itsWatches w) (now (transactions .exit)) (itsDomains w))
-        (now (reply .entry)) (now (reply .exit)) (now (events .entry)) (now (events .exit)) r) ⌝ }
+    ensures { λ r. ⌜ Does
+        (lent (some (now (nodes .entry))) (some (now (copies .entry))) (some (now (watches .entry))) (some (now (transactions .entry))) none
+        (now (reply .entry)) (some (now (events .entry))))
+        (λ (w : World). ending w c tx commits)
+        (lent (some (now (nodes .exit))) none none (some (now (transactions .exit))) none (now (reply .exit)) (some (now (events .exit)))) r ⌝ }
 {
     if !is_held(transactions, c, tx) {
         return with_events(Reply::Refused(Errno::NoEntry), 0);

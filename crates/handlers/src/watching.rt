@@ -1,21 +1,20 @@
 // WATCH, UNWATCH and RESET_WATCHES.
 ghost use mathlib.Core.Path.{_≡_};
 ghost use mathlib.Core.Bool.{Bool, _&&_};
+ghost use mathlib.Core.Option.{none, some};
 ghost use Prim.Native.Nat.{_<_};
 ghost use lib.Dec.{leb};
 ghost use lib.ListN.{length};
 ghost use Rattle.rules.specs.Size.{replySize, eventsSize, longestToken};
-ghost use Rattle.rules.specs.Octets.{Octets};
 ghost use Rattle.rules.specs.Payload.{Place};
 ghost use Rattle.rules.specs.Event.{placeText};
-ghost use Rattle.rules.specs.Layout.{placeIn, watchesOf, transactionsOf};
+ghost use Rattle.rules.specs.Layout.{placeIn};
 ghost use Rattle.rules.specs.World.{World, placeFits, watching, unwatching, resetting};
 ghost use Rattle.watches.specs.Watch.{KeptWatches, depthMeant};
 ghost use Rattle.transactions.specs.Transaction.{KeptTransactions};
-ghost use Rattle.replies.specs.Handled.{Handled};
+ghost use Rattle.replies.specs.Does.{lent, Does};
 ghost use Rattle.domains.specs.Entry.{entryOr};
 ghost use Rattle.handlers.specs.Watching.{PlacedAs, NamedSo};
-ghost use Rattle.handlers.specs.Leaves.{tables, itsNodes, itsCopies, itsTransactions, itsDomains};
 use events::others::first;
 use octets::sizes::LONGEST_TOKEN;
 use octets::sizes::WATCHES;
@@ -62,10 +61,10 @@ pub fn watch(
 ) -> Outcome
     requires { ⌜ KeptWatches (now watches) × (c < 65536) × PlacedAs special (now path) × NamedSo special relative × (entryOr 0 (depthMeant depth) < 256) ×
         (length (now reply) ≡ replySize) × (length (now events) ≡ eventsSize) ⌝ }
-    ensures { λ r. ⌜ ((w : World) → w .watches ≡ watchesOf (now (watches .entry)) →
-        Handled (watching w c (placeIn relative (now (path .entry))) (now (token .entry)) (depthMeant depth))
-        (tables (itsNodes w) (itsCopies w) (now (watches .exit)) (itsTransactions w) (itsDomains w)) (now (reply .entry)) (now (reply .exit))
-        (now (events .entry)) (now (events .exit)) r) ⌝ }
+    ensures { λ r. ⌜ Does
+        (lent none none (some (now (watches .entry))) none none (now (reply .entry)) (some (now (events .entry))))
+        (λ (w : World). watching w c (placeIn relative (now (path .entry))) (now (token .entry)) (depthMeant depth))
+        (lent none none (some (now (watches .exit))) none none (now (reply .exit)) (some (now (events .exit)))) r ⌝ }
 {
     if watched(watches, c, path, token) {
         return with_events(Reply::Refused(Errno::Exists), 0);
@@ -85,9 +84,10 @@ pub fn watch(
 // Drops a connection's watch of a full path, or an event's name, and a token.
 pub fn unwatch(watches: &mut [u8], c: u32, path: &[u8], token: &[u8], reply: &mut [u8]) -> Outcome
     requires { ⌜ KeptWatches (now watches) × (length (now reply) ≡ replySize) ⌝ }
-    ensures { λ r. ⌜ ((w : World) → w .watches ≡ watchesOf (now (watches .entry)) → (p : Place) → placeText p ≡ now (path .entry) → (events : Octets) →
-        Handled (unwatching w c p (now (token .entry))) (tables (itsNodes w) (itsCopies w) (now (watches .exit)) (itsTransactions w) (itsDomains w))
-        (now (reply .entry)) (now (reply .exit)) events events r) ⌝ }
+    ensures { λ r. ⌜ ((p : Place) → placeText p ≡ now (path .entry) → Does
+        (lent none none (some (now (watches .entry))) none none (now (reply .entry)) none)
+        (λ (w : World). unwatching w c p (now (token .entry)))
+        (lent none none (some (now (watches .exit))) none none (now (reply .exit)) none) r) ⌝ }
 {
     if !watched(watches, c, path, token) {
         return with_events(Reply::Refused(Errno::NoEntry), 0);
@@ -99,10 +99,10 @@ pub fn unwatch(watches: &mut [u8], c: u32, path: &[u8], token: &[u8], reply: &mu
 // Drops a connection's watches and transactions.
 pub fn reset(watches: &mut [u8], transactions: &mut [u8], c: u32, reply: &mut [u8]) -> Outcome
     requires { ⌜ KeptWatches (now watches) × KeptTransactions (now transactions) × (length (now reply) ≡ replySize) ⌝ }
-    ensures { λ r. ⌜ ((w : World) → w .watches ≡ watchesOf (now (watches .entry)) → w .transactions ≡ transactionsOf (now (transactions .entry)) →
-        (events : Octets) →
-        Handled (resetting w c) (tables (itsNodes w) (itsCopies w) (now (watches .exit)) (now (transactions .exit)) (itsDomains w)) (now (reply .entry))
-        (now (reply .exit)) events events r) ⌝ }
+    ensures { λ r. ⌜ Does
+        (lent none none (some (now (watches .entry))) (some (now (transactions .entry))) none (now (reply .entry)) none)
+        (λ (w : World). resetting w c)
+        (lent none none (some (now (watches .exit))) (some (now (transactions .exit))) none (now (reply .exit)) none) r ⌝ }
 {
     remove_of(watches, c);
     end_all_of(transactions, c);

@@ -1,3 +1,4 @@
+-- The text in front and the decimal behind it are the base's path, and a nul ends it.
 use mathlib.Core.Path.{_∙_}
 use lib.ListN.{length-set}
 use native.Mathlib.Omega.{arith}
@@ -21,20 +22,29 @@ put-decimal-requires : tie.Need-put-decimal-requires
 put-decimal-requires c κs = search needs
 
 slice-write-reply : tie.Need-slice-write-reply
-slice-write-reply c = omega (arith, length-decimal-le (c .before .before .before .before .before .before .before .before .before .before .args .domain))
+slice-write-reply c =
+    let domain = c .before .before .before .before .before .before .before .before .before .before .args .domain in
+    omega (arith, length-decimal-le domain)
 
 add-t12 : tie.Need-add-t12
-add-t12 c = omega (arith, length-decimal-le (c .before .before .before .before .before .before .before .before .before .before .args .domain))
+add-t12 c =
+    let domain = c .before .before .before .before .before .before .before .before .before .before .args .domain in
+    omega (arith, length-decimal-le domain)
 
 sub-t15 : tie.Need-sub-t15
 sub-t15 c = search needs
 
 same-length : tie.Need-same-length
-same-length c = length-set (c .before .before .put-decimal .last .0) _ _ ∙ (c .before .before .put-decimal .kept .0 ∙ c .before .before .before .before .before .before .copy .kept .0)
+same-length c =
+    let put = c .before .before .put-decimal in
+    length-set (put .last .0) _ _ ∙ (put .kept .0 ∙ c .before .before .before .before .before .before .copy .kept .0)
 
 returns : tie.Need-returns
 unfolding front text
-returns c = base-told (c .before .before .before .before .before .before .before .before .before .before .args .domain) _ _ _ _ (c .before .before .before .before .before .before .before .before .before .before .pre) (c .before .before .before .before .before .before .copy .ensures) (c .before .before .put-decimal .ensures) (slice-write-reply c)
+returns c =
+    let s = c .before .before .before .before .before .before .before .before .before .before in
+    base-told (s .args .domain) _ _ _ _ (s .pre) (c .before .before .before .before .before .before .copy .ensures) (c .before .before .put-decimal .ensures)
+    (slice-write-reply c)
 
 pub domain-path-spec : {M : Type 1} → statement M
 domain-path-spec =

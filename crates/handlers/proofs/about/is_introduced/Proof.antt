@@ -1,3 +1,4 @@
+-- The letter that was put is that of whether the domain is known.
 use mathlib.Core.Path.{sym, _∙_}
 use Rattle.handlers.proofs.AboutLaws.{told-introduced, told-unknown}
 use borrow.Author.Needs.{needs}
@@ -23,13 +24,17 @@ same-length : tie.Need-same-length
 same-length c = search needs
 
 returns : tie.Need-returns
-returns c = λ w e. told-introduced w _ _ _ _ e (sym (c .before .before .before .before .before .before .known .ensures) ∙ c .before .before .before .before .before .if1 .taken) (c .before .before .copy .ensures)
+returns c =
+    let known = sym (c .before .before .before .before .before .before .known .ensures) ∙ c .before .before .before .before .before .if1 .taken in
+    λ w e. told-introduced w _ _ _ _ e known (c .before .before .copy .ensures)
 
 same-length-2 : tie.Need-same-length-2
 same-length-2 c = search needs
 
 returns-2 : tie.Need-returns-2
-returns-2 c = λ w e. told-unknown w _ _ _ _ e (sym (c .before .before .before .before .before .before .known .ensures) ∙ c .before .before .before .before .before .if1 .left) (c .before .before .copy2 .ensures)
+returns-2 c =
+    let known = sym (c .before .before .before .before .before .before .known .ensures) ∙ c .before .before .before .before .before .if1 .left in
+    λ w e. told-unknown w _ _ _ _ e known (c .before .before .copy2 .ensures)
 
 pub is-introduced-spec : {M : Type 1} → statement M
 is-introduced-spec =

@@ -1,3 +1,4 @@
+-- A request that changes a node would remove it only if it is RM.
 use borrow.Author.Needs.{needs}
 use Rattle.handlers.proofs.asking.hearing.Statement.{statement}
 use Rattle.handlers.proofs.asking.hearing.Tie as tie

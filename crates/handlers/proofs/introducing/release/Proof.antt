@@ -1,10 +1,7 @@
-use mathlib.Core.Path.{refl, sym, ap, _∙_}
+-- A domain that is not introduced leaves every table; one that is leaves them as its clearing out does.
+use mathlib.Core.Path.{refl, sym, _∙_}
 use borrow.Author.Tests.{not-true, not-false}
-use Rattle.rules.specs.Layout.{tableBytes, watchesBytes, transactionsBytes, domainsBytes}
-use Rattle.slots.proofs.Canonical.{sound-canonical}
-use Rattle.transactions.proofs.Written.{kept-transactions}
-use Rattle.watches.proofs.Written.{kept-watches}
-use Rattle.domains.proofs.Laws.{kept-domains}
+use Rattle.handlers.proofs.Alone.{nodes-alone, watches-alone, transactions-alone, domains-alone}
 use Rattle.handlers.proofs.Ways.{refused-so, same-tables}
 use Rattle.handlers.proofs.ReleaseLaws.{release-unknown, released-handled}
 use borrow.Author.Needs.{needs}
@@ -21,7 +18,12 @@ same-length : tie.Need-same-length
 same-length c = search needs
 
 returns : tie.Need-returns
-returns c = λ w nw ww xw dw. refused-so w _ _ _ _ _ _ (release-unknown w _ _ dw (sym (c .before .before .introduced .ensures) ∙ not-true _ (c .before .if1 .taken))) (c .with-events .ensures) (same-tables (sym (sound-canonical (c .before .before .before .before .before .before .before .before .before .before .args .nodes .now) (c .before .before .before .before .before .before .before .before .before .before .pre .0 .sound) .kept) ∙ ap tableBytes (sym nw)) refl (sym (kept-watches _ (c .before .before .before .before .before .before .before .before .before .before .pre .0 .watching)) ∙ ap watchesBytes (sym ww)) (sym (kept-transactions _ (c .before .before .before .before .before .before .before .before .before .before .pre .0 .kept)) ∙ ap transactionsBytes (sym xw)) (sym (kept-domains _ (c .before .before .before .before .before .before .before .before .before .before .pre .0 .known)) ∙ ap domainsBytes (sym dw)))
+returns c =
+    let pre = c .before .before .before .before .before .before .before .before .before .before .pre .0 in
+    λ w l events. refused-so w _ _ _ _ _ _
+    (release-unknown w _ _ (l .domains) (sym (c .before .before .introduced .ensures) ∙ not-true _ (c .before .if1 .taken))) (c .with-events .ensures)
+    (same-tables (nodes-alone w _ (pre .sound) (l .nodes)) refl (watches-alone w _ (pre .watching) (l .watches))
+    (transactions-alone w _ (pre .kept) (l .transactions)) (domains-alone w _ (pre .known) (l .domains)))
 
 clear-out-requires : tie.Need-clear-out-requires
 clear-out-requires c κs = search needs
@@ -51,7 +53,12 @@ same-length-7 : tie.Need-same-length-7
 same-length-7 c = search needs
 
 returns-2 : tie.Need-returns-2
-returns-2 c = λ w nw ww xw dw. released-handled _ _ _ _ _ _ _ _ _ _ _ _ (c .before .before .before .before .before .before .before .before .before .before .before .before .before .before .before .clear-out .ensures) w nw ww xw dw (sym (c .before .before .before .before .before .before .before .before .before .before .before .before .before .before .before .before .before .before .before .before .before .before .introduced .ensures) ∙ not-false _ (c .before .before .before .before .before .before .before .before .before .before .before .before .before .before .before .before .before .before .before .before .before .if1 .left)) _ _ _ _ (c .before .before .before .okay .ensures) (c .with-events2 .ensures)
+returns-2 c =
+    let cleared = c .before .before .before .before .before .before .before .before .before .before .before .before .before .before .before in
+    let known = sym (cleared .before .before .before .before .before .before .before .introduced .ensures)
+    ∙ not-false _ (cleared .before .before .before .before .before .before .if1 .left) in
+    λ w l events. released-handled _ _ _ _ _ _ _ _ _ _ _ _ (cleared .clear-out .ensures) w (l .nodes) (l .watches) (l .transactions) (l .domains) known
+    _ _ _ _ (c .before .before .before .okay .ensures) (c .with-events2 .ensures)
 
 pub release-spec : {M : Type 1} → statement M
 release-spec =

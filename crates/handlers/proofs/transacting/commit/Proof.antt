@@ -1,3 +1,4 @@
+-- The copy's bytes become the node table, and the records are those of its changes between the two.
 use Rattle.handlers.proofs.EndLaws.{committing-stores, copy-fits, commit-handled}
 use borrow.Author.Needs.{needs}
 use Rattle.handlers.proofs.transacting.commit.Statement.{statement}
@@ -19,10 +20,14 @@ part-copied-end : tie.Need-part-copied-end
 part-copied-end c = search needs
 
 changes-requires : tie.Need-changes-requires
-changes-requires c κs = (committing-stores _ _ _ _ _ _ (c .before .before .before .before .before .before .before .before .before .before .pre .0) _ (c .before .before .before .before .before .before .before .before .before .before .pre .1), c .before .before .before .before .before .before .before .before .before .before .pre .1, c .before .before .before .before .before .before .before .before .before .before .pre .0 .room)
+changes-requires c κs =
+    let pre = c .before .before .before .before .before .before .before .before .before .before .pre in
+    (committing-stores _ _ _ _ _ _ (pre .0) _ (pre .1), pre .1, pre .0 .room)
 
 copy-requires : tie.Need-copy-requires
-copy-requires c κs = copy-fits _ _ _ _ _ _ (c .before .before .before .before .before .before .before .before .before .before .before .before .before .before .pre .0) _ (c .before .before .before .before .before .before .before .before .before .before .before .before .before .before .pre .1)
+copy-requires c κs =
+    let pre = c .before .before .before .before .before .before .before .before .before .before .before .before .before .before .pre in
+    copy-fits _ _ _ _ _ _ (pre .0) _ (pre .1)
 
 close-committed-requires : tie.Need-close-committed-requires
 close-committed-requires c κs = search needs
@@ -46,7 +51,14 @@ same-length-4 : tie.Need-same-length-4
 same-length-4 c = search needs
 
 returns : tie.Need-returns
-returns c = λ w nw cw ww xw. commit-handled _ _ _ _ _ _ (c .before .before .before .before .before .before .before .before .before .before .before .before .before .before .before .before .before .before .before .before .before .before .before .before .before .before .pre .0) _ (c .before .before .before .before .before .before .before .before .before .before .before .before .before .before .before .before .before .before .before .before .before .before .before .before .before .before .pre .1) _ (c .before .before .before .before .before .before .before .before .before .before .before .copy .ensures) w nw cw ww xw _ _ _ _ _ _ (c .before .before .before .before .before .before .before .close-committed .ensures) (c .before .before .before .before .before .before .before .before .before .before .before .before .before .before .before .changes .ensures) (c .before .before .before .okay .ensures) (c .with-events .ensures)
+returns c =
+    let recorded = c .before .before .before .before .before .before .before .before .before .before .before .before .before .before .before in
+    let pre = recorded .before .before .before .before .before .before .before .before .before .before .before .pre in
+    λ w l events. commit-handled _ _ _ _ _ _ (pre .0) _ (pre .1) _
+    (c .before .before .before .before .before .before .before .before .before .before .before .copy .ensures) w (l .nodes) (l .copies) (l .watches)
+    (l .transactions)
+    _ _ _ _ _ _ (c .before .before .before .before .before .before .before .close-committed .ensures) (recorded .changes .ensures)
+    (c .before .before .before .okay .ensures) (c .with-events .ensures)
 
 pub commit-spec : {M : Type 1} → statement M
 commit-spec =

@@ -1,3 +1,4 @@
+-- Both tables are left without the connection's entries.
 use mathlib.Core.Path.{refl, sym, ap, _∙_}
 use lib.Dec.{eqb}
 use Rattle.rules.specs.Layout.{Transactions}
@@ -32,7 +33,14 @@ same-length-3 : tie.Need-same-length-3
 same-length-3 c = search needs
 
 returns : tie.Need-returns
-returns c = λ w e q events. done-so w _ _ _ events _ _ _ _ _ (reset-done w _) (c .with-events .ensures) (c .before .before .before .okay .ensures) (same-tables refl refl (c .before .before .before .before .before .before .before .before .before .before .before .remove-of .ensures ∙ ap (λ (ws : Watches). watchesBytes (withoutWatches (eqb (c .before .before .before .before .before .before .before .before .before .before .before .before .before .before .before .before .args .c)) ws)) (sym e)) (c .before .before .before .before .before .before .before .remove-of2 .ensures ∙ ap (λ (xs : Transactions). transactionsBytes (withoutTransactions (eqb (c .before .before .before .before .before .before .before .before .before .before .before .before .before .before .before .before .args .c)) xs)) (sym q)) refl)
+returns c =
+    let owner = c .before .before .before .before .before .before .before .before .before .before .before .before .before .before .before .before .args .c in
+    λ w l events. done-so w _ _ _ events _ _ _ _ _ (reset-done w _) (c .with-events .ensures) (c .before .before .before .okay .ensures)
+    (same-tables refl refl
+    (c .before .before .before .before .before .before .before .before .before .before .before .remove-of .ensures
+    ∙ ap (λ (ws : Watches). watchesBytes (withoutWatches (eqb owner) ws)) (sym (l .watches)))
+    (c .before .before .before .before .before .before .before .remove-of2 .ensures
+    ∙ ap (λ (xs : Transactions). transactionsBytes (withoutTransactions (eqb owner) xs)) (sym (l .transactions))) refl)
 
 pub reset-spec : {M : Type 1} → statement M
 reset-spec =

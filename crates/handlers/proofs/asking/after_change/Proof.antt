@@ -1,6 +1,7 @@
+-- The transactions are stale, and the record is that of those who heard the change before or hear it after.
 use borrow.Author.Needs.{needs}
-use Rattle.handlers.proofs.asking.tell.Statement.{statement}
-use Rattle.handlers.proofs.asking.tell.Tie as tie
+use Rattle.handlers.proofs.asking.after_change.Statement.{statement}
+use Rattle.handlers.proofs.asking.after_change.Tie as tie
 
 stale-all-requires : tie.Need-stale-all-requires
 stale-all-requires c κs = search needs
@@ -18,10 +19,13 @@ same-length-2 : tie.Need-same-length-2
 same-length-2 c = search needs
 
 returns : tie.Need-returns
-returns c = λ before m. record { stale = c .before .before .before .before .before .before .before .stale-all .ensures; count = c .before .before .before .change-since .result; heard = c .before .before .before .change-since .ensures before m; outcome = c .with-events .ensures }
+returns c =
+    let told = c .before .before .before .change-since in
+    let stale = c .before .before .before .before .before .before .before .stale-all .ensures in
+    λ before m. record { stale = stale; count = told .result; heard = told .ensures before m; outcome = c .with-events .ensures }
 
-pub tell-spec : {M : Type 1} → statement M
-tell-spec =
+pub after-change-spec : {M : Type 1} → statement M
+after-change-spec =
     tie.close
     (tie.spec
     stale-all-requires
