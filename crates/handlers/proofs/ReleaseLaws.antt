@@ -7,7 +7,8 @@ use native.Mathlib.Omega.{arith}
 use lib.Dec.{eqb, eqb·suc-zero}
 use lib.ListN.{length, take, length-map, length-take}
 use lib.Seq.{length-take-le}
-use Rattle.rules.specs.Size.{slots, mostRecords, eventsSize, recordSize}
+use Rattle.rules.specs.Size.{lastDomain, slots, mostRecords, eventsSize, recordSize}
+use Rattle.rules.proofs.Senders.{own-number}
 use Rattle.rules.specs.Octets.{Octets}
 use Rattle.rules.specs.Entries.{isEmpty, without}
 use Rattle.rules.specs.Domain.{Domain}
@@ -156,6 +157,11 @@ module _ (nodes ws xs ds events : Octets) (s : Releasable nodes ws xs ds events)
 
 -- ── the request ──
 
+-- a domain that can be released has the connection of its own number, and no other
+speaks-own : (d : Domain) → 1 ≤ d → d ≤ lastDomain → speaksFor d ≡ eqb d
+unfolding speaksFor
+speaks-own d low high = λ i c. eqb d (own-number c i)
+
 module _ (w : World) (d : Domain) (ds : Domains) (here : w .domains ≡ ds) where
   pub release-unknown : introduced d ds ≡ false → releasing w d ≡ left w (refused ENOENT)
   unfolding releasing left
@@ -167,22 +173,22 @@ module _ (w : World) (d : Domain) (ds : Domains) (here : w .domains ≡ ds) wher
   abbrev pub watching : Watches
   watching = withoutWatches (eqb d) (w .watches)
 
-  pub release-done : introduced d ds ≡ true → releasing w d
+  pub release-done : 1 ≤ d → d ≤ lastDomain → introduced d ds ≡ true → releasing w d
       ≡ to w OK
       (withDomains (withTransactions (withWatches (withNodes w (withoutAll (w .nodes) gone)) watching)
       (staledIf (not (isEmpty gone)) (withoutTransactions (eqb d) (w .transactions)))) (without (eqb d) ds))
       (heard (w .nodes) (withoutAll (w .nodes) gone) watching (map (removalOf (w .nodes)) gone) ++ heardOf releaseName d watching)
-  unfolding releasing left to speaksFor W.removalOf removalOf
-  release-done h = rw (here, h, empty-mapped (W.removalOf w) gone) refl
+  unfolding releasing left to W.removalOf removalOf
+  release-done low high h = rw (here, h, empty-mapped (W.removalOf w) gone, speaks-own d low high) refl
 
 module _ (nodes ws xs ds : Octets) (d : Domain) (events nodes′ ws′ xs′ ds′ events′ : Octets) (n : ℕ)
     (q : Released nodes ws xs ds d events nodes′ ws′ xs′ ds′ events′ n)
     (w : World) (nw : w .nodes ≡ tableOf nodes) (ww : w .watches ≡ watchesOf ws) (xw : w .transactions ≡ transactionsOf xs)
     (dw : w .domains ≡ domainsOf ds) where
-  pub released-handled : introduced d (domainsOf ds) ≡ true → (reply reply′ : Octets) (x : Reply) (r : Outcome) → Told OK x reply reply′ → r ≡ outcomeOf x n →
+  pub released-handled : 1 ≤ d → d ≤ lastDomain → introduced d (domainsOf ds) ≡ true → (reply reply′ : Octets) (x : Reply) (r : Outcome) → Told OK x reply reply′ → r ≡ outcomeOf x n →
       Handled (releasing w d) (tables nodes′ (itsCopies w) ws′ xs′ ds′) reply reply′ events events′ r
-  released-handled h reply reply′ x r t p =
-      let e = release-done w d (domainsOf ds) dw h in
+  released-handled low high h reply reply′ x r t p =
+      let e = release-done w d (domainsOf ds) dw low high h in
       let f = recorded-first _ _ _ _ (q .recorded) in
       heard-so w _ reply r OK _ _ reply′ events events′ x n _ e p t (f .0 ∙ rw (nw, ww) refl) (f .1 ∙ rw (nw, ww) refl)
       (same-tables (q .removed ∙ rw nw refl) refl (q .without .unwatched ∙ rw ww refl) (q .without .ended ∙ rw (nw, xw) refl) (q .without .forgotten))

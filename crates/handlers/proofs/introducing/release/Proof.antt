@@ -55,10 +55,12 @@ same-length-7 c = search needs
 returns-2 : tie.Need-returns-2
 returns-2 c =
     let cleared = c .before .before .before .before .before .before .before .before .before .before .before .before .before .before .before in
+    let lent = cleared .before .before .before .before .before .before .before .before .before .before in
+    let start = lent .before .before .before .before .before in
     let known = sym (cleared .before .before .before .before .before .before .before .introduced .ensures)
     ∙ not-false _ (cleared .before .before .before .before .before .before .if1 .left) in
-    λ w l events. released-handled _ _ _ _ _ _ _ _ _ _ _ _ (cleared .clear-out .ensures) w (l .nodes) (l .watches) (l .transactions) (l .domains) known
-    _ _ _ _ (c .before .before .before .okay .ensures) (c .with-events2 .ensures)
+    λ w l events. released-handled _ _ _ _ _ _ _ _ _ _ _ _ (cleared .clear-out .ensures) w (l .nodes) (l .watches) (l .transactions) (l .domains)
+    (start .pre .1) (start .pre .2) known _ _ _ _ (c .before .before .before .okay .ensures) (c .with-events2 .ensures)
 
 pub release-spec : {M : Type 1} → statement M
 release-spec =
