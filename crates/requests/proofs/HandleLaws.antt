@@ -37,14 +37,16 @@ use Rattle.domains.proofs.Search.{taken-some}
 use Rattle.domains.proofs.Laws as domains
 use Rattle.watches.proofs.Written as watches
 use Rattle.transactions.proofs.Good as transactions
+use Rattle.replies.specs.Handled.{Handled}
+use Rattle.replies.specs.declared.kinds.Outcome.{Outcome}
 use Rattle.replies.specs.Does.{lent, Shows, itsNodes, itsCopies, itsWatches, itsTransactions, itsDomains}
 use Rattle.handlers.specs.Asking.{copyIn}
 use Rattle.handlers.specs.Transacting.{Committable}
 use Rattle.handlers.specs.Releasing.{Releasable}
 use Rattle.handlers.proofs.Alone.{nodes-alone, copies-alone, watches-alone, transactions-alone, domains-alone}
-use Rattle.handlers.proofs.Ways.{itsTables, same-tables}
+use Rattle.handlers.proofs.Ways.{itsTables, same-tables, handled-as}
 use Rattle.handlers.proofs.StartLaws.{three-transactions}
-use Rattle.payload.specs.Meaning.{meant, kept, Means}
+use Rattle.payload.specs.Meaning.{meant, kept, Sound, Means}
 use Rattle.payload.specs.declared.answer.Request.{Request}
 use Rattle.payload.specs.declared.answer.Request.the-variants as request
 use Rattle.payload.proofs.answer.Request.{the-type}
@@ -190,6 +192,19 @@ is-unknown (request.Release i) k h = absurd (miss unknownOrAsk 8 tt h)
 is-unknown (request.DomainPath i) k h = absurd (miss unknownOrAsk 9 tt h)
 is-unknown (request.IsIntroduced i) k h = absurd (miss unknownOrAsk 10 tt h)
 is-unknown request.Reset k h = absurd (miss unknownOrAsk 11 tt h)
+
+-- the outcome and the bounds of a request whose kind is known
+module _ {r r′ : Request} (e : r ≡ r′) where
+  pub sound-as : (s : Octets) → Sound s r → Sound s r′
+  sound-as s h = subst (Sound s) e h
+
+  pub read-as : (w : World) (c : Connection) (tx : ℕ) (d : Domain) (s : Octets) → outcomeOf w c tx (meant d s r) ≡ outcomeOf w c tx (meant d s r′)
+  read-as w c tx d s = ap (λ (x : Request). outcomeOf w c tx (meant d s x)) e
+
+-- the outcome and the tables by other names
+pub handled-so : {o o′ : W.Outcome} {t t′ : Tables} {reply reply′ events events′ : Octets} {r : Outcome} → o ≡ o′ → t ≡ t′ →
+    Handled o′ t′ reply reply′ events events′ r → Handled o t reply reply′ events events′ r
+handled-so {o′ = o} {reply = a} {reply′ = b} {events = c} {events′ = d} {r = r} e k h = handled-as e (subst (λ (x : Tables). Handled o x a b c d r) (sym k) h)
 
 -- ── for the control domain alone ──
 

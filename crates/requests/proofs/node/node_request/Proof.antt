@@ -1,5 +1,8 @@
+-- An absolute path is the text of its names already.
 use mathlib.Core.Path.{sym}
+use Rattle.handlers.proofs.Ways.{handled-as}
 use Rattle.requests.proofs.PlaceLaws.{path-long, absolute-names}
+use Rattle.requests.proofs.NodeLaws.{asking-of, asked-names}
 use borrow.Author.Needs.{needs}
 use Rattle.requests.proofs.node.node_request.Statement.{statement}
 use Rattle.requests.proofs.node.node_request.Tie as tie
@@ -7,16 +10,18 @@ use Rattle.requests.proofs.node.node_request.Tie as tie
 enum-told : tie.Need-enum-told
 enum-told c = search needs
 
-slice-aggregate-request-at : tie.Need-slice-aggregate-request-at
-slice-aggregate-request-at c =
-    let b = c .before .before .before .before .before .before .before .before .before .before .before .before .before .before in
-    sym (path-long (b .args .s .now) (b .args .a .path) (b .args .c) (b .pre .3 .1 .path))
+slice-aggregate-asked : tie.Need-slice-aggregate-asked
+slice-aggregate-asked c =
+    let start = c .before .before .before .before .before .before .before .before .before .before .before .before .before in
+    sym (path-long (start .args .s .now) (start .args .path) (start .args .sender .domain) (start .pre .2 .path))
 
-request-at-requires : tie.Need-request-at-requires
-request-at-requires c κs =
-    let b = c .before .before .before .before .before .before .before .before .before .before .before .before .before .before .before .before in
-    let p = b .pre in
-    (p .0, p .1, p .3, sym (absolute-names (b .args .s .now) (b .args .a .path) (b .args .c) (p .3 .1 .path) (c .before .before .before .before .before .before .enum-told .given .1)))
+asked-requires : tie.Need-asked-requires
+asked-requires c κs =
+    let start = c .before .before .before .before .before .before .before .before .before .before .before .before .before .before .before in
+    let a = start .args in
+    let p = start .pre in
+    let own = absolute-names (a .s .now) (a .path) (a .sender .domain) (p .2 .path) (c .before .before .before .before .before .before .enum-told .given .1) in
+    (p .0, p .4, asking-of _ _ (a .path) (p .2) _ _ (sym own) (p .1))
 
 relative-request-requires : tie.Need-relative-request-requires
 relative-request-requires c κs = search needs
@@ -37,7 +42,13 @@ same-length-5 : tie.Need-same-length-5
 same-length-5 c = search needs
 
 returns : tie.Need-returns
-returns c = search needs
+returns c =
+    let done = c .before .before .before .before .before .before .before .before .before .before in
+    let start = done .before .before .before .before .before .before .before .before .before .before .before .before .before .before .before .before in
+    let a = start .args in
+    let p = start .pre in
+    let own = absolute-names (a .s .now) (a .path) (a .sender .domain) (p .2 .path) (done .before .before .before .before .before .before .before .enum-told .given .1) in
+    λ w l e. handled-as (asked-names _ _ (a .path) (p .2) _ _ (sym own) w _ _) (done .asked .ensures w l e)
 
 same-length-6 : tie.Need-same-length-6
 same-length-6 c = search needs
@@ -62,8 +73,8 @@ node-request-spec =
     tie.close
     (tie.spec
     enum-told
-    slice-aggregate-request-at
-    request-at-requires
+    slice-aggregate-asked
+    asked-requires
     relative-request-requires
     same-length
     same-length-2

@@ -1,7 +1,8 @@
+-- An event's name is for the control domain; what is dropped is on the place that the payload gives.
 use mathlib.Core.Path.{refl, sym}
 use Rattle.payload.specs.Meaning.{placeAt}
+use Rattle.handlers.proofs.Alone.{watches-alone}
 use Rattle.handlers.proofs.Ways.{handled-as, refused-so, same-tables}
-use Rattle.requests.proofs.Alone.{watches-alone}
 use Rattle.requests.proofs.PlaceLaws.{put-within, put-long, put-front, foreign-place, own-place}
 use borrow.Author.Needs.{needs}
 use Rattle.requests.proofs.place.unwatch_place.Statement.{statement}
@@ -18,11 +19,14 @@ with-events-requires c κs = search needs
 
 returns : tie.Need-returns
 returns c =
-    λ w ww events.
-    let b = c .before .before .before .before .before .before .before in
-    let a = b .args in
-    refused-so w _ _ _ events _ _ (foreign-place _ (a .path) (a .c) (b .pre .1 .path) _ _ (c .before .before .before .is-special .ensures) (c .before .before .is-foreign .ensures) w _ (c .before .if1 .taken)) (c .with-events .ensures)
-    (same-tables refl refl (watches-alone w _ (b .pre .0) ww) refl refl)
+    let start = c .before .before .before .before .before .before .before in
+    let a = start .args in
+    let special = c .before .before .before .is-special .ensures in
+    let foreign = c .before .before .is-foreign .ensures in
+    λ w l events.
+    refused-so w _ _ _ events _ _
+    (foreign-place _ (a .path) (a .sender .domain) (start .pre .2 .path) _ (start .pre .0) _ _ special foreign w _ (c .before .if1 .taken))
+    (c .with-events .ensures) (same-tables refl refl (watches-alone w _ (start .pre .1) (l .watches)) refl refl)
 
 slice-aggregate-place-text : tie.Need-slice-aggregate-place-text
 slice-aggregate-place-text c = search needs
@@ -60,13 +64,18 @@ same-length-2 c = search needs
 
 returns-2 : tie.Need-returns-2
 returns-2 c =
-    λ w ww events.
-    let f = c .before .before .before .before .before .before .before .before .before .before .before .before in
-    let b = f .before .before .before .before .before .before in
-    let a = b .args in
-    let t = c .before .before .before .before .before .before .before .before .before .before .place-text in
-    handled-as (own-place _ (a .path) (a .c) (b .pre .1 .path) _ _ (f .before .before .is-special .ensures) (f .before .is-foreign .ensures) w _ (f .if1 .left))
-    (c .before .before .before .before .unwatch .ensures w ww (placeAt (a .c) (a .s .now) (a .path)) (sym (put-front _ _ _ _ (t .ensures) (t .kept .1 .1 .1 .0))) events)
+    let at-unwatch = c .before .before .before .before in
+    let at-text = at-unwatch .before .before .before .before .before .before in
+    let test = at-text .before .before in
+    let start = test .before .before .before .before .before .before in
+    let a = start .args in
+    let it = placeAt (a .sender .domain) (a .s .now) (a .path) in
+    let text = put-front _ _ _ _ (at-text .place-text .ensures) (at-text .place-text .kept .1 .1 .1 .0) in
+    let special = test .before .before .is-special .ensures in
+    let foreign = test .before .is-foreign .ensures in
+    λ w l events.
+    let own = own-place _ (a .path) (a .sender .domain) (start .pre .2 .path) _ (start .pre .0) _ _ special foreign w _ (test .if1 .left) in
+    handled-as own (at-unwatch .unwatch .ensures it (sym text) w l events)
 
 pub unwatch-place-spec : {M : Type 1} → statement M
 unwatch-place-spec =

@@ -1,11 +1,12 @@
+-- An event's name is for the control domain; what is watched is the place that the payload gives.
 use Prim.Native.Nat.{ℕ}
 use mathlib.Core.Option.{Option}
 use mathlib.Core.Path.{refl, sym, ap₂, _∙_}
 use Rattle.payload.specs.Strings.{part}
 use Rattle.rules.specs.Payload.{Place}
 use Rattle.rules.specs.World.{watching}
+use Rattle.handlers.proofs.Alone.{watches-alone}
 use Rattle.handlers.proofs.Ways.{handled-as, refused-so, same-tables}
-use Rattle.requests.proofs.Alone.{watches-alone}
 use Rattle.requests.proofs.PlaceLaws.{put-within, put-long, put-front, stands-so, foreign-place, own-place}
 use borrow.Author.Needs.{needs}
 use Rattle.requests.proofs.place.watch_place.Statement.{statement}
@@ -22,11 +23,14 @@ with-events-requires c κs = search needs
 
 returns : tie.Need-returns
 returns c =
-    λ w ww.
-    let b = c .before .before .before .before .before .before .before .before in
-    let a = b .args in
-    refused-so w _ _ _ _ _ _ (foreign-place _ (a .path) (a .c) (b .pre .2 .path) _ _ (c .before .before .before .is-special .ensures) (c .before .before .is-foreign .ensures) w _ (c .before .if1 .taken)) (c .with-events .ensures)
-    (same-tables refl refl (watches-alone w _ (b .pre .0) ww) refl refl)
+    let start = c .before .before .before .before .before .before .before .before in
+    let a = start .args in
+    let special = c .before .before .before .is-special .ensures in
+    let foreign = c .before .before .is-foreign .ensures in
+    λ w l e.
+    refused-so w _ _ _ _ _ _
+    (foreign-place _ (a .path) (a .sender .domain) (start .pre .3 .path) _ (start .pre .0) _ _ special foreign w _ (c .before .if1 .taken))
+    (c .with-events .ensures) (same-tables refl refl (watches-alone w _ (start .pre .2) (l .watches)) refl refl)
 
 is-relative-requires : tie.Need-is-relative-requires
 is-relative-requires c κs = search needs
@@ -61,11 +65,14 @@ part-watch-end c = search needs
 
 watch-requires : tie.Need-watch-requires
 watch-requires c κs =
-    let t = c .before .before .before .before .before .before .before in
-    let b = t .before .before .before .before .before .before .before .before .before .before in
-    let p = b .pre in
-    let s = stands-so _ (b .args .path) (b .args .c) (p .2 .path) _ _ _ (t .before .before .before .before .before .is-special .ensures) (t .before .before .is-relative .ensures) (put-front _ _ _ _ (t .place-text .ensures) (t .place-text .kept .1 .1 .1 .0)) in
-    (p .0, p .1, s .placed, s .named, c .before .before .before .depth-of .ensures .1, p .4, p .5)
+    let at-text = c .before .before .before .before .before .before .before in
+    let at-special = at-text .before .before .before .before .before in
+    let start = at-special .before .before .before .before .before in
+    let p = start .pre in
+    let text = put-front _ _ _ _ (at-text .place-text .ensures) (at-text .place-text .kept .1 .1 .1 .0) in
+    let s = stands-so _ (start .args .path) (start .args .sender .domain) (p .3 .path) _ _ _ (at-special .is-special .ensures)
+    (at-text .before .before .is-relative .ensures) text in
+    (p .2, p .1, s .placed, s .named, c .before .before .before .depth-of .ensures .1, p .5, p .6)
 
 same-length : tie.Need-same-length
 same-length c = search needs
@@ -78,16 +85,23 @@ same-length-3 c = search needs
 
 returns-2 : tie.Need-returns-2
 returns-2 c =
-    λ w ww.
-    let k = c .before .before .before .before .before .before .before .before .before .before in
-    let t = k .before .before .before .before in
-    let b = t .before .before .before .before .before .before .before .before .before .before in
-    let a = b .args in
-    let h = b .pre .2 .path in
-    let s = stands-so _ (a .path) (a .c) h _ _ _ (t .before .before .before .before .before .is-special .ensures) (t .before .before .is-relative .ensures) (put-front _ _ _ _ (t .place-text .ensures) (t .place-text .kept .1 .1 .1 .0)) in
-    let own = own-place _ (a .path) (a .c) h _ _ (t .before .before .before .before .before .is-special .ensures) (t .before .before .before .before .is-foreign .ensures) w _ (t .before .before .before .if1 .left) in
-    handled-as (own ∙ sym (ap₂ (λ (p : Place) (n : Option ℕ). watching w (a .c) p (part (a .start) (a .end) (a .s .now)) n) (s .place) (k .depth-of .ensures .0)))
-    (c .before .before .before .before .before .before .watch .ensures w ww)
+    let at-watch = c .before .before .before .before .before .before in
+    let at-depth = at-watch .before .before .before .before in
+    let at-text = at-depth .before .before .before .before in
+    let test = at-text .before .before .before in
+    let at-special = test .before .before in
+    let start = at-special .before .before .before .before .before in
+    let a = start .args in
+    let h = start .pre .3 .path in
+    let special = at-special .is-special .ensures in
+    let text = put-front _ _ _ _ (at-text .place-text .ensures) (at-text .place-text .kept .1 .1 .1 .0) in
+    let s = stands-so _ (a .path) (a .sender .domain) h _ _ _ special (at-text .before .before .is-relative .ensures) text in
+    λ w l e.
+    let own = own-place _ (a .path) (a .sender .domain) h _ (start .pre .0) _ _ special (test .before .is-foreign .ensures) w _ (test .if1 .left) in
+    handled-as
+    (own ∙ sym (ap₂ (λ (p : Place) (n : Option ℕ). watching w (a .sender .connection) p (part (a .start) (a .end) (a .s .now)) n) (s .place)
+    (at-depth .depth-of .ensures .0)))
+    (at-watch .watch .ensures w l e)
 
 pub watch-place-spec : {M : Type 1} → statement M
 watch-place-spec =
