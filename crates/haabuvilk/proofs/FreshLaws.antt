@@ -88,7 +88,7 @@ fresh-tables =
 
 pub fresh-done : (t : Tables) {n c w x d : Octets} → sizedTables t ≡ true → n ≡ tableBytes freshTable → c ≡ replicate (length (t .copies)) 0
     → w ≡ replicate (length (t .watches)) 0 → x ≡ replicate (length (t .transactions)) 0 → d ≡ replicate (length (t .domains)) 0
-    → FreshMeets t (refreshed 0 (lent n c w x d))
+    → FreshMeets t (refreshed 0 (tables n c w x d))
 unfolding freshCall callNumber
 fresh-done t z en ec ew ex ed =
     let s = tables-sized t z in

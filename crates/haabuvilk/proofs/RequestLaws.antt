@@ -120,11 +120,6 @@ module _ (t : Tables) (reply events : Octets) (c : Connection) (m : Octets) wher
   handled-only overlong e = absurd (omega arith)
   handled-only noEvent e = absurd (omega arith)
 
-  -- the lent tables are those of the world that they mean
-  pub shown : Shows (allLent (t .nodes) (t .copies) (t .watches) (t .transactions) (t .domains) reply events) (worldOf t)
-  unfolding worldOf
-  shown = record { nodes = refl; copies = refl; watches = refl; transactions = refl; domains = refl }
-
   -- where it is 0: the outcome, in its frame
   pub answered : (type tx : ℕ) (d : Connection) {after : Tables} {told replied recorded : Octets} {r : Outcome} {l : ℕ}
       → callNumber (requestVerdict t reply events c m) ≡ 0 → type ≡ littleEndian m 0 → tx ≡ littleEndian m 8 → d ≡ c
@@ -136,6 +131,11 @@ module _ (t : Tables) (reply events : Octets) (c : Connection) (m : Octets) wher
       let h′ : Handled (outcome (worldOf t) c m) after reply told events recorded r = rw (← y, ← x, ← s, ← payload-part m) h in
       let w = f (outcome (worldOf t) c m .reply) reply (ready e .reply) (h′ .reply) in
       rw (w .0, w .1, h′ .count, h′ .page, h′ .channel, h′ .tables, h′ .events) (sym (handled-only (requestVerdict t reply events c m) e))
+
+-- the lent tables are those of the world that they mean
+pub shown : (t : Tables) (reply events : Octets) → Shows (allLent (t .nodes) (t .copies) (t .watches) (t .transactions) (t .domains) reply events) (worldOf t)
+unfolding worldOf
+shown t reply events = record { nodes = refl; copies = refl; watches = refl; transactions = refl; domains = refl }
 
 -- ── what fits ──
 

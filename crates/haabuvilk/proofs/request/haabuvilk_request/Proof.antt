@@ -1,8 +1,10 @@
+-- The verdict turns away; what is handled is the outcome in its frame.
 use mathlib.Core.Path.{sym, _∙_}
+use mathlib.Core.List.{[]}
 use native.Mathlib.Omega.{arith}
-use Rattle.rules.specs.Call.{Tables}
+use Rattle.rules.specs.Call.{Tables, worldOf}
 use Rattle.replies.specs.Does.{tables}
-use Rattle.haabuvilk.proofs.RequestLaws.{Ready, ready, turned-away, answered, reply-held, records-fit}
+use Rattle.haabuvilk.proofs.RequestLaws.{Ready, ready, turned-away, shown, answered, reply-held, records-fit}
 use borrow.Author.Needs.{needs}
 use Rattle.haabuvilk.proofs.request.haabuvilk_request.Statement.{statement}
 use Rattle.haabuvilk.proofs.request.haabuvilk_request.Tie as tie
@@ -49,29 +51,37 @@ number32-requires c κs = let r = ready-for c in omega arith
 number32-requires-2 : tie.Need-number32-requires-2
 number32-requires-2 c κs = let r = ready-for (c .before) in omega arith
 
+of-requires : tie.Need-of-requires
+of-requires c κs = search needs
+
 sub-handle : tie.Need-sub-handle
-sub-handle c = ready-for (c .before .before .before .before .before .before .before) .header
+sub-handle c = ready-for (c .before .before .before .before .before .before .before .before) .header
 
 part-handle-start : tie.Need-part-handle-start
-part-handle-start c = ready-for (c .before .before .before .before .before .before .before) .header
+part-handle-start c = ready-for (c .before .before .before .before .before .before .before .before) .header
 
 part-handle-end : tie.Need-part-handle-end
 part-handle-end c = search needs
 
 handle-requires : tie.Need-handle-requires
-handle-requires c κs = ready-for (c .before .before .before .before .before .before .before .before .before .before) .served
+handle-requires c κs =
+    let who = c .before .before .before .of .ensures in
+    ready-for (c .before .before .before .before .before .before .before .before .before .before .before) .served _ (who .0) (who .1)
 
 framed-requires : tie.Need-framed-requires
 framed-requires c κs =
     let h = c .before .before .before .before .before .before .before .before .before .before .before .before .before .before .before in
-    let r = ready-for (h .before .before .before .before .before .before .before .before .before .before .before) in
-    (r .header, search needs, reply-held (h .handle .ensures) (r .served .reply) (search needs))
+    let test = h .before .before .before .before .before .before .before .before .before .before .before .before in
+    let r = ready-for test in
+    let t = its-tables (start test) in
+    (r .header, search needs, reply-held (h .handle .ensures (worldOf t) (shown t _ _) []) (r .reply) (search needs))
 
 cast-event-count : tie.Need-cast-event-count
 cast-event-count c =
     let h = c .before .before .before .before .before .before .before .before .before .before .before .before .before .before .before .before .before .before .before in
-    let r = ready-for (h .before .before .before .before .before .before .before .before .before .before .before) in
-    omega (arith, records-fit (h .handle .ensures) (r .served .events) (search needs))
+    let test = h .before .before .before .before .before .before .before .before .before .before .before .before in
+    let t = its-tables (start test) in
+    omega (arith, records-fit (h .handle .ensures (worldOf t) (shown t _ _) []) (ready-for test .events) (search needs))
 
 same-length-8 : tie.Need-same-length-8
 same-length-8 c = search needs
@@ -97,9 +107,12 @@ same-length-14 c = search needs
 returns-2 : tie.Need-returns-2
 returns-2 c =
     let h = c .before .before .before .before .before .before .before .before .before .before .before .before .before .before .before .before .before .before .before in
-    let n = h .before .before .before .before .before .before .before .before .before in
-    let e = n .before .before in
-    answered _ _ _ _ _ _ _ (sym (e .before .verdict .ensures) ∙ e .if1 .left) (n .before .number32 .ensures) (n .number322 .ensures) (h .handle .ensures) (c .before .before .before .framed .ensures)
+    let who = h .before .before .before .before in
+    let n = h .before .before .before .before .before .before .before .before .before .before in
+    let test = n .before .before in
+    let t = its-tables (start test) in
+    answered _ _ _ _ _ _ _ _ (sym (test .before .verdict .ensures) ∙ test .if1 .left) (n .before .number32 .ensures) (n .number322 .ensures)
+    (who .of .ensures .0) (h .handle .ensures (worldOf t) (shown t _ _) []) (c .before .before .before .framed .ensures)
 
 pub haabuvilk-request-spec : {M : Type 1} → statement M
 haabuvilk-request-spec =
@@ -116,6 +129,7 @@ haabuvilk-request-spec =
     returns
     number32-requires
     number32-requires-2
+    of-requires
     sub-handle
     part-handle-start
     part-handle-end
