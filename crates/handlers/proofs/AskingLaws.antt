@@ -128,26 +128,26 @@ module _ (d : Domain) (a : P.Ask) (path copied t t′ reply reply′ : Octets) (
 -- ── in a transaction ──
 
 module _ (w : World) (k : ℕ) (x : Transaction) (a : A.Answer) where
-  pub inside-still : a .change ≡ none → W.inside w k x a ≡ to w (a .reply) w []
-  unfolding W.inside left to
-  inside-still e = rw e refl
+  pub in-transaction-still : a .change ≡ none → W.inTransaction w k x a ≡ to w (a .reply) w []
+  unfolding W.inTransaction left to
+  in-transaction-still e = rw e refl
 
-  pub inside-ninth : (c : Change) → a .change ≡ some c → mostChanges ≤ length (x .changes) → W.inside w k x a ≡ to w (refused ENOSPC) w []
-  unfolding W.inside left to
-  inside-ninth c e h = rw (e, le-ltb (length (x .changes)) mostChanges h) refl
+  pub in-transaction-ninth : (c : Change) → a .change ≡ some c → mostChanges ≤ length (x .changes) → W.inTransaction w k x a ≡ to w (refused ENOSPC) w []
+  unfolding W.inTransaction left to
+  in-transaction-ninth c e h = rw (e, le-ltb (length (x .changes)) mostChanges h) refl
 
-  pub inside-done : (c : Change) → a .change ≡ some c → length (x .changes) < mostChanges → W.inside w k x a
+  pub in-transaction-done : (c : Change) → a .change ≡ some c → length (x .changes) < mostChanges → W.inTransaction w k x a
       ≡ to w (a .reply)
       (withTransactions (withCopy w k (a .table)) (set (w .transactions) k (some (withChange x c)))) []
-  unfolding W.inside
-  inside-done c e h = rw (e, lt-ltb (length (x .changes)) mostChanges h) refl
+  unfolding W.inTransaction
+  in-transaction-done c e h = rw (e, lt-ltb (length (x .changes)) mostChanges h) refl
 
-  pub inside-full : mostChanges ≤ length (x .changes) → W.inside w k x a ≡ to w (ninthReply a) w []
-  inside-full h = go (a .change) refl
+  pub in-transaction-full : mostChanges ≤ length (x .changes) → W.inTransaction w k x a ≡ to w (ninthReply a) w []
+  in-transaction-full h = go (a .change) refl
     where
-      go : (m : Option Change) → a .change ≡ m → W.inside w k x a ≡ to w (ninthReply a) w []
-      go none e = inside-still e ∙ ap (λ (r : A.Reply). to w r w []) (sym (still-reply a e))
-      go (some c) e = inside-ninth c e h ∙ ap (λ (r : A.Reply). to w r w []) (sym (ninth-reply a c e))
+      go : (m : Option Change) → a .change ≡ m → W.inTransaction w k x a ≡ to w (ninthReply a) w []
+      go none e = in-transaction-still e ∙ ap (λ (r : A.Reply). to w r w []) (sym (still-reply a e))
+      go (some c) e = in-transaction-ninth c e h ∙ ap (λ (r : A.Reply). to w r w []) (sym (ninth-reply a c e))
 
 module _ (cs xs : Octets) (k : ℕ) (reply : Octets) (s : InCopy cs xs k reply) (w : World)
     (cw : w .copies ≡ chunks mostTransactions tableSize cs) (xw : w .transactions ≡ transactionsOf xs) where
@@ -155,10 +155,10 @@ module _ (cs xs : Octets) (k : ℕ) (reply : Octets) (s : InCopy cs xs k reply) 
   pub full-handled : (a : N.Table → A.Answer) → mostChanges ≤ length (transactionOf xs k .changes) → (events reply′ : Octets) (o : Outcome) →
       Told (ninthReply (a (tableOf (take (k * tableSize + tableSize - k * tableSize) (drop (k * tableSize) cs))))) (o .reply) reply reply′ →
       o ≡ outcomeOf (o .reply) 0 →
-      Handled (W.inside w k (transactionOf xs k) (a (copyOf w k))) (tables (itsNodes w) cs (itsWatches w) xs (itsDomains w)) reply reply′ events events o
+      Handled (W.inTransaction w k (transactionOf xs k) (a (copyOf w k))) (tables (itsNodes w) cs (itsWatches w) xs (itsDomains w)) reply reply′ events events o
   full-handled a many events reply′ o t p =
       let here = ap tableOf (copy-part cs k) ∙ sym (copy-of w cs k cw (s .place .below)) in
-      done-so w _ reply o events (ninthReply (a (copyOf w k))) w reply′ (o .reply) _ (inside-full w k (transactionOf xs k) (a (copyOf w k)) many) p
+      done-so w _ reply o events (ninthReply (a (copyOf w k))) w reply′ (o .reply) _ (in-transaction-full w k (transactionOf xs k) (a (copyOf w k)) many) p
       (subst (λ (y : N.Table). Told (ninthReply (a y)) (o .reply) reply reply′) here t)
       (same-tables refl (copies-alone w cs (s .whole) cw) refl (transactions-alone w xs (s .place .kept) xw) refl)
 
@@ -190,27 +190,27 @@ module _ {d : Domain} {ask : Ask} {path v : Octets} (q : Asking d ask path v) wh
           subst (λ (y : N.Table). Answers (namesIn path) (answer d (askMeant v ask) (namesIn path) y) t′ reply reply′ r) copied told
 
       pub nothing-handled : r .effect ≡ Nothing → o ≡ outcomeOf (r .reply) 0 →
-          Handled (W.inside w k (transactionOf xs k) z) (tables (itsNodes w) cs′ (itsWatches w) xs (itsDomains w)) reply reply′ events events o
+          Handled (W.inTransaction w k (transactionOf xs k) z) (tables (itsNodes w) cs′ (itsWatches w) xs (itsDomains w)) reply reply′ events events o
       nothing-handled e p =
           let f : z .change ≡ none = sym (answered .change) ∙ ap (λ (y : Effect). effectMeant y (namesIn path)) e in
           let still = table-still d (namesIn path) (copyOf w k) (askMeant v ask) f in
           let u : t′ ≡ copyIn cs k =
           answered .table ∙ ap tableBytes (still ∙ copy-of w cs k cw (s .place .below)) ∙ sound-canonical (copyIn cs k) (s .sound) .kept in
           let own = paste-own (k * tableSize) tableSize cs (omega (arith, s .whole, s .place .below)) in
-          done-so w _ reply o events (z .reply) w reply′ (r .reply) _ (inside-still w k _ z f) p (answered .reply)
+          done-so w _ reply o events (z .reply) w reply′ (r .reply) _ (in-transaction-still w k _ z f) p (answered .reply)
           (same-tables refl
           (part-put cs t′ k long ∙ ap (λ (y : Octets). paste (k * tableSize) y cs) u ∙ own ∙ copies-alone w cs (s .whole) cw) refl
           (transactions-alone w xs (s .place .kept) xw) refl)
 
       pub change-handled : (removed : Bool) → r .effect ≡ madeBy removed → length (transactionOf xs k .changes) < mostChanges → (xs′ : Octets) →
           xs′ ≡ transactionsBytes (set (transactionsOf xs) k (some (changedBy (transactionOf xs k) removed path))) → o ≡ outcomeOf (r .reply) 0 →
-          Handled (W.inside w k (transactionOf xs k) z) (tables (itsNodes w) cs′ (itsWatches w) xs′ (itsDomains w)) reply reply′ events events o
+          Handled (W.inTransaction w k (transactionOf xs k) z) (tables (itsNodes w) cs′ (itsWatches w) xs′ (itsDomains w)) reply reply′ events events o
       unfolding changedBy
       change-handled removed e few xs′ b p =
           let c = changeGiven removed path in
           let made = sym (answered .change) ∙ change-made removed path (r .effect) e in
           let put = copy-put cs k t′ cs′ (s .whole) long (s .place .below) (part-put cs t′ k long) in
-          done-so w _ reply o events (z .reply) _ reply′ (r .reply) _ (inside-done w k (transactionOf xs k) z c made few) p (answered .reply)
+          done-so w _ reply o events (z .reply) _ reply′ (r .reply) _ (in-transaction-done w k (transactionOf xs k) z c made few) p (answered .reply)
           (same-tables refl
           (put ∙ ap₂ (λ (y : List Octets) (u : Octets). flatMap whole (set y k u)) (sym cw) (answered .table)) refl
           (b ∙ ap (λ (y : Transactions). transactionsBytes (set y k (some (changedBy (transactionOf xs k) removed path)))) (sym xw)) refl)

@@ -43,14 +43,14 @@ pub recorded-first : (rs : List Record) (before after : Octets) (n : ℕ) → Ev
 recorded-first rs before after n h = (h .bytes, h .count ∙ zero-add (length rs))
 
 module _ (w : World) (a : A.Answer) where
-  pub plain-still : a .change ≡ none → W.plainly w a ≡ to w (a .reply) w []
-  unfolding W.plainly left to
+  pub plain-still : a .change ≡ none → W.onStore w a ≡ to w (a .reply) w []
+  unfolding W.onStore left to
   plain-still e = rw e refl
 
-  pub plain-done : (c : Change) → a .change ≡ some c → W.plainly w a
+  pub plain-done : (c : Change) → a .change ≡ some c → W.onStore w a
       ≡ to w (a .reply) (withTransactions (withNodes w (a .table)) (staled (w .transactions)))
       (heardChange (w .nodes) (a .table) (w .watches) c)
-  unfolding W.plainly to heard flatMap staledIf isEmpty
+  unfolding W.onStore to heard flatMap staledIf isEmpty
   plain-done c e =
       rw e
       (ap (λ (rs : List Record). to w (a .reply) (withTransactions (withNodes w (a .table)) (staled (w .transactions))) rs)
@@ -91,7 +91,7 @@ module _ {d : Domain} {ask : Ask} {path v : Octets} (q : Asking d ask path v) (t
     answered = subst (λ (y : Table). Answers (namesIn path) (answer d (askMeant v ask) (namesIn path) y) t′ reply reply′ r) (sym nw) told
 
     pub nothing-done : r .effect ≡ Nothing → o ≡ outcomeOf (r .reply) 0 →
-        Handled (W.plainly w z) (tables t′ (itsCopies w) (itsWatches w) xs (itsDomains w)) reply reply′ events events o
+        Handled (W.onStore w z) (tables t′ (itsCopies w) (itsWatches w) xs (itsDomains w)) reply reply′ events events o
     nothing-done e p =
         let k : z .change ≡ none = sym (answered .change) ∙ ap (λ (y : Effect). effectMeant y (namesIn path)) e in
         let still = table-still d (namesIn path) (w .nodes) (askMeant v ask) k in
@@ -101,7 +101,7 @@ module _ {d : Domain} {ask : Ask} {path v : Octets} (q : Asking d ask path v) (t
     pub change-done : (m : ℕ) → Hearing ask (tableOf t) (watchesOf ws) path m → (removed : Bool) → r .effect ≡ madeBy removed → (xs′ events′ : Octets) →
         ((before : Table) → Mask (maskOf (hears before before (changeGiven removed path)) (watchesOf ws)) m →
         Changed before t′ ws xs (changeGiven removed path) (r .reply) events xs′ events′ o) →
-        Handled (W.plainly w z) (tables t′ (itsCopies w) (itsWatches w) xs′ (itsDomains w)) reply reply′ events events′ o
+        Handled (W.onStore w z) (tables t′ (itsCopies w) (itsWatches w) xs′ (itsDomains w)) reply reply′ events events′ o
     unfolding changeGiven
     change-done m k removed x xs′ events′ f =
         let c = changeGiven removed path in

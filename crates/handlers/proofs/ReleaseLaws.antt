@@ -8,7 +8,7 @@ use lib.Dec.{eqb, eqb·suc-zero}
 use lib.ListN.{length, take, length-map, length-take}
 use lib.Seq.{length-take-le}
 use Rattle.rules.specs.Size.{lastDomain, slots, mostRecords, eventsSize, recordSize}
-use Rattle.rules.proofs.Senders.{own-number}
+use Rattle.rules.proofs.Senders.{speaks-own}
 use Rattle.rules.specs.Octets.{Octets}
 use Rattle.rules.specs.Entries.{isEmpty, without}
 use Rattle.rules.specs.Domain.{Domain}
@@ -156,11 +156,6 @@ module _ (nodes ws xs ds events : Octets) (s : Releasable nodes ws xs ds events)
             }
 
 -- ── the request ──
-
--- a domain that can be released has the connection of its own number, and no other
-speaks-own : (d : Domain) → 1 ≤ d → d ≤ lastDomain → speaksFor d ≡ eqb d
-unfolding speaksFor
-speaks-own d low high = λ i c. eqb d (own-number c i)
 
 module _ (w : World) (d : Domain) (ds : Domains) (here : w .domains ≡ ds) where
   pub release-unknown : introduced d ds ≡ false → releasing w d ≡ left w (refused ENOENT)

@@ -91,7 +91,7 @@ pub fn on_store(
     ensures { λ r. ⌜ Does
         (lent (some (now (nodes .entry))) none (some (now (watches .entry))) (some (now (transactions .entry))) none (now (reply .entry))
         (some (now (events .entry))))
-        (λ (w : World). W.plainly w (answer domain (askMeant (now (s .entry)) ask) (namesIn (now (path .entry))) (w .nodes)))
+        (λ (w : World). W.onStore w (answer domain (askMeant (now (s .entry)) ask) (namesIn (now (path .entry))) (w .nodes)))
         (lent (some (now (nodes .exit))) none none (some (now (transactions .exit))) none (now (reply .exit)) (some (now (events .exit)))) r ⌝ }
 {
     let heard = hearing(ask, nodes, watches, path);
@@ -156,7 +156,7 @@ pub fn in_transaction(
     requires { ⌜ InCopy (now copies) (now transactions) k (now reply) × Asking domain ask (now path) (now s) ⌝ }
     ensures { λ r. ⌜ Does
         (lent none (some (now (copies .entry))) none (some (now (transactions .entry))) none (now (reply .entry)) none)
-        (λ (w : World). W.inside w k (transactionOf (now (transactions .entry)) k)
+        (λ (w : World). W.inTransaction w k (transactionOf (now (transactions .entry)) k)
         (answer domain (askMeant (now (s .entry)) ask) (namesIn (now (path .entry))) (copyOf w k)))
         (lent none (some (now (copies .exit))) none (some (now (transactions .exit))) none (now (reply .exit)) none) r ⌝ }
 {

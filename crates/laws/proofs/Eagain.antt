@@ -16,11 +16,13 @@ use Rattle.rules.specs.Entries.{isEmpty, lowest}
 use Rattle.rules.specs.Path.{Connection}
 use Rattle.rules.specs.Payload.{start, request}
 use Rattle.rules.specs.Answer.{EAGAIN, Reply, done, refused, OK}
-use Rattle.rules.specs.Layout.{Transaction, tableBytes}
-use Rattle.rules.specs.World.{World, Outcome, freshWorld, left, to, transactionOf, starting, closing, committing, ending, handle}
+use Rattle.rules.specs.Layout.{Transaction, opened}
+use Rattle.rules.specs.World.{World, Outcome, freshWorld, left, to, transactionOf, starting, closing, committing, ending, handle, withCopy, withTransactions}
 use Rattle.rules.specs.Call.{txOf, outcomeOf}
 use Rattle.laws.specs.History.{Call, History, requestOf, served, after, run, changes, anyChange, transactionAt, isOpen, staysOpen}
-use Rattle.laws.specs.Eagain.{Opens, Commits, EagainExactly, UndisturbedCommits, ChangedAndBackCounts, StartAnswersItsNumber, RecordedExactly, Started, OpenSinceStart}
+use Rattle.laws.specs.Eagain.{
+  Opens, Commits, EagainExactly, UndisturbedCommits, ChangedAndBackCounts, StartAnswersItsNumber, RecordedExactly, Started, OpenSinceStart,
+}
 use Rattle.rules.proofs.Places.{some-is, none-at, at-set}
 use Rattle.rules.proofs.Cases.{cond-case}
 use Rattle.laws.proofs.Step.{recorded-is, opensAs, opens-start}
@@ -32,7 +34,7 @@ use Rattle.laws.proofs.Calls.{served-is, effectOf, call-kept, open-at, 
 abbrev Begun : World → Connection → ℕ → Outcome → Type 0
 Begun w c k o =
     isOpen w k ≡ false → isOpen (o .world) k ≡ true
-    → (transactionAt (o .world) k ≡ some (record { holder = c; stale = false; changes = [] })) × (o .reply ≡ done (decimal (suc k) ++ nul))
+    → (transactionAt (o .world) k ≡ some (opened c)) × (o .reply ≡ done (decimal (suc k) ++ nul))
 
 started : (w : World) (c : Connection) (k : ℕ) → Begun w c k (starting w c)
 unfolding starting left to transactionAt
@@ -43,13 +45,7 @@ started w c k =
     o : Outcome
     o =
         to w (done (decimal (suc (lowest (w .transactions))) ++ nul))
-        (record {
-          nodes = w .nodes;
-          copies = set (w .copies) (lowest (w .transactions)) (tableBytes (w .nodes));
-          watches = w .watches;
-          transactions = set (w .transactions) (lowest (w .transactions)) (some (record { holder = c; stale = false; changes = [] }));
-          domains = w .domains;
-        })
+        (withTransactions (withCopy w (lowest (w .transactions)) (w .nodes)) (set (w .transactions) (lowest (w .transactions)) (some (opened c))))
         []
 
     go : Dec (k ≡ lowest (w .transactions)) → Begun w c k o
@@ -66,9 +62,9 @@ unfolding outcomeOf handle
 starting-is w c o r e = rw (r, outcomeOf) at (served-is w c o e)
 
 -- a call that opens transaction k was served
-opened : (w : World) (k : ℕ) (c : Call) → Opens w k c → (o : Outcome) × (served w c ≡ some o) × (after w c ≡ o .world)
+opening : (w : World) (k : ℕ) (c : Call) → Opens w k c → (o : Outcome) × (served w c ≡ some o) × (after w c ≡ o .world)
 unfolding after
-opened w k c a = go (served w c) refl (a .closed) (a .opened)
+opening w k c a = go (served w c) refl (a .closed) (a .opened)
   where
     go : (m : Option Outcome) → served w c ≡ m → isOpen w k ≡ false → isOpen (elim m [ none ↦ w | some o ↦ o .world ]) k ≡ true
         → (o : Outcome) × (served w c ≡ some o) × ((elim (served w c) as (λ m. World) [ none ↦ w | some o ↦ o .world ]) ≡ o .world)
@@ -101,11 +97,12 @@ ending-is w k first last o b = rw (b .asked, b .number, b .sender, outcomeOf) at
 
 -- a transaction since its START
 abbrev entry : Call → Transaction
-entry first = record { holder = first .sender; stale = false; changes = [] }
+entry first = opened (first .sender)
 
-since-start : (w : World) (k : ℕ) (first : Call) (cs : History) → Opens w k first → staysOpen (after w first) k cs ≡ true → RunKept (after w first) k cs (entry first)
+since-start : (w : World) (k : ℕ) (first : Call) (cs : History) → Opens w k first → staysOpen (after w first) k cs ≡ true →
+    RunKept (after w first) k cs (entry first)
 since-start w k first cs a s =
-    let f = opened w k first a in
+    let f = opening w k first a in
     let x = begun w k first (f .0) a (f .1) (a .closed) (rw (f .2) at (a .opened)) .0 in
     run-kept (after w first) k cs (entry first) (rw (f .2) x) s
 
@@ -115,7 +112,8 @@ commit-reply : (w : World) (k : ℕ) (first last : Call) (cs : History) (o : Out
     → o .reply ≡ cond (anyChange (after w first) cs) (refused EAGAIN) OK
 commit-reply w k first last cs o a s b =
     let y = since-start w k first cs a s in
-    ap Outcome.reply (sym (ending-is _ k first last o b)) ∙ (ended _ (first .sender) k (y .left) (y .there) (sym (y .holder)) ∙ ap (λ b. cond b (refused EAGAIN) OK) (y .stale))
+    ap Outcome.reply (sym (ending-is _ k first last o b)) ∙ (ended _ (first .sender) k (y .left) (y .there) (sym (y .holder))
+    ∙ ap (λ b. cond b (refused EAGAIN) OK) (y .stale))
 
 is-EAGAIN : (b : Bool) (r : Reply) → r ≡ cond b (refused EAGAIN) OK → (r ≡ refused EAGAIN) ↔ (b ≡ true)
 unfolding OK
@@ -140,7 +138,7 @@ changed-and-back-counts w k first last change before later o a s b e =
 
 pub start-answers-its-number : StartAnswersItsNumber
 start-answers-its-number w k c o a e =
-    let f = opened w k c a in
+    let f = opening w k c a in
     begun w k c o a e (a .closed) (rw (f .2 ∙ ap Outcome.world (some-is (sym (f .1) ∙ e))) at (a .opened)) .1
 
 -- ── what a commit changes ──
@@ -172,7 +170,8 @@ unfolding run staysOpen
 open-cases P w k [] e stayed begun = stayed e refl
 open-cases P w k (c ∷ cs) e stayed begun =
     open-cases P (after w c) k cs e (go (isOpen w k) refl)
-    (λ s. begun (record { before = c ∷ s .before; first = s .first; later = s .later; parts = ap (λ cs. c ∷ cs) (s .parts); opens = s .opens; stays = s .stays }))
+    (λ s. begun (record { before = c ∷ s .before; first = s .first; later = s .later; parts = ap (λ cs. c ∷ cs) (s .parts); opens = s .opens;
+    stays = s .stays }))
   where
     go : (b : Bool) → isOpen w k ≡ b → isOpen (after w c) k ≡ true → staysOpen (after w c) k cs ≡ true → P
     go true p o s = stayed p (and-eq-true-iff _ _ .1 (o, s))
@@ -180,4 +179,5 @@ open-cases P w k (c ∷ cs) e stayed begun =
 
 pub open-since-start : OpenSinceStart
 unfolding isOpen transactionAt freshWorld
-open-since-start cs k e = open-cases (Started freshWorld k cs) freshWorld k cs e (λ o s. absurd (false≢true (sym (rw (none-at mostTransactions k)) ∙ o))) (λ s. s)
+open-since-start cs k e = open-cases (Started freshWorld k cs) freshWorld k cs e (λ o s. absurd (false≢true (sym (rw (none-at mostTransactions k)) ∙ o)))
+    (λ s. s)

@@ -60,7 +60,8 @@ part-all [] u g z j n e = e
 part-all (i ∷ is) u g z j n e = part-removed u g i j n (part-all is (removed u i) (removed-good u g i (z .0)) (z .1) j n e)
 
 -- a node that is left lies within none of the removed ones
-outside : (is : List ℕ) (t u : Table) → Good u → Part u t → Each NotRoot is → (j : ℕ) (n : Node) → At (withoutAll u is) j n → Each (λ (i : ℕ). within deepest t i j ≡ false) is
+outside : (is : List ℕ) (t u : Table) → Good u → Part u t → Each NotRoot is → (j : ℕ) (n : Node) → At (withoutAll u is) j n →
+    Each (λ (i : ℕ). within deepest t i j ≡ false) is
 unfolding withoutAll
 outside [] t u g p z j n e = tt
 outside (i ∷ is) t u g p z j n e =
@@ -96,7 +97,8 @@ within-here zero t i = eq-eqb i i refl
 within-here (suc k) t i = rw (eq-eqb i i refl)
 
 -- by cases: slot j is slot i, or its parent lies within it
-within-split : (P : Type 0) (k : ℕ) (t : Table) (i j : ℕ) → within (suc k) t i j ≡ true → (i ≡ j → P) → (NotRoot j → within k t i (nodeAt t j .parent) ≡ true → P) → P
+within-split : (P : Type 0) (k : ℕ) (t : Table) (i j : ℕ) → within (suc k) t i j ≡ true → (i ≡ j → P) →
+    (NotRoot j → within k t i (nodeAt t j .parent) ≡ true → P) → P
 unfolding within
 within-split P k t i j h here up = go (eqb i j) refl (eqb j 0) refl h
   where
@@ -113,7 +115,8 @@ within-grows : (k : ℕ) (t : Table) (i j : ℕ) → within k t i j ≡ true →
 unfolding within
 within-grows zero t i j h = rw h
 within-grows (suc k) t i j h =
-    within-split (within (suc (suc k)) t i j ≡ true) k t i j h (λ e. rw e (within-here (suc (suc k)) t j)) (λ z q. within-parent (suc k) t i j z (within-grows k t i (nodeAt t j .parent) q))
+    within-split (within (suc (suc k)) t i j ≡ true) k t i j h (λ e. rw e (within-here (suc (suc k)) t j))
+    (λ z q. within-parent (suc k) t i j z (within-grows k t i (nodeAt t j .parent) q))
 
 within-far : (m k : ℕ) (t : Table) (i j : ℕ) → within k t i j ≡ true → within (m + k) t i j ≡ true
 within-far zero k t i j h = rw zero-add h
@@ -149,7 +152,8 @@ each-insert Q t j (k ∷ ks) e = go (less (nodeAt t j .name) (nodeAt t k .name))
     go false e f = let r = f (e .1) in (r .0, (e .0, r .1))
 
 -- what holds of each child holds of a used slot with that parent
-each-child : (Q : ℕ → Type 0) (t : Table) (p i : ℕ) (ss : Table) → Each Q (childrenFrom t p i ss) → (j : ℕ) (n : Node) → At ss j n → n .parent ≡ p → NotRoot (i + j) → Q (i + j)
+each-child : (Q : ℕ → Type 0) (t : Table) (p i : ℕ) (ss : Table) → Each Q (childrenFrom t p i ss) → (j : ℕ) (n : Node) → At ss j n → n .parent ≡ p →
+    NotRoot (i + j) → Q (i + j)
 unfolding childrenFrom hasParent
 each-child Q t p i [] e j n x h z = absurd (nothing x)
 each-child Q t p i (s ∷ ss) e zero n x h z = rw add-zero (here (rw add-zero at z))
@@ -185,12 +189,14 @@ caught (suc k) t d m a j n e h b l s w = go (eqb (nodeAt t a .owner .domain) d) 
     P : ℕ → Type 0
     P i = within deepest t i j ≡ false
 
-    next : {m : ℕ} (a : ℕ) → Below t m a j → m < suc k → m ≤ deepest → eqb (nodeAt t a .owner .domain) d ≡ false → Each P (flatMap (ownedBelow k t d) (childrenFrom t a 0 t))
+    next : {m : ℕ} (a : ℕ) → Below t m a j → m < suc k → m ≤ deepest → eqb (nodeAt t a .owner .domain) d ≡ false →
+        Each P (flatMap (ownedBelow k t d) (childrenFrom t a 0 t))
         → ((m b : ℕ) → Below t m b j → m < k → m ≤ deepest → Each P (ownedBelow k t d b) → ⊥) → ⊥
     next a (itself i) l s o w f = eqb-false _ _ o (ap (λ (x : Node). x .owner .domain) (nodeAt-is t j n e) ∙ h)
     next a (deeper {k = m} x b y u v p z q) l s o w f =
         f m b q (omega arith) (omega arith)
-        (rw zero-add at (each-child (λ (i : ℕ). Each P (ownedBelow k t d i)) t x 0 t (each-flat P (ownedBelow k t d) (childrenFrom t x 0 t) w) b u v p (rw zero-add z)))
+        (rw zero-add at (each-child (λ (i : ℕ). Each P (ownedBelow k t d i)) t x 0 t (each-flat P (ownedBelow k t d) (childrenFrom t x 0 t) w) b u v p
+        (rw zero-add z)))
 
     go : (b : Bool) → eqb (nodeAt t a .owner .domain) d ≡ b → Each P (cond b (a ∷ []) (flatMap (ownedBelow k t d) (childrenFrom t a 0 t)))
         → ((m b : ℕ) → Below t m b j → m < k → m ≤ deepest → Each P (ownedBelow k t d b) → ⊥) → ⊥
@@ -231,11 +237,13 @@ unfolding isEvent
 is-event v h = rw (h, isEvent) (same-refl releaseName)
 
 -- a watch on the event's name is told of domain d
-told-of : (d : Domain) (ws : Watches) (i : ℕ) (v : Watch) (rs : List Record) → At ws i v → v .place ≡ event releaseName → Hears d i (rs ++ heardOf releaseName d ws)
+told-of : (d : Domain) (ws : Watches) (i : ℕ) (v : Watch) (rs : List Record) → At ws i v → v .place ≡ event releaseName →
+    Hears d i (rs ++ heardOf releaseName d ws)
 unfolding heardOf kept
 told-of d ws i v rs e h =
     let m = mask-at (isEvent releaseName) ws i v e (is-event v h) in
-    record { told = record { mask = maskOf (isEvent releaseName) ws; path = 47 ∷ decimal d }; among = Memᴰ·append-right rs (rw (any-bit _ i m) (List·Memᴰ·head refl)); path = refl; marked = m }
+    record { told = record { mask = maskOf (isEvent releaseName) ws; path = 47 ∷ decimal d };
+        among = Memᴰ·append-right rs (rw (any-bit _ i m) (List·Memᴰ·head refl)); path = refl; marked = m }
 
 -- ── a RELEASE ──
 
@@ -281,7 +289,8 @@ released-gone w d s l =
     held x = eqb d (domainOf (x .holder))
 
     other : (v : Watch) → goodPlace (v .owner) (v .depth) (v .place) ≡ true → v .place ≡ event releaseName → theirs v ≡ false
-    other v g h = ne-eqb d (domainOf (v .owner)) λ e. let z : domainOf (v .owner) ≡ 0 = event-owner (v .owner) (v .depth) (v .place) releaseName g h in omega arith
+    other v g h = ne-eqb d (domainOf (v .owner)) λ e. let z : domainOf (v .owner)
+        ≡ 0 = event-owner (v .owner) (v .depth) (v .place) releaseName g h in omega arith
 
 pub gone-is-gone : GoneIsGone
 unfolding outcomeOf handle forControl

@@ -46,7 +46,8 @@ along t u g k [] i = refl
 along t u g k (n ∷ ns) i = go (child t i n) refl (along t u g k ns)
   where
     go : (m : Option ℕ) → child t i n ≡ m → ((j : ℕ) → reachFrom ns u j ≡ reachFrom (reachFrom ns t j .left) u (reachFrom ns t j .slot))
-        → let r = elim m as (λ m. Reached) [ none ↦ record { slot = i; left = n ∷ ns } | some j ↦ reachFrom ns t j ] in reachFrom (n ∷ ns) u i ≡ reachFrom (r .left) u (r .slot)
+        → let r = elim m as (λ m. Reached) [ none ↦ record { slot = i; left = n ∷ ns } | some j ↦ reachFrom ns t j ] in reachFrom (n ∷ ns) u i
+        ≡ reachFrom (r .left) u (r .slot)
     go none x f = refl
     go (some j) x f =
         let c = child-some t i n j x in
@@ -61,7 +62,8 @@ unfolding made
 made-keeps [] p d v t j n e = e
 made-keeps (name ∷ ns) p d v t j n e =
     made-keeps ns (lowest t) d v (set t (lowest t) (some (newNode d t p name (lastValue ns v)))) j n
-    (getD-set-other t (lowest t) j (some (newNode d t p name (lastValue ns v))) none (λ r. nothing (sym (lowest-free t) ∙ (ap (λ (m : ℕ). getD t m none) (sym r) ∙ e))) ∙ e)
+    (getD-set-other t (lowest t) j (some (newNode d t p name (lastValue ns v))) none
+    (λ r. nothing (sym (lowest-free t) ∙ (ap (λ (m : ℕ). getD t m none) (sym r) ∙ e))) ∙ e)
 
 -- the names lead from slot p to a slot with the value
 record End (u : Table) (ns : Names) (p : ℕ) (v : Octets) : Type 0 where
@@ -110,13 +112,15 @@ module _ (d : Domain) (ns : Names) (t : Table) (v : Octets) where
   abbrev There : Answer → Type 0
   There a = Good (a .table) → succeeds (a .reply) ≡ true → End (a .table) ns 0 v
 
-  created-there : (name : Name) (rest : Names) (i : ℕ) → reach t ns ≡ record { slot = i; left = name ∷ rest } → There (created d ns t (record { slot = i; left = name ∷ rest }) v)
+  created-there : (name : Name) (rest : Names) (i : ℕ) → reach t ns ≡ record { slot = i; left = name ∷ rest } →
+      There (created d ns t (record { slot = i; left = name ∷ rest }) v)
   unfolding created changed unchanged succeeds
   created-there name rest i e =
       cond-case There (mayWrite d (nodeAt t i)) _ _
       (cond-known There (room d ns t (name ∷ rest) v) _ _
       (λ h g s.
-      on-from (made (name ∷ rest) i d v t) (name ∷ rest) i g (λ j n a. (n, made-keeps (name ∷ rest) i d v t j n a, refl, refl)) e (made-there rest name i d v t (roomy d ns t (name ∷ rest) v h .2) g))
+      on-from (made (name ∷ rest) i d v t) (name ∷ rest) i g (λ j n a. (n, made-keeps (name ∷ rest) i d v t j n a, refl, refl)) e
+      (made-there rest name i d v t (roomy d ns t (name ∷ rest) v h .2) g))
       (λ h g s. absurd (false≢true s)))
       (λ g s. absurd (false≢true s))
 
@@ -135,7 +139,8 @@ module _ (d : Domain) (ns : Names) (t : Table) (v : Octets) where
           (m, rw q (getD-set-same t i (some m) none l), mp ∙ ap Node.parent same, mn ∙ ap Node.name same)
       keep m mp mn j n a (no q) = (n, getD-set-other t i j (some m) none q ∙ a, refl, refl)
 
-  written-there : (l : Names) (i : ℕ) → i < length t → reach t ns ≡ record { slot = i; left = l } → There (answered d ns t (write v) (record { slot = i; left = l }))
+  written-there : (l : Names) (i : ℕ) → i < length t → reach t ns ≡ record { slot = i; left = l } →
+      There (answered d ns t (write v) (record { slot = i; left = l }))
   unfolding answered written changed unchanged succeeds
   written-there [] i h e =
       cond-case There (mayWrite d (nodeAt t i)) _ _

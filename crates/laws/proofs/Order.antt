@@ -13,22 +13,33 @@ use Rattle.rules.specs.Octets.{Octets}
 use Rattle.rules.specs.Entries.{isEmpty, lowest}
 use Rattle.rules.specs.Path.{Domain, Connection, domainOf, Names, isControl}
 use Rattle.rules.specs.Node.{Table, ownedBy, withoutAll}
-use Rattle.rules.specs.Payload.{Ask, Place, path, event, Request, ask, watch, unwatch, start, end, introduce, release, domainPath, isIntroduced, reset, Parsed, unknown, invalid, request}
+use Rattle.rules.specs.Payload.{
+  Ask, Place, path, event, Request, ask, watch, unwatch, start, end, introduce, release, domainPath, isIntroduced, reset, Parsed, unknown, invalid,
+  request,
+}
 use Rattle.rules.specs.Call.{txOf, outcomeOf}
 use Rattle.rules.specs.Answer.{EINVAL, ENOSYS, EACCES, EEXIST, ENOENT, ENOSPC, EAGAIN, Reply, refused, OK, Change, Answer, answer}
-use Rattle.rules.specs.Layout.{Transaction, tableBytes, tableOf}
+use Rattle.rules.specs.Layout.{Transaction, tableOf, withChange}
 use Rattle.rules.specs.Sound.{introduced, watched}
 use Rattle.rules.specs.Event.{placeText}
-use Rattle.rules.specs.World.{World, Outcome, freshWorld, staledIf, withoutTransactions, left, to, plainly, transactionOf, inside, copyOf, asked, placeFits, watching, unwatching, starting, closing, committing, ending, introducing, removalOf, releasing, resetting, forControl, forPlace, handle}
+use Rattle.rules.specs.World.{
+  withCopy, withTransactions, World, Outcome, freshWorld, staledIf, withoutTransactions, left, to, onStore, transactionOf, inTransaction, copyOf, asked, placeFits, watching, unwatching,
+  starting, closing, committing, ending, introducing, removalOf, releasing, resetting, forControl, forPlace, handle,
+}
 use Rattle.rules.proofs.Cases.{cond-case, cond-known}
 use Rattle.rules.proofs.Fitting.{AskFits, decoded-fits, answer-fits, withoutAll-fits, fresh-fits}
 use Rattle.laws.specs.History.{Call, History, requestOf, served, after, run, succeeds}
-use Rattle.laws.specs.Order.{Single, node, released, then, replay, Agrees, Logs, isNinth, addedBy, noted, loggedBy, addedAs, loggedAs, added, logged, orderFrom, order, OneOrder}
+use Rattle.laws.specs.Order.{
+  Single, node, released, then, replay, Agrees, Logs, isNinth, addedBy, noted, loggedBy, addedAs, loggedAs, added, logged, orderFrom, order, OneOrder,
+}
 use Rattle.rules.proofs.Places.{nothing, at-below, none-at}
 use Rattle.laws.proofs.Calls.{served-is, served-known, request-good}
 use Rattle.rules.proofs.GoodRequests.{RequestGood, ParsedGood}
 use Rattle.rules.proofs.OpenTransactions.{named}
-use Rattle.laws.proofs.Ordered.{Running, replay-append, agrees-append, keeps, extended, OrderedAt, Turn, fewer-all, fewer-without, fewer-closed, changed-to, with-log, with-copy, with-domains, small-set, small-without, small-known}
+use Rattle.laws.proofs.Ordered.{
+  Running, replay-append, agrees-append, keeps, extended, OrderedAt, Turn, fewer-all, fewer-without, fewer-closed, changed-to, with-log, with-copy,
+  with-domains, small-set, small-without, small-known,
+}
 
 -- ── requests on the world w ──
 
@@ -51,20 +62,21 @@ module _ (w : World) (ls : Logs) (o : OrderedAt w ls) where
   resetting-turn c = record { after = changed-to false (w .nodes) _ o (o .main) (fewer-without _ (w .transactions)) (λ e. refl); table = refl; answers = tt }
 
   -- a node request outside transactions
-  plainly-turn : (d : Domain) (a : Ask) (ns : Names) → d < 65536 → AskFits a
-      → Turn w (node d a ns (plainly w (answer d a ns (w .nodes)) .reply) ∷ []) ls (plainly w (answer d a ns (w .nodes)))
-  unfolding plainly left to replay then staledIf isEmpty
-  plainly-turn d a ns h f = go (answer d a ns (w .nodes) .change) refl
+  on-store-turn : (d : Domain) (a : Ask) (ns : Names) → d < 65536 → AskFits a
+      → Turn w (node d a ns (onStore w (answer d a ns (w .nodes)) .reply) ∷ []) ls (onStore w (answer d a ns (w .nodes)))
+  unfolding onStore left to replay then staledIf isEmpty
+  on-store-turn d a ns h f = go (answer d a ns (w .nodes) .change) refl
     where
       x : Answer
       x = answer d a ns (w .nodes)
 
       go : (m : Option Change) → x .change ≡ m
-          → let y = plainly w (record { reply = x .reply; table = x .table; change = m }) in Turn w (node d a ns (y .reply) ∷ []) ls y
+          → let y = onStore w (record { reply = x .reply; table = x .table; change = m }) in Turn w (node d a ns (y .reply) ∷ []) ls y
       go none e = record { after = o; table = keeps d a ns (w .nodes) e; answers = (refl, tt) }
       go (some c) e =
           record {
-            after = changed-to true (x .table) (w .transactions) o (answer-fits d a ns (w .nodes) h f (o .main)) (fewer-all (w .transactions)) (λ e. absurd (true≢false e));
+            after = changed-to true (x .table) (w .transactions) o (answer-fits d a ns (w .nodes) h f (o .main)) (fewer-all (w .transactions))
+                (λ e. absurd (true≢false e));
             table = refl;
             answers = (refl, tt);
           }
@@ -88,7 +100,8 @@ module _ (w : World) (ls : Logs) (o : OrderedAt w ls) where
       cond-case (λ y. Turn w (cond (succeeds (y .reply)) (released d ∷ []) []) ls y) (introduced d (w .domains)) _ _
       (record {
         after = with-domains _ (small-without (eqb d) (w .domains) (o .domains))
-            (changed-to (not (isEmpty (map (removalOf w) (ownedBy (w .nodes) d)))) _ _ o (withoutAll-fits _ _ (o .main)) (fewer-without _ (w .transactions)) (nothing-owned (removalOf w) (w .nodes) (ownedBy (w .nodes) d)));
+            (changed-to (not (isEmpty (map (removalOf w) (ownedBy (w .nodes) d)))) _ _ o (withoutAll-fits _ _ (o .main)) (fewer-without _ (w .transactions))
+            (nothing-owned (removalOf w) (w .nodes) (ownedBy (w .nodes) d)));
         table = refl;
         answers = (tt, tt);
       })
@@ -120,19 +133,22 @@ module _ (w : World) (ls : Logs) (o : OrderedAt w ls) where
   starting-turn : (c : Connection) → let y = starting w c in Turn w [] (cond (succeeds (y .reply)) (set ls (lowest (w .transactions)) []) ls) y
   unfolding starting to left succeeds replay
   starting-turn c =
-      cond-known (λ y. Turn w [] (cond (succeeds (y .reply)) (set ls (lowest (w .transactions)) []) ls) y) (ltb (lowest (w .transactions)) (length (w .transactions))) _ _
+      cond-known (λ y. Turn w [] (cond (succeeds (y .reply)) (set ls (lowest (w .transactions)) []) ls) y)
+      (ltb (lowest (w .transactions)) (length (w .transactions))) _ _
       (λ h. record {
-        after = with-copy (lowest (w .transactions)) _ (w .nodes) [] o (ltb-true _ _ h) (o .main) (λ e. record { start = w .nodes; unmoved = refl; table = refl; answers = tt; same = λ e. refl });
+        after = with-copy (lowest (w .transactions)) _ (w .nodes) [] o (ltb-true _ _ h) (o .main)
+            (λ e. record { start = w .nodes; unmoved = refl; table = refl; answers = tt; same = λ e. refl });
         table = refl;
         answers = tt;
       })
       (λ h. left-turn (refused ENOSPC))
 
   -- a request in transaction k
-  inside-turn : (c : Connection) (tx : ℕ) (x : Transaction) (a : Ask) (ns : Names) → getD (w .transactions) (tx - 1) none ≡ some x → domainOf c < 65536 → AskFits a
-      → let y = inside w (tx - 1) x (answer (domainOf c) a ns (copyOf w (tx - 1))) in Turn w [] (noted w ls c tx (y .reply) a ns x) y
-  unfolding inside noted isNinth left to replay copyOf isEmpty
-  inside-turn c tx x a ns e h f = go (z .change) refl
+  in-transaction-turn : (c : Connection) (tx : ℕ) (x : Transaction) (a : Ask) (ns : Names) → getD (w .transactions) (tx - 1) none ≡ some x → domainOf c < 65536 →
+      AskFits a
+      → let y = inTransaction w (tx - 1) x (answer (domainOf c) a ns (copyOf w (tx - 1))) in Turn w [] (noted w ls c tx (y .reply) a ns x) y
+  unfolding inTransaction noted isNinth left to replay copyOf isEmpty
+  in-transaction-turn c tx x a ns e h f = go (z .change) refl
     where
       k : ℕ
       k = tx - 1
@@ -155,13 +171,7 @@ module _ (w : World) (ls : Logs) (o : OrderedAt w ls) where
       written : Change → Outcome
       written ch =
           to w (z .reply)
-          (record {
-            nodes = w .nodes;
-            copies = set (w .copies) k (tableBytes (z .table));
-            watches = w .watches;
-            transactions = set (w .transactions) k (some (record { holder = x .holder; stale = x .stale; changes = x .changes ++ (ch ∷ []) }));
-            domains = w .domains;
-          })
+          (withTransactions (withCopy w k (z .table)) (set (w .transactions) k (some (withChange x ch))))
           []
 
       not-empty : (cs : List Change) (ch : Change) → isEmpty (cs ++ (ch ∷ [])) ≡ true → ⊥
@@ -185,7 +195,7 @@ module _ (w : World) (ls : Logs) (o : OrderedAt w ls) where
       room ch false = left-turn (refused ENOSPC)
 
       go : (m : Option Change) → z .change ≡ m
-          → let y = inside w k x (record { reply = z .reply; table = z .table; change = m }) in Turn w [] (cond (isNinth x m) ls (set ls k (log (y .reply)))) y
+          → let y = inTransaction w k x (record { reply = z .reply; table = z .table; change = m }) in Turn w [] (cond (isNinth x m) ls (set ls k (log (y .reply)))) y
       go none p =
           record {
             after = with-log k x (log (z .reply)) o e (at-below (w .transactions) k x e)
@@ -205,14 +215,15 @@ module _ (w : World) (ls : Logs) (o : OrderedAt w ls) where
   asked-turn : (c : Connection) (tx : ℕ) (a : Ask) (ns : Names) → domainOf c < 65536 → AskFits a
       → let y = asked w c tx a ns in Turn w (addedBy w ls c tx (y .reply) (ask a ns)) (loggedBy w ls c tx (y .reply) (ask a ns)) y
   unfolding asked addedBy loggedBy transactionOf
-  asked-turn c zero a ns h f = plainly-turn (domainOf c) a ns h f
+  asked-turn c zero a ns h f = on-store-turn (domainOf c) a ns h f
   asked-turn c (suc k) a ns h f = rw eqb·suc-zero (go (transactionOf w c (suc k)) refl)
     where
       go : (m : Option Transaction) → transactionOf w c (suc k) ≡ m
-          → let y = elim m as (λ m. Outcome) [ none ↦ left w (refused ENOENT) | some x ↦ inside w (suc k - 1) x (answer (domainOf c) a ns (copyOf w (suc k - 1))) ] in
+          → let y = elim m as (λ m. Outcome) [ none ↦ left w (refused ENOENT) | some x ↦ inTransaction w (suc k - 1) x
+          (answer (domainOf c) a ns (copyOf w (suc k - 1))) ] in
           Turn w [] (elim m [ none ↦ ls | some x ↦ noted w ls c (suc k) (y .reply) a ns x ]) y
       go none e = left-turn (refused ENOENT)
-      go (some x) e = inside-turn c (suc k) x a ns (named w (suc k) c x e .0) h f
+      go (some x) e = in-transaction-turn c (suc k) x a ns (named w (suc k) c x e .0) h f
 
   ended-turn : (k : ℕ) (x : Transaction) → getD (w .transactions) k none ≡ some x → (commit stale : Bool) → x .stale ≡ stale
       → let y = cond commit (cond stale (closing w k (refused EAGAIN)) (committing w k x)) (closing w k OK) in
@@ -222,7 +233,8 @@ module _ (w : World) (ls : Logs) (o : OrderedAt w ls) where
   ended-turn k x e true false s = committing-turn k x e s
   ended-turn k x e false stale s = closing-turn k OK
 
-  ending-turn : (c : Connection) (tx : ℕ) (commit : Bool) → let y = ending w c tx commit in Turn w (cond (commit && succeeds (y .reply)) (getD ls (tx - 1) []) []) ls y
+  ending-turn : (c : Connection) (tx : ℕ) (commit : Bool) → let y = ending w c tx commit in Turn w
+      (cond (commit && succeeds (y .reply)) (getD ls (tx - 1) []) []) ls y
   unfolding ending left succeeds
   ending-turn c tx commit = go (transactionOf w c tx) refl
     where
@@ -283,8 +295,10 @@ call-turn w ls c o = go (served w c) refl
         × (replay (w .nodes) ss ≡ v .nodes) × Agrees (w .nodes) ss
     go none e = (o, refl, tt)
     go (some y) e =
-        let t : Turn w (addedAs w ls (c .sender) (txOf (c .message)) (y .reply) (requestOf c)) (loggedAs w ls (c .sender) (txOf (c .message)) (y .reply) (requestOf c)) y
-        = rw (served-is w c y e) at (outcome-turn w ls o (c .sender) (txOf (c .message)) (requestOf c) (small-known (w .domains) _ (o .domains) (served-known w c y e)) (request-good c)) in
+        let t : Turn w (addedAs w ls (c .sender) (txOf (c .message)) (y .reply) (requestOf c))
+        (loggedAs w ls (c .sender) (txOf (c .message)) (y .reply) (requestOf c)) y
+        = rw (served-is w c y e) at (outcome-turn w ls o (c .sender) (txOf (c .message)) (requestOf c)
+        (small-known (w .domains) _ (o .domains) (served-known w c y e)) (request-good c)) in
         (t .after, t .table, t .answers)
 
 -- from any world that is in order

@@ -105,7 +105,8 @@ none-fresh : (xs : Transactions) (k : ℕ) (x : Transaction) → getD (staled xs
 none-fresh xs k x e h = true≢false (sym (getD-staled xs k x e .3) ∙ h)
 
 -- the tables after a change of the main one to t′, or with it as it was
-pub changed-to : {t : Table} {cs : List Octets} {xs : Transactions} {ds : Domains} {ls : Logs} (b : Bool) (t′ : Table) (ys : Transactions) → Ordered t cs xs ds ls
+pub changed-to : {t : Table} {cs : List Octets} {xs : Transactions} {ds : Domains} {ls : Logs} (b : Bool) (t′ : Table) (ys : Transactions) →
+    Ordered t cs xs ds ls
     → Fitting t′ → Fewer xs ys → (b ≡ false → t ≡ t′) → Ordered t′ cs (staledIf b ys) ds ls
 unfolding staledIf
 changed-to true t′ ys o f g e =
@@ -128,7 +129,8 @@ changed-to {t} {cs} {xs} {ds} {ls} false t′ ys o f g e =
 -- ── a transaction's copy and log ──
 
 -- transaction k with another log
-pub with-log : {t : Table} {cs : List Octets} {xs : Transactions} {ds : Domains} {ls : Logs} (k : ℕ) (x : Transaction) (log : List Single) → Ordered t cs xs ds ls
+pub with-log : {t : Table} {cs : List Octets} {xs : Transactions} {ds : Domains} {ls : Logs} (k : ℕ) (x : Transaction) (log : List Single) →
+    Ordered t cs xs ds ls
     → getD xs k none ≡ some x → k < length xs → (x .stale ≡ false → Running t (tableOf (getD cs k [])) log x) → Ordered t cs xs ds (set ls k log)
 with-log {t} {cs} {xs} {ds} {ls} k x log o e b h =
     record { main = o .main; domains = o .domains; copies = o .copies; logs = length-set ls k log ∙ o .logs; running = λ j y p q. go j y p q (ℕ-discrete j k) }
@@ -166,7 +168,8 @@ with-copy {t} {cs} {xs} {ds} {ls} k x copy log o b f h =
 
 -- ── domains ──
 
-pub with-domains : {t : Table} {cs : List Octets} {xs : Transactions} {ds : Domains} {ls : Logs} (es : Domains) → Small es → Ordered t cs xs ds ls → Ordered t cs xs es ls
+pub with-domains : {t : Table} {cs : List Octets} {xs : Transactions} {ds : Domains} {ls : Logs} (es : Domains) → Small es → Ordered t cs xs ds ls →
+    Ordered t cs xs es ls
 with-domains es s o = record { main = o .main; domains = s; copies = o .copies; logs = o .logs; running = o .running }
 
 pub small-set : (ds : Domains) (j d : ℕ) → Small ds → d < 65536 → Small (set ds j (some d))

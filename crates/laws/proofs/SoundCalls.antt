@@ -17,13 +17,19 @@ use Rattle.rules.specs.Node.{root, freshTable, nodeAt}
 use Rattle.rules.specs.Layout.{domainsOf}
 use Rattle.rules.specs.Sound.{goodEntries, reachesRoot, goodName, goodNode, goodNodes, goodRoot, distinct, goodTable, known}
 use Rattle.rules.specs.World.{World, Outcome, freshWorld}
-use Rattle.rules.specs.Call.{Lendable, Verdict, wrongSize, unsound, stranger, callNumber, isHandled, Tables, sizedTables, sound, worldOf, tablesOf, Result, txOf, frameVerdict, requestVerdict, outcome, turnedAway, delivered, requestBy, requestCall}
+use Rattle.rules.specs.Call.{
+  Lendable, Verdict, wrongSize, unsound, stranger, callNumber, isHandled, Tables, sizedTables, sound, worldOf, tablesOf, Result, txOf, frameVerdict,
+  requestVerdict, outcome, turnedAway, delivered, requestBy, requestCall,
+}
 use Rattle.rules.proofs.Cases.{cond-known}
 use Rattle.rules.proofs.Places.{nothing, none-at}
 use Rattle.rules.proofs.Fitting.{fresh-fits}
 use Rattle.rules.proofs.GoodTables.{good-of}
 use Rattle.laws.specs.History.{Call, History, requestOf, served, after, run}
-use Rattle.laws.specs.Soundness.{FreshIsSound, CallsKeepSound, SoundBytesStay, CallsOnBytes, HistoriesAreSound, Misfit, Lent, lentTables, resultOn, leftBy, runBytes, fitting, heeded, verdictOn, resultOf, resultBy, HistoriesOnBytes}
+use Rattle.laws.specs.Soundness.{
+  FreshIsSound, CallsKeepSound, SoundBytesStay, CallsOnBytes, HistoriesAreSound, Misfit, Lent, lentTables, resultOn, leftBy, runBytes, fitting,
+  heeded, verdictOn, resultOf, resultBy, HistoriesOnBytes,
+}
 use Rattle.laws.proofs.Calls.{served-is, served-known, request-good}
 use Rattle.rules.proofs.SoundWorld.{SoundWorld}
 use Rattle.laws.proofs.SoundRequests.{outcome-keeps}
@@ -105,21 +111,24 @@ module _ (t : Tables) (reply events : Octets) (c : Connection) (m : Octets) (l :
   tables-after = go fits (sound t) (known (domainOf c) (domainsOf (t .domains))) (frameVerdict m) (l .sound)
     where
       go : (a s k : Bool) (v : Verdict) → s ≡ true
-          → requestBy t reply events (cond a (cond s (cond k v stranger) unsound) wrongSize) c m .tables ≡ cond (a && (k && isHandled v)) (tablesOf (outcome (worldOf t) c m .world)) t
+          → requestBy t reply events (cond a (cond s (cond k v stranger) unsound) wrongSize) c m .tables
+          ≡ cond (a && (k && isHandled v)) (tablesOf (outcome (worldOf t) c m .world)) t
       go false s k v e = refl
       go true false k v e = absurd (false≢true e)
       go true true false v e = refl
       go true true true v e = handled-or v (isHandled v)
         where
           handled-or : (v : Verdict) (b : Bool)
-              → cond b (delivered t reply events m (outcome (worldOf t) c m)) (turnedAway t reply events (callNumber v)) .tables ≡ cond b (tablesOf (outcome (worldOf t) c m .world)) t
+              → cond b (delivered t reply events m (outcome (worldOf t) c m)) (turnedAway t reply events (callNumber v)) .tables
+              ≡ cond b (tablesOf (outcome (worldOf t) c m .world)) t
           handled-or v true = refl
           handled-or v false = refl
 
   outcome-sound : serves ≡ true → SoundWorld (outcome (worldOf t) c m .world)
   unfolding serves outcome requestOf call
   outcome-sound h =
-      outcome-keeps (worldOf t) (decoded t l) c (txOf m) (requestOf call) (and-eq-true-iff (known (domainOf c) (worldOf t .domains)) (isHandled (frameVerdict m)) .0 h .0) (request-good call)
+      outcome-keeps (worldOf t) (decoded t l) c (txOf m) (requestOf call)
+      (and-eq-true-iff (known (domainOf c) (worldOf t .domains)) (isHandled (frameVerdict m)) .0 h .0) (request-good call)
 
   keeps : Lendable (requestCall t reply events c m .tables)
   keeps =
@@ -181,7 +190,8 @@ module _ (w : World) (s : SoundWorld w) where
       by : (m : Option Misfit) → resultOn (tablesOf w) (lending l m) ≡ resultBy w (lending l m)
       by (some m) = rw (m .wrong)
       by none = rw (encoded w s .sized, encoded w s .sound, domains-back)
-          (own-tables (lending l none) (eqb (length (l .reply)) replySize && eqb (length (l .events)) eventsSize) (known (domainOf (l .call .sender)) (w .domains)) (frameVerdict (l .call .message)))
+          (own-tables (lending l none) (eqb (length (l .reply)) replySize && eqb (length (l .events)) eventsSize)
+          (known (domainOf (l .call .sender)) (w .domains)) (frameVerdict (l .call .message)))
 
   -- and the store's bytes after it
   left-is : (l : Lent) → leftBy (tablesOf w) l ≡ tablesOf (cond (fitting l) (after w (l .call)) w)
@@ -189,7 +199,8 @@ module _ (w : World) (s : SoundWorld w) where
   left-is l = by (l .misfit)
     where
       told : (b : Bool) (v : Verdict) (m : Option Outcome) → let x = lending l none in
-          cond b (resultOf (tablesOf w) x v m) (resultOf (tablesOf w) x wrongSize none) .tables ≡ tablesOf (cond b (elim m as (λ m. World) [ none ↦ w | some o ↦ o .world ]) w)
+          cond b (resultOf (tablesOf w) x v m) (resultOf (tablesOf w) x wrongSize none) .tables
+          ≡ tablesOf (cond b (elim m as (λ m. World) [ none ↦ w | some o ↦ o .world ]) w)
       told true v none = refl
       told true v (some o) = refl
       told false v m = refl
@@ -203,9 +214,11 @@ module _ (w : World) (s : SoundWorld w) where
 follow : (w : World) (ls : List Lent) → SoundWorld w → runBytes (tablesOf w) ls ≡ tablesOf (run w (heeded ls))
 unfolding runBytes run heeded
 follow w [] s = refl
-follow w (l ∷ ls) s = ap (λ (t : Tables). runBytes t ls) (left-is w s l) ∙ go (fitting l) (follow (after w (l .call)) ls (call-keeps w (l .call) s)) (follow w ls s)
+follow w (l ∷ ls) s = ap (λ (t : Tables). runBytes t ls) (left-is w s l)
+    ∙ go (fitting l) (follow (after w (l .call)) ls (call-keeps w (l .call) s)) (follow w ls s)
   where
-    go : (b : Bool) → runBytes (tablesOf (after w (l .call))) ls ≡ tablesOf (run (after w (l .call)) (heeded ls)) → runBytes (tablesOf w) ls ≡ tablesOf (run w (heeded ls))
+    go : (b : Bool) → runBytes (tablesOf (after w (l .call))) ls ≡ tablesOf (run (after w (l .call)) (heeded ls)) →
+        runBytes (tablesOf w) ls ≡ tablesOf (run w (heeded ls))
         → runBytes (tablesOf (cond b (after w (l .call)) w)) ls ≡ tablesOf (run w (cond b (l .call ∷ heeded ls) (heeded ls)))
     go true e f = e
     go false e f = f

@@ -13,12 +13,18 @@ use Rattle.rules.specs.Octets.{Octets}
 use Rattle.rules.specs.Entries.{isEmpty, lowest}
 use Rattle.rules.specs.Path.{Domain, Connection, domainOf, Names, isControl}
 use Rattle.rules.specs.Node.{Table, ownedBy}
-use Rattle.rules.specs.Payload.{Ask, Place, path, event, Request, ask, watch, unwatch, start, end, introduce, release, domainPath, isIntroduced, reset, Parsed, unknown, invalid, request}
+use Rattle.rules.specs.Payload.{
+  Ask, Place, path, event, Request, ask, watch, unwatch, start, end, introduce, release, domainPath, isIntroduced, reset, Parsed, unknown, invalid,
+  request,
+}
 use Rattle.rules.specs.Answer.{EINVAL, ENOSYS, EACCES, EEXIST, ENOENT, ENOSPC, EAGAIN, Reply, refused, OK, Change, Answer, answer}
 use Rattle.rules.specs.Event.{Watch, placeText}
 use Rattle.rules.specs.Layout.{Transaction, tableOf}
 use Rattle.rules.specs.Sound.{introduced, known, twin, watched}
-use Rattle.rules.specs.World.{World, Outcome, staledIf, withoutTransactions, withoutWatches, speaksFor, left, to, plainly, transactionOf, inside, copyOf, asked, placeFits, watching, unwatching, starting, closing, committing, ending, introducing, removalOf, releasing, resetting, forControl, forPlace, handle}
+use Rattle.rules.specs.World.{
+  World, Outcome, staledIf, withoutTransactions, withoutWatches, speaksFor, left, to, onStore, transactionOf, inTransaction, copyOf, asked, placeFits,
+  watching, unwatching, starting, closing, committing, ending, introducing, removalOf, releasing, resetting, forControl, forPlace, handle,
+}
 use Rattle.rules.specs.Call.{outcomeOf}
 use Rattle.rules.proofs.Cases.{cond-case, cond-known}
 use Rattle.rules.proofs.Tables.{each-append}
@@ -27,8 +33,13 @@ use Rattle.rules.proofs.Fitting.{withoutAll-fits}
 use Rattle.rules.proofs.GoodAnswers.{change-good}
 use Rattle.rules.proofs.GoodNodes.{withoutAll-good}
 use Rattle.rules.proofs.GoodRequests.{AskedGood, WatchedGood, RequestGood, ParsedGood}
-use Rattle.rules.proofs.SoundWorld.{TransactionSound, TableSound, SoundWorld, table-decoded, asked-sound, known-grown, known-shrunk, known-range, domains-grown, domains-shrunk}
-use Rattle.rules.proofs.SoundEntries.{watches-left, watches-grown, transactions-left, transactions-written, unstaled, transactions-staled, closed-before, owned-fine, Controlled, depth-fits, place-good, place-fits, change-fits}
+use Rattle.rules.proofs.SoundWorld.{
+  TransactionSound, TableSound, SoundWorld, table-decoded, asked-sound, known-grown, known-shrunk, known-range, domains-grown, domains-shrunk,
+}
+use Rattle.rules.proofs.SoundEntries.{
+  watches-left, watches-grown, transactions-left, transactions-written, unstaled, transactions-staled, closed-before, owned-fine, Controlled,
+  depth-fits, place-good, place-fits, change-fits,
+}
 use Rattle.rules.proofs.OpenTransactions.{length-staledIf, named}
 
 -- ── requests on the sound world w ──
@@ -48,7 +59,8 @@ module _ (w : World) (s : SoundWorld w) where
         nodes = s .nodes;
         domains = s .domains;
         watches = s .watches;
-        transactions = transactions-staled false (set (w .transactions) k none) (s .transactions) (length-set (w .transactions) k none) (closed-before (w .transactions) k);
+        transactions = transactions-staled false (set (w .transactions) k none) (s .transactions) (length-set (w .transactions) k none)
+            (closed-before (w .transactions) k);
       }
 
   committing-keeps : (k : ℕ) (x : Transaction) → At (w .transactions) k x → Keeps (committing w k x)
@@ -58,7 +70,8 @@ module _ (w : World) (s : SoundWorld w) where
         nodes = table-decoded _ (s .transactions .each k x e .copy);
         domains = s .domains;
         watches = s .watches;
-        transactions = transactions-staled (not (isEmpty (x .changes))) (set (w .transactions) k none) (s .transactions) (length-set (w .transactions) k none) (closed-before (w .transactions) k);
+        transactions = transactions-staled (not (isEmpty (x .changes))) (set (w .transactions) k none) (s .transactions) (length-set (w .transactions) k none)
+            (closed-before (w .transactions) k);
       }
 
   resetting-keeps : (c : Connection) → Keeps (resetting w c)
@@ -67,18 +80,19 @@ module _ (w : World) (s : SoundWorld w) where
       record {
         nodes = s .nodes;
         domains = s .domains;
-        watches = watches-left _ _ (s .watches) (length-without _ (w .watches)) (λ i v q. let p = at-without _ (w .watches) i v q .0 in (p, s .watches .each i v p .known));
+        watches = watches-left _ _ (s .watches) (length-without _ (w .watches))
+            (λ i v q. let p = at-without _ (w .watches) i v q .0 in (p, s .watches .each i v p .known));
         transactions = transactions-staled false _ (s .transactions) (length-without _ (w .transactions)) (λ k y q. at-without _ (w .transactions) k y q .0);
       }
 
-  plainly-keeps : (d : Domain) (a : Ask) (ns : Names) → d ≤ lastDomain → AskedGood a ns → Keeps (plainly w (answer d a ns (w .nodes)))
-  unfolding plainly to staledIf isEmpty
-  plainly-keeps d a ns h f = go (answer d a ns (w .nodes) .change)
+  on-store-keeps : (d : Domain) (a : Ask) (ns : Names) → d ≤ lastDomain → AskedGood a ns → Keeps (onStore w (answer d a ns (w .nodes)))
+  unfolding onStore to staledIf isEmpty
+  on-store-keeps d a ns h f = go (answer d a ns (w .nodes) .change)
     where
       x : Answer
       x = answer d a ns (w .nodes)
 
-      go : (m : Option Change) → Keeps (plainly w (record { reply = x .reply; table = x .table; change = m }))
+      go : (m : Option Change) → Keeps (onStore w (record { reply = x .reply; table = x .table; change = m }))
       go none = left-keeps (x .reply)
       go (some c) =
           record {
@@ -89,10 +103,10 @@ module _ (w : World) (s : SoundWorld w) where
           }
 
   -- a request in a transaction
-  inside-keeps : (d : Domain) (a : Ask) (ns : Names) (k : ℕ) (x : Transaction) → At (w .transactions) k x → d ≤ lastDomain → AskedGood a ns
-      → Keeps (inside w k x (answer d a ns (copyOf w k)))
-  unfolding inside to copyOf
-  inside-keeps d a ns k x e h f = go (z .change) refl
+  in-transaction-keeps : (d : Domain) (a : Ask) (ns : Names) (k : ℕ) (x : Transaction) → At (w .transactions) k x → d ≤ lastDomain → AskedGood a ns
+      → Keeps (inTransaction w k x (answer d a ns (copyOf w k)))
+  unfolding inTransaction to copyOf
+  in-transaction-keeps d a ns k x e h f = go (z .change) refl
     where
       copy : Table
       copy = tableOf (getD (w .copies) k [])
@@ -106,7 +120,7 @@ module _ (w : World) (s : SoundWorld w) where
       before : TableSound copy
       before = table-decoded (getD (w .copies) k []) (held .copy)
 
-      go : (m : Option Change) → z .change ≡ m → Keeps (inside w k x (record { reply = z .reply; table = z .table; change = m }))
+      go : (m : Option Change) → z .change ≡ m → Keeps (inTransaction w k x (record { reply = z .reply; table = z .table; change = m }))
       go none p = left-keeps (z .reply)
       go (some c) p =
           cond-known Keeps (ltb (length (x .changes)) mostChanges) _ _ (λ l.
@@ -127,15 +141,16 @@ module _ (w : World) (s : SoundWorld w) where
 
   asked-keeps : (c : Connection) (tx : ℕ) (a : Ask) (ns : Names) → domainOf c ≤ lastDomain → AskedGood a ns → Keeps (asked w c tx a ns)
   unfolding asked
-  asked-keeps c tx a ns h f = cond-case Keeps (eqb tx 0) _ _ (plainly-keeps (domainOf c) a ns h f) (go (transactionOf w c tx) refl)
+  asked-keeps c tx a ns h f = cond-case Keeps (eqb tx 0) _ _ (on-store-keeps (domainOf c) a ns h f) (go (transactionOf w c tx) refl)
     where
       go : (m : Option Transaction) → transactionOf w c tx ≡ m
-          → Keeps (elim m [ none ↦ left w (refused ENOENT) | some x ↦ inside w (tx - 1) x (answer (domainOf c) a ns (copyOf w (tx - 1))) ])
+          → Keeps (elim m [ none ↦ left w (refused ENOENT) | some x ↦ inTransaction w (tx - 1) x (answer (domainOf c) a ns (copyOf w (tx - 1))) ])
       go none e = left-keeps (refused ENOENT)
-      go (some x) e = inside-keeps (domainOf c) a ns (tx - 1) x (named w tx c x e .0) h f
+      go (some x) e = in-transaction-keeps (domainOf c) a ns (tx - 1) x (named w tx c x e .0) h f
 
   -- watches
-  watching-keeps : (c : Connection) (p : Place) (t : Octets) (depth : Option ℕ) → known (domainOf c) (w .domains) ≡ true → WatchedGood c p t depth → Controlled c p
+  watching-keeps : (c : Connection) (p : Place) (t : Octets) (depth : Option ℕ) → known (domainOf c) (w .domains) ≡ true → WatchedGood c p t depth →
+      Controlled c p
       → Keeps (watching w c p t depth)
   unfolding watching to
   watching-keeps c p t depth k f h =
@@ -165,7 +180,8 @@ module _ (w : World) (s : SoundWorld w) where
       (record {
         nodes = s .nodes;
         domains = s .domains;
-        watches = watches-left (w .domains) _ (s .watches) (length-without (twin c (placeText p) t) (w .watches)) (λ i v q. let p = at-without _ (w .watches) i v q .0 in (p, s .watches .each i v p .known));
+        watches = watches-left (w .domains) _ (s .watches) (length-without (twin c (placeText p) t) (w .watches))
+            (λ i v q. let p = at-without _ (w .watches) i v q .0 in (p, s .watches .each i v p .known));
         transactions = s .transactions;
       })
       (left-keeps (refused ENOENT))
@@ -194,7 +210,8 @@ module _ (w : World) (s : SoundWorld w) where
           ])
       go none e = left-keeps (refused ENOENT)
       go (some x) e =
-          cond-case Keeps commit _ _ (cond-case Keeps (x .stale) _ _ (closing-keeps (tx - 1) (refused EAGAIN)) (committing-keeps (tx - 1) x (named w tx c x e .0))) (closing-keeps (tx - 1) OK)
+          cond-case Keeps commit _ _ (cond-case Keeps (x .stale) _ _ (closing-keeps (tx - 1) (refused EAGAIN))
+          (committing-keeps (tx - 1) x (named w tx c x e .0))) (closing-keeps (tx - 1) OK)
 
   -- domains
   introducing-keeps : (d page channel : ℕ) → (1 ≤ d) × (d ≤ lastDomain) → Keeps (introducing w d page channel)
@@ -206,7 +223,8 @@ module _ (w : World) (s : SoundWorld w) where
         nodes = s .nodes;
         domains = domains-grown (w .domains) d (s .domains) x (h .0) (h .1);
         watches = watches-left _ (w .watches) (s .watches) refl (λ i v q. (q, known-grown (w .domains) _ d (s .watches .each i v q .known)));
-        transactions = transactions-left _ (w .transactions) (s .transactions) refl (λ k y q. (y, q, refl, known-grown (w .domains) _ d (s .transactions .each k y q .known)));
+        transactions = transactions-left _ (w .transactions) (s .transactions) refl
+            (λ k y q. (y, q, refl, known-grown (w .domains) _ d (s .transactions .each k y q .known)));
       })
       (left-keeps (refused ENOSPC)))
 
@@ -225,7 +243,8 @@ module _ (w : World) (s : SoundWorld w) where
             let p = at-without (λ (v : Watch). eqb d (domainOf (v .owner))) (w .watches) i v q in
             (p .0, known-shrunk (w .domains) _ d (s .watches .each i v (p .0) .known) (p .1)));
         transactions = transactions-left _ _ (s .transactions)
-            (length-staledIf (not (isEmpty (map (removalOf w) (ownedBy (w .nodes) d)))) _ ∙ length-without (λ (x : Transaction). eqb d (domainOf (x .holder))) (w .transactions)) (λ k y q.
+            (length-staledIf (not (isEmpty (map (removalOf w) (ownedBy (w .nodes) d)))) _
+            ∙ length-without (λ (x : Transaction). eqb d (domainOf (x .holder))) (w .transactions)) (λ k y q.
             let r = unstaled (not (isEmpty (map (removalOf w) (ownedBy (w .nodes) d)))) _ k y q in
             let p = at-without (λ (x : Transaction). eqb d (domainOf (x .holder))) (w .transactions) k (r .0) (r .1) in
             (r .0, p .0, r .3, rw (r .2) (known-shrunk (w .domains) _ d (s .transactions .each k (r .0) (p .0) .known) (p .1))));

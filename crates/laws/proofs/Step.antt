@@ -14,18 +14,28 @@ use Rattle.rules.specs.Octets.{Octets}
 use Rattle.rules.specs.Entries.{isEmpty, lowest}
 use Rattle.rules.specs.Path.{Connection, domainOf, Names, isControl}
 use Rattle.rules.specs.Node.{Table, ownedBy}
-use Rattle.rules.specs.Payload.{Ask, directory, read, getPerms, write, mkdir, rm, setPerms, Place, path, event, Request, ask, watch, unwatch, start, end, introduce, release, domainPath, isIntroduced, reset, Parsed, unknown, invalid, request}
-use Rattle.rules.specs.Answer.{Errno, EINVAL, EACCES, EEXIST, ENOENT, ENOSPC, E2BIG, EAGAIN, ENOSYS, Reply, done, refused, OK, Change, Answer, unchanged, changed, answer}
-use Rattle.rules.specs.Layout.{Transaction}
+use Rattle.rules.specs.Payload.{
+  Ask, directory, read, getPerms, write, mkdir, rm, setPerms, Place, path, event, Request, ask, watch, unwatch, start, end, introduce, release,
+  domainPath, isIntroduced, reset, Parsed, unknown, invalid, request,
+}
+use Rattle.rules.specs.Answer.{
+  Errno, EINVAL, EACCES, EEXIST, ENOENT, ENOSPC, E2BIG, EAGAIN, ENOSYS, Reply, done, refused, OK, Change, Answer, unchanged, changed, answer,
+}
+use Rattle.rules.specs.Layout.{Transaction, withChange}
 use Rattle.rules.specs.Sound.{introduced, watched}
 use Rattle.rules.specs.Event.{placeText}
-use Rattle.rules.specs.World.{World, Outcome, staledIf, withoutTransactions, left, to, plainly, transactionOf, inside, copyOf, asked, placeFits, watching, unwatching, starting, closing, committing, ending, introducing, removalOf, releasing, resetting, forControl, forPlace, handle}
+use Rattle.rules.specs.World.{
+  World, Outcome, staledIf, withoutTransactions, left, to, onStore, transactionOf, inTransaction, copyOf, asked, placeFits, watching, unwatching, starting,
+  closing, committing, ending, introducing, removalOf, releasing, resetting, forControl, forPlace, handle,
+}
 use Rattle.rules.specs.Call.{outcomeOf}
 use Rattle.rules.proofs.Cases.{cond-case}
 use Rattle.laws.specs.History.{succeeds, alters, recorded, changedBy, changedAs, alteredBy, alteredAs}
 use Rattle.rules.proofs.Places.{nothing, some-is, At}
 use Rattle.rules.proofs.OpenTransactions.{named, empty-mapped}
-use Rattle.laws.proofs.Kept.{Effect, quiet, opening, changing, hasChange, Continues, Kept, kept-as, kept-all, kept-without, kept-set, kept-closed, kept-opened, kept-staledIf}
+use Rattle.laws.proofs.Kept.{
+  Effect, quiet, opening, changing, hasChange, Continues, Kept, kept-as, kept-all, kept-without, kept-set, kept-closed, kept-opened, kept-staledIf,
+}
 use Rattle.laws.proofs.Answers.{isEAGAIN, Shape, stays, alters-to, answer-shape}
 
 -- what an outcome is by its reply: a refusal leaves the world, but EAGAIN closes the transaction
@@ -66,7 +76,8 @@ module _ (w : World) (tx : ℕ) where
     pub sent : Sent w tx o (o .reply)
 
   -- the same effect in other words
-  step-as : (f g : Effect) (o : Outcome) → f .changes ≡ g .changes → ((k : ℕ) → f .alters k ≡ g .alters k) → (g .opens ≡ false → f .opens ≡ false) → Step f o → Step g o
+  step-as : (f g : Effect) (o : Outcome) → f .changes ≡ g .changes → ((k : ℕ) → f .alters k ≡ g .alters k) → (g .opens ≡ false → f .opens ≡ false) → Step f o →
+      Step g o
   step-as f g o p q r s = record { kept = kept-as f g _ _ p q r (s .kept); sent = s .sent }
 
   left-sent : (r : Reply) → isEAGAIN r ≡ false → Sent w tx (left w r) r
@@ -85,18 +96,18 @@ module _ (w : World) (tx : ℕ) where
   left-step r e = record { kept = kept-all _; sent = left-sent r e }
 
   -- a node request outside transactions
-  plainly-reply : (a : Answer) → plainly w a .reply ≡ a .reply
-  unfolding plainly left to
-  plainly-reply a = go (a .change)
+  on-store-reply : (a : Answer) → onStore w a .reply ≡ a .reply
+  unfolding onStore left to
+  on-store-reply a = go (a .change)
     where
-      go : (m : Option Change) → plainly w (record { reply = a .reply; table = a .table; change = m }) .reply ≡ a .reply
+      go : (m : Option Change) → onStore w (record { reply = a .reply; table = a .table; change = m }) .reply ≡ a .reply
       go none = refl
       go (some c) = refl
 
-  plainly-step : {d : ℕ} {ns : Names} {b : Bool} {a : Answer} → Shape d ns (w .nodes) b a → Step (changing b) (plainly w a)
-  unfolding plainly unchanged changed to OK staledIf isEmpty
-  plainly-step (stays r e) = left-step r e
-  plainly-step (alters-to removal after) = record { kept = kept-staledIf true _ _ (kept-all _); sent = tt }
+  on-store-step : {d : ℕ} {ns : Names} {b : Bool} {a : Answer} → Shape d ns (w .nodes) b a → Step (changing b) (onStore w a)
+  unfolding onStore unchanged changed to OK staledIf isEmpty
+  on-store-step (stays r e) = left-step r e
+  on-store-step (alters-to removal after) = record { kept = kept-staledIf true _ _ (kept-all _); sent = tt }
 
   -- a request in transaction j, which has an effect on its copy alone
   abbrev on-copy : ℕ → Bool → Effect
@@ -107,7 +118,7 @@ module _ (w : World) (tx : ℕ) where
 
   -- one more change in transaction j
   one-more : (j : ℕ) (x x′ y : Transaction) (c : Change) → some x ≡ some x′
-      → some (record { holder = x .holder; stale = x .stale; changes = x .changes ++ (c ∷ []) }) ≡ some y → Continues (on-copy j true) j x′ y
+      → some (withChange x c) ≡ some y → Continues (on-copy j true) j x′ y
   unfolding isEmpty
   one-more j x x′ y c p q =
       let s = sym (some-is q) in
@@ -121,17 +132,18 @@ module _ (w : World) (tx : ℕ) where
       longer [] = refl
       longer (b ∷ cs) = refl
 
-  inside-step : (d : ℕ) (q : Ask) (ns : Names) (t : Table) (j : ℕ) (x : Transaction) → At (w .transactions) j x
-      → let o = inside w j x (answer d q ns t) in Step (on-copy j (alters t ns (o .reply) q)) o
-  unfolding inside unchanged changed left to OK
-  inside-step d q ns t j x h = go (answer-shape d q ns t) refl
+  in-transaction-step : (d : ℕ) (q : Ask) (ns : Names) (t : Table) (j : ℕ) (x : Transaction) → At (w .transactions) j x
+      → let o = inTransaction w j x (answer d q ns t) in Step (on-copy j (alters t ns (o .reply) q)) o
+  unfolding inTransaction unchanged changed left to OK
+  in-transaction-step d q ns t j x h = go (answer-shape d q ns t) refl
     where
-      go : {b : Bool} {a : Answer} → Shape d ns t b a → b ≡ alters t ns (a .reply) q → let o = inside w j x a in Step (on-copy j (alters t ns (o .reply) q)) o
+      go : {b : Bool} {a : Answer} → Shape d ns t b a → b ≡ alters t ns (a .reply) q → let o = inTransaction w j x a in Step (on-copy j (alters t ns (o .reply) q)) o
       go (stays r e) p = rw (← p) (stays-on-copy j r e)
       go (alters-to removal after) p =
           cond-case (λ (o : Outcome). Step (on-copy j (alters t ns (o .reply) q)) o) (ltb (length (x .changes)) mostChanges) _ _
           (rw (← p) (record {
-            kept = kept-set (on-copy j true) _ _ _ refl (λ k r. rw (ne-eqb j k (λ e. r (sym e)))) (λ x′ y e f. one-more j x x′ y _ (sym h ∙ e) f) (λ o y f. (x, h));
+            kept = kept-set (on-copy j true) _ _ _ refl (λ k r. rw (ne-eqb j k (λ e. r (sym e)))) (λ x′ y e f. one-more j x x′ y _ (sym h ∙ e) f)
+                (λ o y f. (x, h));
             sent = tt;
           }))
           (rw (alters-refused t ns ENOSPC q) (stays-on-copy j (refused ENOSPC) refl))
@@ -141,21 +153,24 @@ module _ (w : World) (tx : ℕ) where
   asked-effect n r a ns = record { changes = eqb n 0 && alters (w .nodes) ns r a; alters = λ k. eqb n (suc k) && alters (copyOf w k) ns r a; opens = false }
 
   asked-step : (n : ℕ) (c : Connection) (a : Ask) (ns : Names) → let o = asked w c n a ns in Step (asked-effect n (o .reply) a ns) o
-  unfolding asked transactionOf plainly left
+  unfolding asked transactionOf onStore left
   asked-step zero c a ns =
-      rw plainly-reply
+      rw on-store-reply
       (step-as (changing (alters (w .nodes) ns (answer (domainOf c) a ns (w .nodes) .reply) a)) _ _ refl (λ k. sym (rw (eqb·zero-suc k))) (λ o. refl)
-      (plainly-step (answer-shape (domainOf c) a ns (w .nodes))))
+      (on-store-step (answer-shape (domainOf c) a ns (w .nodes))))
   asked-step (suc j) c a ns = rw (eqb·suc-zero, asked) (there (transactionOf w c (suc j)) refl)
     where
       there : (m : Option Transaction) → transactionOf w c (suc j) ≡ m
-          → let o = elim m as (λ m. Outcome) [ none ↦ left w (refused ENOENT) | some x ↦ inside w (suc j - 1) x (answer (domainOf c) a ns (copyOf w (suc j - 1))) ] in
+          → let o = elim m as (λ m. Outcome) [ none ↦ left w (refused ENOENT) | some x ↦ inTransaction w (suc j - 1) x
+          (answer (domainOf c) a ns (copyOf w (suc j - 1))) ] in
           Step (record { changes = false; alters = λ k. eqb (suc j) (suc k) && alters (copyOf w k) ns (o .reply) a; opens = false }) o
-      there none e = step-as quiet _ _ refl (λ k. sym (rw (alters-refused (copyOf w k) ns ENOENT a) (and-false (eqb (suc j) (suc k))))) (λ o. refl) (left-step (refused ENOENT) refl)
+      there none e = step-as quiet _ _ refl (λ k. sym (rw (alters-refused (copyOf w k) ns ENOENT a) (and-false (eqb (suc j) (suc k))))) (λ o. refl)
+          (left-step (refused ENOENT) refl)
       there (some x) e =
-          let o = inside w (suc j - 1) x (answer (domainOf c) a ns (copyOf w (suc j - 1))) in
-          step-as (on-copy (suc j - 1) (alters (copyOf w (suc j - 1)) ns (o .reply) a)) _ _ refl (λ k. there-alone (λ i. alters (copyOf w i) ns (o .reply) a) _ j k (omega arith)) (λ o. refl)
-          (inside-step (domainOf c) a ns (copyOf w (suc j - 1)) (suc j - 1) x (named w (suc j) c x e .0))
+          let o = inTransaction w (suc j - 1) x (answer (domainOf c) a ns (copyOf w (suc j - 1))) in
+          step-as (on-copy (suc j - 1) (alters (copyOf w (suc j - 1)) ns (o .reply) a)) _ _ refl
+          (λ k. there-alone (λ i. alters (copyOf w i) ns (o .reply) a) _ j k (omega arith)) (λ o. refl)
+          (in-transaction-step (domainOf c) a ns (copyOf w (suc j - 1)) (suc j - 1) x (named w (suc j) c x e .0))
 
   -- requests that leave the transactions alone
   watching-step : (c : Connection) (p : Place) (t : Octets) (depth : Option ℕ) → Step quiet (watching w c p t depth)
@@ -197,7 +212,8 @@ module _ (w : World) (tx : ℕ) where
   ended-step k x h true false e = rw (recorded-is k x h) (record { kept = kept-staledIf _ _ _ (kept-closed _ _); sent = tt })
   ended-step k x h false stale e = record { kept = kept-closed _ _; sent = tt }
 
-  ending-step : (c : Connection) (commit : Bool) → Step (changing (commit && (succeeds (ending w c tx commit .reply) && recorded w (tx - 1)))) (ending w c tx commit)
+  ending-step : (c : Connection) (commit : Bool) → Step (changing (commit && (succeeds (ending w c tx commit .reply) && recorded w (tx - 1))))
+      (ending w c tx commit)
   unfolding ending left succeeds
   ending-step c commit = there (transactionOf w c tx) refl
     where
@@ -224,7 +240,8 @@ module _ (w : World) (tx : ℕ) where
   resetting-step c = record { kept = kept-without _ _; sent = tt }
 
   -- "from a sender other than 0: EACCES"
-  control-step : (f : Reply → Effect) → f (refused EACCES) ≡ quiet → (c : Connection) (o : Outcome) → Step (f (o .reply)) o → Step (f (forControl w c o .reply)) (forControl w c o)
+  control-step : (f : Reply → Effect) → f (refused EACCES) ≡ quiet → (c : Connection) (o : Outcome) → Step (f (o .reply)) o →
+      Step (f (forControl w c o .reply)) (forControl w c o)
   unfolding forControl left
   control-step f e c o h = cond-case (λ x. Step (f (x .reply)) x) (isControl (domainOf c)) _ _ h (rw e (left-step (refused EACCES) refl))
 

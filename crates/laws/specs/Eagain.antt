@@ -55,7 +55,8 @@ StartAnswersItsNumber =
 
 -- ── what a commit changes ──
 
--- A transaction has recorded a change exactly if, since its START, one of its requests changed its copy: so `changes` counts just the commits that bring a change.
+-- A transaction has recorded a change exactly if, since its START, one of its requests changed its copy: so `changes` counts just the commits that bring a
+-- change.
 abbrev pub RecordedExactly : Type 0
 RecordedExactly =
     (w : World) (k : ℕ) (first : Call) (cs : History) → Opens w k first → staysOpen (after w first) k cs ≡ true

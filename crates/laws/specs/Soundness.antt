@@ -10,7 +10,10 @@ use Rattle.rules.specs.Octets.{Octets}
 use Rattle.rules.specs.Path.{Connection, domainOf}
 use Rattle.rules.specs.Sound.{known}
 use Rattle.rules.specs.World.{World, Outcome, freshWorld}
-use Rattle.rules.specs.Call.{Verdict, wrongSize, stranger, callNumber, Tables, sizedTables, Lendable, worldOf, tablesOf, Result, frameVerdict, turnedAway, delivered, requestCall}
+use Rattle.rules.specs.Call.{
+  Verdict, wrongSize, stranger, callNumber, Tables, sizedTables, Lendable, worldOf, tablesOf, Result, frameVerdict, turnedAway, delivered,
+  requestCall,
+}
 use Rattle.laws.specs.History.{Call, History, served, after, run}
 
 -- The fresh store is sound.
@@ -94,4 +97,5 @@ resultBy w l =
 -- and the whole result of each is that of the same call in the history: what is proved of histories, answers included, holds of the bytes.
 abbrev pub HistoriesOnBytes : Type 0
 HistoriesOnBytes =
-    (ls : List Lent) (l : Lent) → let t = runBytes (tablesOf freshWorld) ls in let w = run freshWorld (heeded ls) in (t ≡ tablesOf w) × (resultOn t l ≡ resultBy w l)
+    (ls : List Lent) (l : Lent) → let t = runBytes (tablesOf freshWorld) ls in let w = run freshWorld (heeded ls) in (t ≡ tablesOf w)
+        × (resultOn t l ≡ resultBy w l)

@@ -109,8 +109,8 @@ module _ (w : World) (c : Connection) (tx : ℕ) where
   -- by the answers on the main table and on the copy of the transaction that is named
   abbrev asked-by : Answer → Answer → Outcome
   asked-by x y =
-      cond (eqb tx 0) (world.plainly w x)
-      (elim (transactionOf w c tx) [ none ↦ left w (refused ENOENT) | some k ↦ world.inside w (tx - 1) k y ])
+      cond (eqb tx 0) (world.onStore w x)
+      (elim (transactionOf w c tx) [ none ↦ left w (refused ENOENT) | some k ↦ world.inTransaction w (tx - 1) k y ])
 
   kept-asked : (a : rules.Ask) (ns : Names) → world.asked w c tx (askKept a) ns ≡ world.asked w c tx a ns
   unfolding world.asked

@@ -41,13 +41,13 @@ module _ (s : Octets) (a : Ask) (p : Path) (k : AskedSound s a p) (d : Domain) (
 -- ── where it is asked ──
 
 module _ (w : World) (c : Connection) {d : Domain} (speaks : d ≡ domainOf c) (tx : ℕ) (a : P.Ask) (ns : Names) where
-  pub asked-plain : tx ≡ 0 → W.asked w c tx a ns ≡ W.plainly w (answer d a ns (w .nodes))
+  pub asked-plain : tx ≡ 0 → W.asked w c tx a ns ≡ W.onStore w (answer d a ns (w .nodes))
   unfolding W.asked
-  asked-plain e = rw (eq-eqb tx 0 e) (ap (λ (x : Domain). W.plainly w (answer x a ns (w .nodes))) (sym speaks))
+  asked-plain e = rw (eq-eqb tx 0 e) (ap (λ (x : Domain). W.onStore w (answer x a ns (w .nodes))) (sym speaks))
 
   -- in the transaction that it names
   within : Domain → Option Transaction → W.Outcome
-  within x m = elim m [ none ↦ left w (refused ENOENT) | some t ↦ W.inside w (tx - 1) t (answer x a ns (copyOf w (tx - 1))) ]
+  within x m = elim m [ none ↦ left w (refused ENOENT) | some t ↦ W.inTransaction w (tx - 1) t (answer x a ns (copyOf w (tx - 1))) ]
 
   in-one : (tx ≡ 0 → ⊥) → (m : Option Transaction) → W.transactionOf w c tx ≡ m → W.asked w c tx a ns ≡ within d m
   unfolding W.asked within
@@ -58,6 +58,6 @@ module _ (w : World) (c : Connection) {d : Domain} (speaks : d ≡ domainOf c) (
   asked-nowhere z e = in-one z none e
 
   pub asked-inside : (tx ≡ 0 → ⊥) → (x : Transaction) → W.transactionOf w c tx ≡ some x →
-      W.asked w c tx a ns ≡ W.inside w (tx - 1) x (answer d a ns (copyOf w (tx - 1)))
+      W.asked w c tx a ns ≡ W.inTransaction w (tx - 1) x (answer d a ns (copyOf w (tx - 1)))
   unfolding within
   asked-inside z x e = in-one z (some x) e

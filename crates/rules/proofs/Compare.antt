@@ -76,7 +76,8 @@ eq-zero n e = rw e (zero-replicate n)
 pub less-next : (a b : Octets) (i : ℕ) → i < length a → i < length b → getD a i 0 ≡ getD b i 0 →
     less (drop i a) (drop i b) ≡ less (drop (i + 1) a) (drop (i + 1) b)
 unfolding less
-less-next a b i ha hb e = rw (drop-cons a i 0 ha, drop-cons b i 0 hb, add-one, e, le-ltb (getD b i 0) (getD b i 0) (omega arith), eq-eqb (getD b i 0) (getD b i 0) refl) refl
+less-next a b i ha hb e = rw (drop-cons a i 0 ha, drop-cons b i 0 hb, add-one, e, le-ltb (getD b i 0) (getD b i 0) (omega arith),
+    eq-eqb (getD b i 0) (getD b i 0) refl) refl
 
 pub less-here : (a b : Octets) (i : ℕ) → i < length a → i < length b → (getD a i 0 ≡ getD b i 0 → ⊥) →
     less (drop i a) (drop i b) ≡ ltb (getD a i 0) (getD b i 0)
@@ -89,9 +90,11 @@ unfolding less
 less-ended a b i e h = by (ltb i (length b)) refl
   where
     by : (t : Bool) → ltb i (length b) ≡ t → less (drop i a) (drop i b) ≡ ltb (length a) (length b)
-    by true t = rw (drop-of-length-le a {i = i} (omega arith), drop-cons b i 0 (ltb-true i (length b) t)) (sym (lt-ltb (length a) (length b) (omega (arith, ltb-true))))
+    by true t = rw (drop-of-length-le a {i = i} (omega arith), drop-cons b i 0 (ltb-true i (length b) t))
+        (sym (lt-ltb (length a) (length b) (omega (arith, ltb-true))))
     by false t =
-        rw (drop-of-length-le a {i = i} (omega arith), drop-of-length-le b {i = i} (ltb-false i (length b) t)) (sym (le-ltb (length a) (length b) (omega (arith, ltb-false))))
+        rw (drop-of-length-le a {i = i} (omega arith), drop-of-length-le b {i = i} (ltb-false i (length b) t))
+        (sym (le-ltb (length a) (length b) (omega (arith, ltb-false))))
 
 pub less-over : (a b : Octets) (i : ℕ) → i < length a → length b ≤ i → less (drop i a) (drop i b) ≡ false
 unfolding less

@@ -13,7 +13,10 @@ use Rattle.rules.specs.Octets.{Octets, paste, padded, bit, _bits_, chunk
 use Rattle.rules.specs.Path.{Domain, relative, special, given, allNames, pathText}
 use Rattle.rules.specs.Payload.{Place, path, event}
 use Rattle.rules.specs.Event.{Watch, Watches, placeText}
-use Rattle.rules.specs.Layout.{textAt, isRelative, depthBits, watchBits, watchBytes, placeIn, watchAt, watchIn, watchesBytes, watchesOf, Domains, domainBytes, domainIn, domainsBytes, domainsOf}
+use Rattle.rules.specs.Layout.{
+  textAt, isRelative, depthBits, watchBits, watchBytes, placeIn, watchAt, watchIn, watchesBytes, watchesOf, Domains, domainBytes, domainIn,
+  domainsBytes, domainsOf,
+}
 use Rattle.rules.proofs.Slots.{length-padded, text-padded}
 use Rattle.rules.proofs.Tables.{Each, each-map, length-encoded, written, decoded, decoded-at}
 use Rattle.rules.proofs.PathLaws.{text-given}
@@ -55,7 +58,8 @@ pub domain-read : (m : Option Domain) → DomainFits m → domainIn (domainBytes
 unfolding domainIn domainBytes field bigFrom bitsAt pack packFrom
 domain-read none f = refl
 domain-read (some d) f =
-    domain-used (domainBytes (some d)) (pack (1 bits 1 ∷ 7 bits 0 ∷ 16 bits d ∷ [])) d (rw append-nil at (field-first 3 (pack (1 bits 1 ∷ 7 bits 0 ∷ 16 bits d ∷ [])) [] (omega arith)))
+    domain-used (domainBytes (some d)) (pack (1 bits 1 ∷ 7 bits 0 ∷ 16 bits d ∷ [])) d
+    (rw append-nil at (field-first 3 (pack (1 bits 1 ∷ 7 bits 0 ∷ 16 bits d ∷ [])) [] (omega arith)))
     (omega arith) (omega arith)
 
 pub domains-read : (ds : Domains) → length ds ≡ mostDomains → Each DomainFits ds → domainsOf (domainsBytes ds) ≡ ds
@@ -151,7 +155,8 @@ module _ (v : Watch) (f : WatchFits v) where
   token : Octets
   token = padded longestToken (v .token)
 
-  read : WatchHead (bit (isRelative (v .place))) (bit (depthGiven (v .depth))) (depthOf (v .depth)) (v .owner) (length (placeText (v .place))) (length (v .token)) head
+  read : WatchHead (bit (isRelative (v .place))) (bit (depthGiven (v .depth))) (depthOf (v .depth)) (v .owner) (length (placeText (v .place)))
+      (length (v .token)) head
   unfolding head watchBits
   read =
       rw depth-bits
@@ -203,7 +208,8 @@ module _ (v : Watch) (f : WatchFits v) where
 
   some-watch-width : length (watchBytes (some v)) ≡ watchSize
   unfolding token
-  some-watch-width = ap length before-token ∙ (length-append (fields ++ place) (token ++ []) ∙ rw (length-front, append-nil (padded longestToken (v .token)), length-padded longestToken (v .token) (f .token)))
+  some-watch-width = ap length before-token ∙ (length-append (fields ++ place) (token ++ [])
+      ∙ rw (length-front, append-nil (padded longestToken (v .token)), length-padded longestToken (v .token) (f .token)))
 
   some-watch-read : watchIn (watchBytes (some v)) ≡ some v
   some-watch-read = watch-used (watchBytes (some v)) head head-read (read .used) ∙ ap some at-read
@@ -249,7 +255,8 @@ map-whole (x ∷ xs) = ap (λ (l : List Octets). x ∷ l) (map-whole xs)
 pub copies-read : (k : ℕ) (cs : List Octets) → Each (λ (c : Octets). length c ≡ k) cs → chunks (length cs) k (flatMap whole cs) ≡ cs
 unfolding chunks flatMap
 copies-read k [] h = refl
-copies-read k (c ∷ cs) h = rw (take-at c (flatMap whole cs) k (h .0), drop-at c (flatMap whole cs) k (h .0)) (ap (λ (l : List Octets). c ∷ l) (copies-read k cs (h .1)))
+copies-read k (c ∷ cs) h = rw (take-at c (flatMap whole cs) k (h .0), drop-at c (flatMap whole cs) k (h .0))
+    (ap (λ (l : List Octets). c ∷ l) (copies-read k cs (h .1)))
 
 -- a written copy changes its own bytes alone
 pub copy-written : (k : ℕ) (cs : List Octets) (i : ℕ) (c : Octets) → Each (λ (x : Octets). length x ≡ k) cs → length c ≡ k → i < length cs

@@ -13,10 +13,15 @@ use Rattle.rules.specs.Size.{slots, longestValue, mostEntries, deepest, 
 use Rattle.rules.specs.Octets.{Octets, chunks, bitsAt, field}
 use Rattle.rules.specs.Entries.{lowest, freeCount}
 use Rattle.rules.specs.Path.{Domain, Name, Names, isControl, shortNames, fits}
-use Rattle.rules.specs.Node.{Entry, Node, Table, Reached, root, freshTable, nodeAt, isChild, childFrom, child, reachFrom, reach, heir, newNode, lastValue, made, withValue, withEntries, within, clearedFrom, removed, withoutAll}
+use Rattle.rules.specs.Node.{
+  Entry, Node, Table, Reached, root, freshTable, nodeAt, isChild, childFrom, child, reachFrom, reach, heir, newNode, lastValue, made, withValue,
+  withEntries, within, clearedFrom, removed, withoutAll,
+}
 use Rattle.rules.specs.Rights.{mayWrite}
 use Rattle.rules.specs.Payload.{Ask, directory, read, getPerms, write, mkdir, rm, setPerms}
-use Rattle.rules.specs.Answer.{Answer, unchanged, changed, looked, sized, stocked, room, created, written, directoryMade, taken, maySet, permitted, answered, answer}
+use Rattle.rules.specs.Answer.{
+  Answer, unchanged, changed, looked, sized, stocked, room, created, written, directoryMade, taken, maySet, permitted, answered, answer,
+}
 use Rattle.rules.specs.Layout.{textAt, entryAt, nodeOf, slotOf, tableOf}
 use Rattle.rules.proofs.Cases.{cond-case, cond-known}
 use Rattle.rules.proofs.Tables.{Each, each-set}
@@ -33,7 +38,7 @@ entry-fits : (n k : ℕ) → EntryFits (entryAt n k)
 unfolding entryAt bitsAt
 entry-fits n k = record { access = mod-lt _ (omega arith); domain = mod-lt _ (omega arith) }
 
-take-each : {A : Type 0} (P : A → Type 0) (n : ℕ) (xs : List A) → Each P xs → Each P (take n xs)
+pub take-each : {A : Type 0} (P : A → Type 0) (n : ℕ) (xs : List A) → Each P xs → Each P (take n xs)
 take-each P zero xs e = tt
 take-each P (suc n) [] e = tt
 take-each P (suc n) (x ∷ xs) e = (e .0, take-each P n xs (e .1))
@@ -47,7 +52,8 @@ node-fits s head es =
       value = simp length-take (omega arith);
       owner = entry-fits es 3;
       few = simp length-take (omega arith);
-      others = take-each EntryFits (bitsAt head 0 3 - 1) (entryAt es 2 ∷ entryAt es 1 ∷ entryAt es 0 ∷ []) (entry-fits es 2, (entry-fits es 1, (entry-fits es 0, tt)));
+      others = take-each EntryFits (bitsAt head 0 3 - 1) (entryAt es 2 ∷ entryAt es 1 ∷ entryAt es 0 ∷ [])
+          (entry-fits es 2, (entry-fits es 1, (entry-fits es 0, tt)));
     }
 
 slot-fits : (s : Octets) → SlotFits (slotOf s)
@@ -66,7 +72,8 @@ decoded-fits s = record { all = go (chunks slots _ s); long = length-tableOf s }
 
 root-fits : NodeFits root
 unfolding root
-root-fits = record { parent = omega arith; name = omega arith; value = omega arith; owner = record { access = omega arith; domain = omega arith }; few = omega arith; others = tt }
+root-fits = record { parent = omega arith; name = omega arith; value = omega arith; owner = record { access = omega arith; domain = omega arith };
+    few = omega arith; others = tt }
 
 pub fresh-fits : Fitting freshTable
 unfolding freshTable
@@ -144,7 +151,8 @@ pub heir-fits : (d : Domain) (e : Entry) → d < 65536 → EntryFits e → Entry
 unfolding heir
 heir-fits d e h f = cond-case EntryFits (isControl d) _ _ f (record { access = f .access; domain = h })
 
-new-fits : (d : Domain) (t : Table) (p : ℕ) (n : Name) (v : Octets) → d < 65536 → TableFits t → p < 128 → length n ≤ 32 → length v ≤ 64 → NodeFits (newNode d t p n v)
+new-fits : (d : Domain) (t : Table) (p : ℕ) (n : Name) (v : Octets) → d < 65536 → TableFits t → p < 128 → length n ≤ 32 → length v ≤ 64 →
+    NodeFits (newNode d t p n v)
 unfolding newNode
 new-fits d t p n v h f hp hn hv =
     let u = nodeAt-fits t p f in
@@ -238,7 +246,8 @@ module _ (d : Domain) (ns : Names) (t : Table) (hd : d < 65536) (f : Fitting t) 
       (short-left ns t 0 (and-eq-true-iff (leb (length ns) deepest) (shortNames ns) .0 (s .1) .1)) (s .2) f) (λ h. f))
       f
 
-  answered-fits : (a : Ask) → AskFits a → (l : Names) (i : ℕ) → record { slot = i; left = l } ≡ reach t ns → Fine (answered d ns t a (record { slot = i; left = l }))
+  answered-fits : (a : Ask) → AskFits a → (l : Names) (i : ℕ) → record { slot = i; left = l } ≡ reach t ns →
+      Fine (answered d ns t a (record { slot = i; left = l }))
   unfolding answered looked written directoryMade taken permitted unchanged changed
   answered-fits directory h [] i e = f
   answered-fits directory h (n ∷ l) i e = f

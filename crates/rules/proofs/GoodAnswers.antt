@@ -15,7 +15,9 @@ use Rattle.rules.specs.Path.{Domain, Name, Names, isName, allNames, shor
 use Rattle.rules.specs.Node.{Entry, Node, Table, Reached, nodeAt, child, reachFrom, reach, withValue, withEntries}
 use Rattle.rules.specs.Rights.{mayWrite}
 use Rattle.rules.specs.Payload.{Ask, directory, read, getPerms, write, mkdir, rm, setPerms, onRoot, proper}
-use Rattle.rules.specs.Answer.{Reply, Change, Answer, unchanged, changed, looked, room, created, written, directoryMade, taken, maySet, permitted, answered, answer}
+use Rattle.rules.specs.Answer.{
+  Reply, Change, Answer, unchanged, changed, looked, room, created, written, directoryMade, taken, maySet, permitted, answered, answer,
+}
 use Rattle.rules.specs.Sound.{goodEntries, reachesRoot, goodChange}
 use Rattle.rules.proofs.Cases.{cond-case, cond-known}
 use Rattle.rules.proofs.Places.{nothing, some-is, At}
@@ -114,16 +116,19 @@ module _ (d : Domain) (ns : Names) (t : Table) (hd : d ≤ lastDomain) (g : Good
       (cond-known Fine (room d ns t (reach t ns .left) v) _ _ (λ h.
       let s = roomy d ns t (reach t ns .left) v h in
       let deep : length ns ≤ deepest = leb-true _ _ (and-eq-true-iff (leb (length ns) deepest) (shortNames ns) .0 (s .1) .0) in
-      made-good (reach t ns .left) (reach t ns .slot) (here .steps) d v t (here .node) g hd (here .used) (here .reaches) (omega (arith, here .count)) (here .names)
+      made-good (reach t ns .left) (reach t ns .slot) (here .steps) d v t (here .node) g hd (here .used) (here .reaches) (omega (arith, here .count))
+      (here .names)
       (s .2) (here .stops)) (λ h. g))
       g
 
   -- the slot's own node, with another value or other entries
   value-good : (i : ℕ) (n : Node) (v : Octets) → At t i n → Good (withValue t i v)
   unfolding withValue
-  value-good i n v e = rw (nodeAt-is t i n e) (rewritten t i n _ g e refl refl (g .entries i n e) (λ z. ap (λ (x : Node). x .owner .domain) (some-is (sym e ∙ (ap (λ (x : ℕ). getD t x none) z ∙ g .used))) ∙ g .control))
+  value-good i n v e = rw (nodeAt-is t i n e) (rewritten t i n _ g e refl refl (g .entries i n e)
+      (λ z. ap (λ (x : Node). x .owner .domain) (some-is (sym e ∙ (ap (λ (x : ℕ). getD t x none) z ∙ g .used))) ∙ g .control))
 
-  entries-good : (i : ℕ) (n : Node) (o : Entry) (es : List Entry) → At t i n → goodEntries (o ∷ es) ≡ true → (i ≡ 0 → o .domain ≡ 0) → Good (withEntries t i o es)
+  entries-good : (i : ℕ) (n : Node) (o : Entry) (es : List Entry) → At t i n → goodEntries (o ∷ es) ≡ true → (i ≡ 0 → o .domain ≡ 0) →
+      Good (withEntries t i o es)
   unfolding withEntries
   entries-good i n o es e h z = rw (nodeAt-is t i n e) (rewritten t i n _ g e refl refl h z)
 
@@ -132,7 +137,8 @@ module _ (d : Domain) (ns : Names) (t : Table) (hd : d ≤ lastDomain) (g : Good
   unfolding proper
   at-root a i p e z = rw (here .top (ap Reached.left e) (ap Reached.slot e ∙ z) .0) at p
 
-  answered-good : (a : Ask) → AskGood a → proper a ns ≡ true → (l : Names) (i : ℕ) → reach t ns ≡ record { slot = i; left = l } → Fine (answered d ns t a (record { slot = i; left = l }))
+  answered-good : (a : Ask) → AskGood a → proper a ns ≡ true → (l : Names) (i : ℕ) → reach t ns ≡ record { slot = i; left = l } →
+      Fine (answered d ns t a (record { slot = i; left = l }))
   unfolding answered looked written directoryMade taken permitted unchanged changed onRoot
   answered-good directory h p [] i e = g
   answered-good directory h p (n ∷ l) i e = g
@@ -151,12 +157,14 @@ module _ (d : Domain) (ns : Names) (t : Table) (hd : d ≤ lastDomain) (g : Good
   answered-good rm h p (n ∷ l) i e = g
   answered-good (setPerms o es) h p [] i e =
       cond-case Fine (maySet d ns t (nodeAt t i) o) _ _
-      (cond-case Fine (leb (suc (length es)) mostEntries) _ _ (let f = subst (Found t ns 0 0) e here in entries-good i (f .node) o es (f .used) h (λ z. control-zero _ (at-root (setPerms o es) i p e z))) g)
+      (cond-case Fine (leb (suc (length es)) mostEntries) _ _ (let f = subst (Found t ns 0 0) e here in entries-good i (f .node) o es (f .used) h
+      (λ z. control-zero _ (at-root (setPerms o es) i p e z))) g)
       g
   answered-good (setPerms o es) h p (n ∷ l) i e = g
 
 -- a node request's table is good where the one before it was
-pub answer-good : (d : Domain) (a : Ask) (ns : Names) (t : Table) → d ≤ lastDomain → AskGood a → allNames ns ≡ true → proper a ns ≡ true → Good t → Good (answer d a ns t .table)
+pub answer-good : (d : Domain) (a : Ask) (ns : Names) (t : Table) → d ≤ lastDomain → AskGood a → allNames ns ≡ true → proper a ns ≡ true → Good t →
+    Good (answer d a ns t .table)
 unfolding answer
 answer-good d a ns t hd ha hn hp g = answered-good d ns t hd g hn a ha hp (reach t ns .left) (reach t ns .slot) refl
 
@@ -195,7 +203,8 @@ unfolding reachFrom shortNames
 short-there t f [] i l = refl
 short-there t f (name ∷ ns) i l = go (child t i name) refl l (short-there t f ns)
   where
-    go : (m : Option ℕ) → child t i name ≡ m → (elim m as (λ m. Reached) [ none ↦ record { slot = i; left = name ∷ ns } | some j ↦ reachFrom ns t j ]) .left ≡ []
+    go : (m : Option ℕ) → child t i name ≡ m → (elim m as (λ m. Reached) [ none ↦ record { slot = i; left = name ∷ ns } | some j ↦ reachFrom ns t j ]) .left
+        ≡ []
         → ((i : ℕ) → reachFrom ns t i .left ≡ [] → shortNames ns ≡ true) → (leb (length name) longestName && shortNames ns) ≡ true
     go none x l h = absurd (cons≢nil l)
     go (some j) x l h =
@@ -235,7 +244,8 @@ module _ (d : Domain) (ns : Names) (t : Table) (g : Good t) (f : Fitting t) (nam
       (cond-known Told (room d ns t (r .left) v) _ _ (λ h. told false _ (roomy d ns t (r .left) v h .1) (λ b. absurd (false≢true b))) (λ h. untold _))
       (untold _)
 
-  answered-told : (a : Ask) → proper a ns ≡ true → (l : Names) (i : ℕ) → reach t ns ≡ record { slot = i; left = l } → Told (answered d ns t a (record { slot = i; left = l }))
+  answered-told : (a : Ask) → proper a ns ≡ true → (l : Names) (i : ℕ) → reach t ns ≡ record { slot = i; left = l } →
+      Told (answered d ns t a (record { slot = i; left = l }))
   unfolding answered looked written directoryMade taken permitted onRoot proper
   answered-told directory p [] i e = untold _
   answered-told directory p (n ∷ l) i e = untold _
@@ -244,15 +254,18 @@ module _ (d : Domain) (ns : Names) (t : Table) (g : Good t) (f : Fitting t) (nam
   answered-told getPerms p [] i e = untold _
   answered-told getPerms p (n ∷ l) i e = untold _
   answered-told (write v) p [] i e =
-      cond-case Told (mayWrite d (nodeAt t i)) _ _ (cond-case Told (leb (length v) longestValue) _ _ (told false _ (there-fits t g f ns names (ap Reached.left e)) (λ b. absurd (false≢true b))) (untold _)) (untold _)
+      cond-case Told (mayWrite d (nodeAt t i)) _ _ (cond-case Told (leb (length v) longestValue) _ _
+      (told false _ (there-fits t g f ns names (ap Reached.left e)) (λ b. absurd (false≢true b))) (untold _)) (untold _)
   answered-told (write v) p (n ∷ l) i e = created-told _ v
   answered-told mkdir p [] i e = untold _
   answered-told mkdir p (n ∷ l) i e = created-told _ []
-  answered-told rm p [] i e = cond-case Told (mayWrite d (nodeAt t i)) _ _ (told true _ (there-fits t g f ns names (ap Reached.left e)) (λ b z. false≢true (rw (z, proper) at p))) (untold _)
+  answered-told rm p [] i e = cond-case Told (mayWrite d (nodeAt t i)) _ _
+      (told true _ (there-fits t g f ns names (ap Reached.left e)) (λ b z. false≢true (rw (z, proper) at p))) (untold _)
   answered-told rm p (n ∷ l) i e = untold _
   answered-told (setPerms o es) p [] i e =
       cond-case Told (maySet d ns t (nodeAt t i) o) _ _
-      (cond-case Told (leb (suc (length es)) mostEntries) _ _ (told false _ (there-fits t g f ns names (ap Reached.left e)) (λ b. absurd (false≢true b))) (untold _)) (untold _)
+      (cond-case Told (leb (suc (length es)) mostEntries) _ _ (told false _ (there-fits t g f ns names (ap Reached.left e)) (λ b. absurd (false≢true b)))
+      (untold _)) (untold _)
   answered-told (setPerms o es) p (n ∷ l) i e = untold _
 
 -- a node request's change names its path, within the sizes

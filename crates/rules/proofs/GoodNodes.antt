@@ -39,7 +39,8 @@ rewritten t i n m g e hp hn he hr =
       named = λ j x q. set-cases (isName (x .name) ≡ true) t i (suc j) (some m) x q (λ r p. named j x r p) (λ r p. g .named j x p);
       entries = λ j x q. set-cases (goodEntries (x .owner ∷ x .others) ≡ true) t i j (some m) x q (λ r p. rw (← some-is p) he) (λ r p. g .entries j x p);
       reaches = λ j x q. reaches-kept deepest t u j keep (let w = was j x q in g .reaches j (w .0) (w .1));
-      apart = λ j k x y p q a b. let v = was j x p in let w = was k y q in g .apart j k (v .0) (w .0) (v .1) (w .1) (sym (v .2) ∙ (a ∙ w .2)) (sym (v .3) ∙ (b ∙ w .3));
+      apart = λ j k x y p q a b. let v = was j x p in let w = was k y q in g .apart j k (v .0) (w .0) (v .1) (w .1) (sym (v .2) ∙ (a ∙ w .2))
+          (sym (v .3) ∙ (b ∙ w .3));
     }
   where
     u : Table
@@ -90,7 +91,8 @@ added t j k n parent g free l hp hn he hr hk alone = (
     control = g .control;
     named = λ i x q. set-cases (isName (x .name) ≡ true) t j (suc i) (some n) x q (λ r p. rw (← some-is p) hn) (λ r p. g .named i x p);
     entries = λ i x q. set-cases (goodEntries (x .owner ∷ x .others) ≡ true) t j i (some n) x q (λ r p. rw (← some-is p) he) (λ r p. g .entries i x p);
-    reaches = λ i x q. set-cases (reachesRoot deepest u i ≡ true) t j i (some n) x q (λ r p. rw r deep) (λ r p. reaches-kept deepest t u i keep (g .reaches i x p));
+    reaches = λ i x q. set-cases (reachesRoot deepest u i ≡ true) t j i (some n) x q (λ r p. rw r deep)
+        (λ r p. reaches-kept deepest t u i keep (g .reaches i x p));
     apart = λ i i′ x y p q a b.
         set-cases (i ≡ i′) t j i (some n) x p
         (λ r f. set-cases (i ≡ i′) t j i′ (some n) y q (λ v h. r ∙ sym v)
@@ -132,14 +134,16 @@ new-good d t p name v m g h e =
     and-eq-true-iff (leb (heir d (m .owner) .domain) lastDomain) (goodEntries (m .others)) .1 (heir-good d (m .owner) h (q .0), q .1))
 
 -- a slot that was free has no children
-fresh-slot : (t : Table) → Good t → (j : ℕ) (n : Node) (i : ℕ) (y : Node) → getD t j none ≡ none → (n .parent ≡ j → ⊥) → At (set t j (some n)) i y → y .parent ≡ j → ⊥
+fresh-slot : (t : Table) → Good t → (j : ℕ) (n : Node) (i : ℕ) (y : Node) → getD t j none ≡ none → (n .parent ≡ j → ⊥) → At (set t j (some n)) i y →
+    y .parent ≡ j → ⊥
 fresh-slot t g j n i y free h w u =
     set-cases ⊥ t j i (some n) y w (λ r p. h (ap Node.parent (some-is p) ∙ u))
     (λ r p. let m = parent-used t g i y p in nothing (sym free ∙ (ap (λ (k : ℕ). getD t k none) (sym u) ∙ m .1)))
 
 -- names made one below the other
 pub made-good : (ns : Names) (p k : ℕ) (d : Domain) (v : Octets) (t : Table) (m : Node) → Good t → d ≤ lastDomain → At t p m → reachesRoot k t p ≡ true
-    → k + length ns ≤ deepest → allNames ns ≡ true → length ns ≤ freeCount t → ((name : Name) (rest : Names) → ns ≡ name ∷ rest → NoChild t p name) → Good (made ns p d v t)
+    → k + length ns ≤ deepest → allNames ns ≡ true → length ns ≤ freeCount t → ((name : Name) (rest : Names) → ns ≡ name ∷ rest → NoChild t p name) → Good
+    (made ns p d v t)
 unfolding made allNames newNode
 made-good [] p k d v t m g hd e hr hk hn hf alone = g
 made-good (name ∷ ns) p k d v t m g hd e hr hk hn hf alone =
@@ -147,9 +151,11 @@ made-good (name ∷ ns) p k d v t m g hd e hr hk hn hf alone =
     let n = newNode d t p name (lastValue ns v) in
     let j = lowest t in
     let q = and-eq-true-iff (isName name) (allNames ns) .0 hn in
-    let a = added t j k n m g (lowest-free t) (lowest-below t free) e (q .0) (new-good d t p name (lastValue ns v) m g hd e) hr (omega arith) (alone name ns refl) in
+    let a = added t j k n m g (lowest-free t) (lowest-below t free) e (q .0) (new-good d t p name (lastValue ns v) m g hd e) hr (omega arith)
+    (alone name ns refl) in
     made-good ns j (suc k) d v (set t j (some n)) n (a .0) hd (getD-set-same t j (some n) none (lowest-below t free)) (a .1) (omega arith) (q .1)
-    (omega (arith, free-fewer t n free)) (λ x rest r i y w u z. fresh-slot t g j n i y (lowest-free t) (λ b. nothing (sym (lowest-free t) ∙ (ap (λ (x : ℕ). getD t x none) (sym b) ∙ e))) w u)
+    (omega (arith, free-fewer t n free)) (λ x rest r i y w u z. fresh-slot t g j n i y (lowest-free t)
+    (λ b. nothing (sym (lowest-free t) ∙ (ap (λ (x : ℕ). getD t x none) (sym b) ∙ e))) w u)
 
 -- ── removed nodes ──
 
@@ -170,7 +176,8 @@ at-cleared t i k (s ∷ ss) zero n e h = rw (rw add-zero at h) e
 at-cleared t i k (s ∷ ss) (suc j) n e h = at-cleared t i (suc k) ss j n e (rw (add-suc, ← suc-add k j) at h)
 
 -- a slot's own removal, or its parent's
-pub within-cases : (k : ℕ) (t : Table) (i j : ℕ) (n : Node) → At t j n → (j ≡ 0 → ⊥) → within (suc k) t i j ≡ false → (eqb i j ≡ false) × (within k t i (n .parent) ≡ false)
+pub within-cases : (k : ℕ) (t : Table) (i j : ℕ) (n : Node) → At t j n → (j ≡ 0 → ⊥) → within (suc k) t i j ≡ false →
+    (eqb i j ≡ false) × (within k t i (n .parent) ≡ false)
 unfolding within
 within-cases k t i j n e z h = go (eqb i j) (rw (ne-eqb j 0 z, nodeAt-is t j n e) at h)
   where

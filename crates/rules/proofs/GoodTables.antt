@@ -43,7 +43,8 @@ pub node-at : (t : Table) (k : ℕ) (ss : Table) → goodNodes t k ss ≡ true �
 unfolding goodNodes
 node-at t k [] h i l = absurd (omega arith)
 node-at t k (s ∷ ss) h zero l = rw add-zero (and-eq-true-iff (goodNode t k s) (goodNodes t (suc k) ss) .0 h .0)
-node-at t k (s ∷ ss) h (suc i) l = rw (suc-shift k i) at (node-at t (suc k) ss (and-eq-true-iff (goodNode t k s) (goodNodes t (suc k) ss) .0 h .1) i (omega arith))
+node-at t k (s ∷ ss) h (suc i) l = rw (suc-shift k i) at (node-at t (suc k) ss (and-eq-true-iff (goodNode t k s) (goodNodes t (suc k) ss) .0 h .1) i
+    (omega arith))
   where
     suc-shift : (k i : ℕ) → suc k + i ≡ k + suc i
     suc-shift k i = omega arith
@@ -124,7 +125,9 @@ pub of-good : (t : Table) → Good t → goodTable t ≡ true
 unfolding goodTable goodRoot goodName goodNode
 of-good t g =
     and-eq-true-iff (goodNodes t 0 t) (goodRoot (nodeAt t 0) && distinct t) .1
-    (at-node t 0 t (λ i l. rw zero-add (slot i (getD t i none) refl)), and-eq-true-iff (goodRoot (nodeAt t 0)) (distinct t) .1 (rooted, distinct-is t ∙ one-related clash t (λ i j n m p q c. let r = clashed n m c in g .apart i j n m p q (r .0) (r .1))))
+    (at-node t 0 t (λ i l. rw zero-add (slot i (getD t i none) refl)),
+    and-eq-true-iff (goodRoot (nodeAt t 0)) (distinct t) .1 (rooted, distinct-is t
+    ∙ one-related clash t (λ i j n m p q c. let r = clashed n m c in g .apart i j n m p q (r .0) (r .1))))
   where
     name : (i : ℕ) (n : Node) → At t i n → goodName i (n .name) ≡ true
     name zero n e = eq-same (ap Node.name (some-is (sym e ∙ g .used)) ∙ g .nameless)
@@ -138,7 +141,8 @@ of-good t g =
         (name i n e, and-eq-true-iff (goodEntries (n .owner ∷ n .others)) (reachesRoot deepest t i) .1 (g .entries i n e, g .reaches i n e))
 
     rooted : goodRoot (nodeAt t 0) ≡ true
-    rooted = rw (nodeAt-is t 0 (g .root) (g .used)) (and-eq-true-iff (eqb (g .root .parent) 0) (isControl (g .root .owner .domain)) .1 (eq-eqb _ _ (g .own-parent), zero-control _ (g .control)))
+    rooted = rw (nodeAt-is t 0 (g .root) (g .used)) (and-eq-true-iff (eqb (g .root .parent) 0) (isControl (g .root .owner .domain)) .1
+        (eq-eqb _ _ (g .own-parent), zero-control _ (g .control)))
 
 -- ── looking up a child ──
 
@@ -156,7 +160,8 @@ child-from p name k (s ∷ t) j e = go s (isChild p name s) refl e (child-from p
   where
     go : (s : Option Node) (b : Bool) → isChild p name s ≡ b → cond b (some k) (childFrom p name (suc k) t) ≡ some j
         → (childFrom p name (suc k) t ≡ some j → (i : ℕ) × (j ≡ suc k + i) × IsChild t p name i) → (i : ℕ) × (j ≡ k + i) × IsChild (s ∷ t) p name i
-    go s false h q f = let r = f q in (suc (r .0), omega (arith, r .1), record { node = r .2 .node; used = r .2 .used; parent = r .2 .parent; named = r .2 .named })
+    go s false h q f = let r = f q in (suc (r .0), omega (arith, r .1),
+        record { node = r .2 .node; used = r .2 .used; parent = r .2 .parent; named = r .2 .named })
     go none true h q f = absurd (false≢true h)
     go (some n) true h q f =
         let r = and-eq-true-iff (eqb (n .parent) p) (same (n .name) name) .0 h in

@@ -39,7 +39,9 @@ module _ (k : ℕ) (ids : Octets) (n : ℕ) (eight : length ids ≡ 8) where
   pub header-put : (l l₁ l₂ l₃ : Octets) → l₁ ≡ paste 0 (fourBytes k) l → l₂ ≡ paste 4 ids l₁ → l₃ ≡ paste 12 (fourBytes n) l₂ →
       l₃ ≡ paste 0 (fourBytes k ++ (ids ++ fourBytes n)) l
   header-put l l₁ l₂ l₃ e₁ e₂ e₃ =
-      let a : l₂ ≡ paste 0 (fourBytes k ++ ids) l = e₂ ∙ (ap (paste 4 ids) e₁ ∙ paste-behind 0 4 (fourBytes k) ids l (omega arith) (let e : 4 ≡ 0 + length (fourBytes k) = rw four refl in e)) in
+      let a : l₂ ≡ paste 0 (fourBytes k ++ ids) l = e₂ ∙ (ap (paste 4 ids) e₁
+      ∙ paste-behind 0 4 (fourBytes k) ids l (omega arith) (let e : 4 ≡ 0 + length (fourBytes k) = rw four refl in e)) in
       let w : length (fourBytes k ++ ids) ≡ 12 = rw (length-append, four, eight) refl in
-      e₃ ∙ (ap (paste 12 (fourBytes n)) a ∙ (paste-behind 0 12 (fourBytes k ++ ids) _ l (omega arith) (let e : 12 ≡ 0 + length (fourBytes k ++ ids) = rw w refl in e)
+      e₃ ∙ (ap (paste 12 (fourBytes n)) a ∙ (paste-behind 0 12 (fourBytes k ++ ids) _ l (omega arith)
+      (let e : 12 ≡ 0 + length (fourBytes k ++ ids) = rw w refl in e)
       ∙ ap (λ (x : Octets). paste 0 x l) (append-assoc (fourBytes k) ids (fourBytes n))))

@@ -23,7 +23,8 @@ unfolding staled
 getD-staled [] k y e = absurd (nothing e)
 getD-staled (none ∷ xs) zero y e = absurd (nothing e)
 getD-staled (none ∷ xs) (suc k) y e = getD-staled xs k y e
-getD-staled (some x ∷ xs) zero y e = (x, refl, ap Transaction.holder (sym (some-is e)), ap Transaction.stale (sym (some-is e)), ap Transaction.changes (sym (some-is e)))
+getD-staled (some x ∷ xs) zero y e = (x, refl, ap Transaction.holder (sym (some-is e)), ap Transaction.stale (sym (some-is e)),
+    ap Transaction.changes (sym (some-is e)))
 getD-staled (some x ∷ xs) (suc k) y e = getD-staled xs k y e
 
 length-staled : (xs : Transactions) → length (staled xs) ≡ length xs
@@ -45,7 +46,8 @@ empty-mapped f (x ∷ xs) = refl
 
 -- ── the transaction that a request names ──
 
-pub named : (w : World) (tx : ℕ) (c : Connection) (x : Transaction) → transactionOf w c tx ≡ some x → (getD (w .transactions) (tx - 1) none ≡ some x) × (c ≡ x .holder)
+pub named : (w : World) (tx : ℕ) (c : Connection) (x : Transaction) → transactionOf w c tx ≡ some x →
+    (getD (w .transactions) (tx - 1) none ≡ some x) × (c ≡ x .holder)
 unfolding transactionOf
 named w zero c x e = absurd (nothing e)
 named w (suc k) c x e = rw sub-one (go (getD (w .transactions) k none) e)

@@ -45,7 +45,8 @@ distinct-flat : (R : ℕ → ℕ → Type 0) → ((i j x : ℕ) → R i x → R 
     → Each (λ (i : ℕ). Distinct (f i)) is → Each (λ (i : ℕ). Each (R i) (f i)) is → Distinct (flatMap f is)
 unfolding flatMap
 distinct-flat R one f [] d e r = tt
-distinct-flat R one f (i ∷ is) d e r = distinct-append (f i) (flatMap f is) (e .0) (distinct-flat R one f is (d .1) (e .1) (r .1)) (each-map (R i) _ told (f i) (r .0))
+distinct-flat R one f (i ∷ is) d e r = distinct-append (f i) (flatMap f is) (e .0) (distinct-flat R one f is (d .1) (e .1) (r .1))
+    (each-map (R i) _ told (f i) (r .0))
   where
     told : (x : ℕ) → R i x → Each (Differ x) (flatMap f is)
     told x p = each-flat (Differ x) f is
@@ -61,12 +62,14 @@ but n (i ∷ is) = cond (eqb n i) (but n is) (i ∷ but n is)
 each-but : (P Q : ℕ → Type 0) (n : ℕ) → ((i : ℕ) → Differ n i → P i → Q i) → (is : List ℕ) → Each P is → Each Q (but n is)
 unfolding but
 each-but P Q n f [] e = tt
-each-but P Q n f (i ∷ is) e = cond-known (Each Q) (eqb n i) _ _ (λ h. each-but P Q n f is (e .1)) (λ h. (f i (eqb-false n i h) (e .0), each-but P Q n f is (e .1)))
+each-but P Q n f (i ∷ is) e = cond-known (Each Q) (eqb n i) _ _ (λ h. each-but P Q n f is (e .1))
+    (λ h. (f i (eqb-false n i h) (e .0), each-but P Q n f is (e .1)))
 
 distinct-but : (n : ℕ) (is : List ℕ) → Distinct is → Distinct (but n is)
 unfolding but
 distinct-but n [] d = tt
-distinct-but n (i ∷ is) d = cond-case Distinct (eqb n i) _ _ (distinct-but n is (d .1)) (each-but (Differ i) (Differ i) n (λ j z h. h) is (d .0), distinct-but n is (d .1))
+distinct-but n (i ∷ is) d = cond-case Distinct (eqb n i) _ _ (distinct-but n is (d .1))
+    (each-but (Differ i) (Differ i) n (λ j z h. h) is (d .0), distinct-but n is (d .1))
 
 but-none : (n : ℕ) (is : List ℕ) → Each (Differ n) is → length is ≤ length (but n is)
 unfolding but
@@ -86,7 +89,8 @@ pub few-distinct : (n : ℕ) (is : List ℕ) → Distinct is → Each (λ (i : �
 few-distinct zero [] d e = omega arith
 few-distinct zero (i ∷ is) d e = absurd (not-suc-le-zero (e .0))
 few-distinct (suc n) is d e =
-    omega (arith, but-one n is d, few-distinct n (but n is) (distinct-but n is d) (each-but (λ (i : ℕ). i < suc n) (λ (i : ℕ). i < n) n (λ i z h. low i z h) is e))
+    omega (arith, but-one n is d, few-distinct n (but n is) (distinct-but n is d)
+    (each-but (λ (i : ℕ). i < suc n) (λ (i : ℕ). i < n) n (λ i z h. low i z h) is e))
   where
     low : (i : ℕ) → Differ n i → i < suc n → i < n
     low i z h = omega (arith, z)
@@ -102,7 +106,8 @@ level-one : (t : Table) (m k j : ℕ) → Level t m j → Level t k j → m ≡ 
 level-one t zero zero j p q = refl
 level-one t zero (suc k) j p q = absurd (q .0 p)
 level-one t (suc m) zero j p q = absurd (p .0 q)
-level-one t (suc m) (suc k) j p q = ap suc (level-one t m k (p .1 .parent) (p .3) (subst (λ (n : Node). Level t k (n .parent)) (some-is (sym (q .2) ∙ p .2)) (q .3)))
+level-one t (suc m) (suc k) j p q = ap suc (level-one t m k (p .1 .parent) (p .3)
+    (subst (λ (n : Node). Level t k (n .parent)) (some-is (sym (q .2) ∙ p .2)) (q .3)))
 
 -- the slot q levels above slot j
 up : Table → ℕ → ℕ → ℕ
@@ -135,7 +140,8 @@ distinct-insert : (t : Table) (j : ℕ) (ks : List ℕ) → Each (Differ j) ks �
 unfolding insert
 distinct-insert t j [] e d = (tt, tt)
 distinct-insert t j (k ∷ ks) e d =
-    cond-case Distinct (less (nodeAt t j .name) (nodeAt t k .name)) _ _ (e, d) (each-insert (Differ k) t j ks (λ h. e .0 (sym h)) (d .0), distinct-insert t j ks (e .1) (d .1))
+    cond-case Distinct (less (nodeAt t j .name) (nodeAt t k .name)) _ _ (e, d)
+    (each-insert (Differ k) t j ks (λ h. e .0 (sym h)) (d .0), distinct-insert t j ks (e .1) (d .1))
 
 has-parent : (p : ℕ) (x : Option Node) → hasParent p x ≡ true → (n : Node) × (x ≡ some n) × (n .parent ≡ p)
 unfolding hasParent
@@ -152,21 +158,24 @@ module _ (t : Table) (p : ℕ) where
     earlier : Each (Found i) (childrenFrom t p (suc i) ss)
     earlier = each-map (Found (suc i)) (Found i) (λ j h. (omega (arith, h .0), h .1)) (childrenFrom t p (suc i) ss) (rest .0)
 
-    found-here : (hasParent p s && not (eqb i 0)) ≡ true → Each (Found i) (insert t i (childrenFrom t p (suc i) ss)) × Distinct (insert t i (childrenFrom t p (suc i) ss))
+    found-here : (hasParent p s && not (eqb i 0)) ≡ true → Each (Found i) (insert t i (childrenFrom t p (suc i) ss))
+        × Distinct (insert t i (childrenFrom t p (suc i) ss))
     found-here h =
         let b = and-eq-true-iff (hasParent p s) (not (eqb i 0)) .0 h in
         let n = has-parent p s (b .0) in
         let z : i ≡ 0 → ⊥ = λ e. true≢false (sym (b .1) ∙ ap not (eq-eqb i 0 e)) in
         let a : At t i (n .0) = ap (λ (k : ℕ). getD t k none) (sym (add-zero i)) ∙ sym (f 0) ∙ n .1 in (
           each-insert (Found i) t i (childrenFrom t p (suc i) ss) (omega arith, (z, n .0, a, n .2)) earlier,
-          distinct-insert t i (childrenFrom t p (suc i) ss) (each-map (Found (suc i)) (Differ i) (λ j q e. absurd (omega (arith, q .0, e))) (childrenFrom t p (suc i) ss) (rest .0)) (rest .1),
+          distinct-insert t i (childrenFrom t p (suc i) ss) (each-map (Found (suc i)) (Differ i) (λ j q e. absurd (omega (arith, q .0, e)))
+          (childrenFrom t p (suc i) ss) (rest .0)) (rest .1),
         )
 
     found-more : Each (Found i) (childrenFrom t p i (s ∷ ss)) × Distinct (childrenFrom t p i (s ∷ ss))
     unfolding childrenFrom
     found-more = cond-known (λ (l : List ℕ). Each (Found i) l × Distinct l) (hasParent p s && not (eqb i 0)) _ _ found-here (λ h. (earlier, rest .1))
 
-  found-from : (i : ℕ) (ss : Table) → ((j : ℕ) → getD ss j none ≡ getD t (i + j) none) → Each (Found i) (childrenFrom t p i ss) × Distinct (childrenFrom t p i ss)
+  found-from : (i : ℕ) (ss : Table) → ((j : ℕ) → getD ss j none ≡ getD t (i + j) none) →
+      Each (Found i) (childrenFrom t p i ss) × Distinct (childrenFrom t p i ss)
   unfolding childrenFrom
   found-from i [] f = (tt, tt)
   found-from i (s ∷ ss) f = found-more i s ss f (found-from (suc i) ss (λ j. f (suc j) ∙ ap (λ (k : ℕ). getD t k none) (add-suc i j ∙ sym (suc-add i j))))
@@ -205,7 +214,8 @@ module _ (t : Table) (d : Domain) where
 
   walk-on : (m i : ℕ) (f : ℕ → List ℕ) → ((c : ℕ) → Child t i c → Walked (suc m) c (f c)) → Walked m i (flatMap f (children t i))
   walk-on m i f below = (
-    each-flat (Lists t d m i) f (children t i) (each-map (Child t i) _ (λ c s. each-map (Lists t d (suc m) c) (Lists t d m i) (higher m i c s) (f c) (below c s .0)) (children t i) (children-are t i)),
+    each-flat (Lists t d m i) f (children t i) (each-map (Child t i) _
+    (λ c s. each-map (Lists t d (suc m) c) (Lists t d m i) (higher m i c s) (f c) (below c s .0)) (children t i) (children-are t i)),
     distinct-flat (Lists t d (suc m)) (λ a b x p q. under-one t (suc m) a b x (p .0) (q .0)) f (children t i) (children-distinct t i)
         (each-map (Child t i) _ (λ c s. below c s .1) (children t i) (children-are t i))
         (each-map (Child t i) _ (λ c s. below c s .0) (children t i) (children-are t i)),
@@ -232,12 +242,14 @@ module _ (t : Table) (g : Good t) (d : Domain) (positive : 1 ≤ d) where
     where
       other : j ≡ 0 → ⊥
       other e =
-          let o : nodeAt t j .owner .domain ≡ 0 = ap (λ (x : ℕ). nodeAt t x .owner .domain) e ∙ ap (λ (n : Node). n .owner .domain) (nodeAt-is t 0 (g .root) (g .used)) ∙ g .control in
+          let o : nodeAt t j .owner .domain ≡ 0 = ap (λ (x : ℕ). nodeAt t x .owner .domain) e
+          ∙ ap (λ (n : Node). n .owner .domain) (nodeAt-is t 0 (g .root) (g .used)) ∙ g .control in
           omega (arith, q .1)
 
       go : (m : ℕ) → Level t m j → OwnedSlot t d j
       go zero e = absurd (other e)
-      go (suc m) l = record { node = l .1; used = l .2; owner = ap (λ (n : Node). n .owner .domain) (sym (nodeAt-is t j (l .1) (l .2))) ∙ q .1; not-root = other }
+      go (suc m) l = record { node = l .1; used = l .2; owner = ap (λ (n : Node). n .owner .domain) (sym (nodeAt-is t j (l .1) (l .2)))
+          ∙ q .1; not-root = other }
 
   -- each is used, the domain's and not the root
   pub owned-slots : Each (OwnedSlot t d) (ownedBy t d)

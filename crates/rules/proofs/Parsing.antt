@@ -11,7 +11,11 @@ use Rattle.rules.specs.Size.{lastDomain, deepestWatch}
 use Rattle.rules.specs.Octets.{Octets, text, nul, same, numberIn, signed}
 use Rattle.rules.specs.Path.{Domain, Connection, domainOf, Names, Given, malformed, absolute, relative, special, given, allNames, base, slashed, beyond}
 use Rattle.rules.specs.Node.{Entry}
-use Rattle.rules.specs.Payload.{Ask, directory, read, getPerms, write, mkdir, rm, setPerms, Place, Request, ask, release, domainPath, isIntroduced, Parsed, invalid, request, Taken, before, ended, strings, firstString, accessLetter, entryOf, entriesOf, namesOf, placeOf, proper, asking, plain, writing, setting, settingAll, depthFor, watchingTo, watchPayload, unwatchPayload, introducingOf, introducePayload, ofDomain, bare, startPayload, endPayload, parse}
+use Rattle.rules.specs.Payload.{
+  Ask, directory, read, getPerms, write, mkdir, rm, setPerms, Place, Request, ask, release, domainPath, isIntroduced, Parsed, invalid, request, Taken,
+  before, ended, strings, firstString, accessLetter, entryOf, entriesOf, namesOf, placeOf, proper, asking, plain, writing, setting, settingAll,
+  depthFor, watchingTo, watchPayload, unwatchPayload, introducingOf, introducePayload, ofDomain, bare, startPayload, endPayload, parse,
+}
 use Rattle.rules.proofs.Cases.{cond-case, cond-known}
 use Rattle.rules.specs.Sound.{goodEntries, noNul, strictlyBelow}
 use Rattle.rules.proofs.Decimals.{range-bounds}
@@ -40,7 +44,8 @@ range low high s = go (numberIn low high s) refl
 letter : (c : ℕ) → Whenever (λ (a : ℕ). a < 4) (accessLetter c)
 unfolding accessLetter
 letter c =
-    cond-case P (eqb c 110) _ _ (omega arith) (cond-case P (eqb c 114) _ _ (omega arith) (cond-case P (eqb c 119) _ _ (omega arith) (cond-case P (eqb c 98) _ _ (omega arith) tt)))
+    cond-case P (eqb c 110) _ _ (omega arith) (cond-case P (eqb c 114) _ _ (omega arith)
+    (cond-case P (eqb c 119) _ _ (omega arith) (cond-case P (eqb c 98) _ _ (omega arith) tt)))
   where
     P : Option ℕ → Type 0
     P = Whenever (λ (a : ℕ). a < 4)
@@ -140,7 +145,8 @@ module _ (c : Connection) where
   unfolding asking
   asking-good a s g f = go (namesOf (domainOf c) (given s)) (names-are (domainOf c) s)
     where
-      go : (m : Option Names) → Whenever (λ (ns : Names). allNames ns ≡ true) m → Fine (elim m [ none ↦ invalid | some ns ↦ cond (proper a ns) (request (ask a ns)) invalid ])
+      go : (m : Option Names) → Whenever (λ (ns : Names). allNames ns ≡ true) m →
+          Fine (elim m [ none ↦ invalid | some ns ↦ cond (proper a ns) (request (ask a ns)) invalid ])
       go none h = tt
       go (some ns) h = cond-known Fine (proper a ns) _ _ (λ e. record { names = h; proper = e; entries = g; fits = f }) (λ e. tt)
 
@@ -160,7 +166,8 @@ module _ (c : Connection) where
   unfolding setting
   setting-good s none h = tt
   setting-good s (some []) h = tt
-  setting-good s (some (o ∷ es)) h = asking-good (setPerms o es) s (all-good (o ∷ es) h) (h .0 .fits, each-map EntryGood EntryFits (λ (e : Entry) (g : EntryGood e). g .fits) es (h .1))
+  setting-good s (some (o ∷ es)) h = asking-good (setPerms o es) s (all-good (o ∷ es) h)
+      (h .0 .fits, each-map EntryGood EntryFits (λ (e : Entry) (g : EntryGood e). g .fits) es (h .1))
 
   settingAll-good : (ss : Option (List Octets)) → Fine (settingAll (domainOf c) ss)
   unfolding settingAll
@@ -168,12 +175,14 @@ module _ (c : Connection) where
   settingAll-good (some []) = tt
   settingAll-good (some (s ∷ ss)) = setting-good s (entriesOf ss) (entries-are ss)
 
-  watchingTo-good : (p : Place) (t : Octets) (k : Option ℕ) → PlaceGood c p → noNul t ≡ true → Whenever (λ (n : ℕ). (0 ≤ n) × (n ≤ deepestWatch)) k → Fine (watchingTo p t k)
+  watchingTo-good : (p : Place) (t : Octets) (k : Option ℕ) → PlaceGood c p → noNul t ≡ true → Whenever (λ (n : ℕ). (0 ≤ n) × (n ≤ deepestWatch)) k →
+      Fine (watchingTo p t k)
   unfolding watchingTo
   watchingTo-good p t none g n h = tt
   watchingTo-good p t (some k) g n h = cond-known Fine (depthFor p k) _ _ (λ e. record { place = g; token = n; depth = (h .1, e) }) (λ e. tt)
 
-  placed : (m : Option Place) (f : Place → Parsed) → Whenever (PlaceGood c) m → ((p : Place) → PlaceGood c p → Fine (f p)) → Fine (elim m [ none ↦ invalid | some p ↦ f p ])
+  placed : (m : Option Place) (f : Place → Parsed) → Whenever (PlaceGood c) m → ((p : Place) → PlaceGood c p → Fine (f p)) →
+      Fine (elim m [ none ↦ invalid | some p ↦ f p ])
   placed none f g h = tt
   placed (some p) f g h = h p g
 
@@ -210,7 +219,8 @@ module _ (c : Connection) where
       go (some i) (some p) (some n) h = h
   introducing-good (some (s ∷ t ∷ u ∷ v ∷ vs)) = tt
 
-  ofDomain-good : (low : ℕ) (f : Domain → Request) → ((i : Domain) → (low ≤ i) × (i ≤ lastDomain) → RequestGood c (f i)) → (ss : Option (List Octets)) → Fine (ofDomain low f ss)
+  ofDomain-good : (low : ℕ) (f : Domain → Request) → ((i : Domain) → (low ≤ i) × (i ≤ lastDomain) → RequestGood c (f i)) → (ss : Option (List Octets)) →
+      Fine (ofDomain low f ss)
   unfolding ofDomain
   ofDomain-good low f h none = tt
   ofDomain-good low f h (some []) = tt

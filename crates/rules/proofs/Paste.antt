@@ -5,7 +5,10 @@ use Prim.Native.Nat.{ℕ, suc, _+_, _≤_, _<_}
 use native.Mathlib.Nat.{add-assoc}
 use native.Mathlib.Numerals.{add-one}
 use native.Mathlib.Omega.{arith}
-use lib.ListN.{length, getD, take, drop, set, replicate, drop-of-length-le, length-replicate, getD-replicate, length-append, length-drop, take-append-drop, List·getD-append}
+use lib.ListN.{
+  length, getD, take, drop, set, replicate, drop-of-length-le, length-replicate, getD-replicate, length-append, length-drop, take-append-drop,
+  List·getD-append,
+}
 use lib.Seq as Seq
 use Rattle.rules.specs.Octets.{Octets, paste}
 use Rattle.rules.proofs.Fields.{take-drop-take}
@@ -80,7 +83,8 @@ unfolding paste
 paste-append i a b xs h =
     let rest = b ++ drop (i + length a + length b) xs in
     let n = i + length a in
-    ap (λ (l : Octets). take i xs ++ l) (append-assoc a b (drop (i + length (a ++ b)) xs) ∙ ap (λ (m : ℕ). a ++ (b ++ drop m xs)) (ap (λ (m : ℕ). i + m) (length-append a b) ∙ sym (add-assoc i (length a) (length b))))
+    ap (λ (l : Octets). take i xs ++ l) (append-assoc a b (drop (i + length (a ++ b)) xs)
+    ∙ ap (λ (m : ℕ). a ++ (b ++ drop m xs)) (ap (λ (m : ℕ). i + m) (length-append a b) ∙ sym (add-assoc i (length a) (length b))))
     ∙ sym
     (ap₂ (λ (l r : Octets). l ++ (a ++ r))
     (Seq.take-append-le i (take n xs) rest (rw (Seq.length-take-le n xs h) (omega arith)) ∙ Seq.take-take i n xs (omega arith))

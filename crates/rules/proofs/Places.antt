@@ -48,7 +48,8 @@ module _ {A : Type 0} where
       go (y ∷ xs) (suc j) q = go xs j q
 
   -- an entry of the written table is the written one, or was there before
-  pub set-cases : (P : Type 0) (xs : List (Option A)) (j i : ℕ) (e : Option A) (x : A) → At (set xs j e) i x → (i ≡ j → e ≡ some x → P) → ((i ≡ j → ⊥) → At xs i x → P) → P
+  pub set-cases : (P : Type 0) (xs : List (Option A)) (j i : ℕ) (e : Option A) (x : A) → At (set xs j e) i x → (i ≡ j → e ≡ some x → P) →
+      ((i ≡ j → ⊥) → At xs i x → P) → P
   set-cases P xs j i e x q new old = go (ℕ-discrete i j)
     where
       go : Dec (i ≡ j) → P

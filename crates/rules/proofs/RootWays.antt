@@ -19,7 +19,8 @@ pub reaches-node : (k : ℕ) (t : Table) (i : ℕ) → reachesRoot (suc k) t i �
 unfolding reachesRoot
 reaches-node k t i h z = go (getD t i none) refl (rw (ne-eqb i 0 z) at h)
   where
-    go : (m : Option Node) → getD t i none ≡ m → (elim m [ none ↦ false | some n ↦ reachesRoot k t (n .parent) ]) ≡ true → (n : Node) × At t i n × (reachesRoot k t (n .parent) ≡ true)
+    go : (m : Option Node) → getD t i none ≡ m → (elim m [ none ↦ false | some n ↦ reachesRoot k t (n .parent) ]) ≡ true →
+        (n : Node) × At t i n × (reachesRoot k t (n .parent) ≡ true)
     go none e h = absurd (false≢true h)
     go (some n) e h = (n, e, h)
 
@@ -53,14 +54,16 @@ reaches-zero t i h = eqb-true i 0 h
 reaches-more : (k : ℕ) (t : Table) (i : ℕ) → reachesRoot k t i ≡ true → reachesRoot (suc k) t i ≡ true
 reaches-more zero t i h = root-reaches 1 t i (reaches-zero t i h)
 reaches-more (suc k) t i h =
-    reaches-cases (reachesRoot (suc (suc k)) t i ≡ true) k t i h (root-reaches (suc (suc k)) t i) (λ z n e r. node-reaches (suc k) t i n e (reaches-more k t (n .parent) r))
+    reaches-cases (reachesRoot (suc (suc k)) t i ≡ true) k t i h (root-reaches (suc (suc k)) t i)
+    (λ z n e r. node-reaches (suc k) t i n e (reaches-more k t (n .parent) r))
 
 pub reaches-up : (m k : ℕ) (t : Table) (i : ℕ) → reachesRoot k t i ≡ true → reachesRoot (m + k) t i ≡ true
 reaches-up zero k t i h = rw zero-add h
 reaches-up (suc m) k t i h = rw suc-add (reaches-more (m + k) t i (reaches-up m k t i h))
 
 -- a table that keeps the slots and their parents keeps their ways to the root
-pub reaches-kept : (k : ℕ) (t u : Table) (i : ℕ) → ((j : ℕ) (n : Node) → At t j n → (m : Node) × At u j m × (m .parent ≡ n .parent)) → reachesRoot k t i ≡ true → reachesRoot k u i ≡ true
+pub reaches-kept : (k : ℕ) (t u : Table) (i : ℕ) → ((j : ℕ) (n : Node) → At t j n → (m : Node) × At u j m × (m .parent ≡ n .parent)) →
+    reachesRoot k t i ≡ true → reachesRoot k u i ≡ true
 reaches-kept zero t u i f h = root-reaches 0 u i (reaches-zero t i h)
 reaches-kept (suc k) t u i f h =
     reaches-cases (reachesRoot (suc k) u i ≡ true) k t i h (root-reaches (suc k) u i)

@@ -7,6 +7,7 @@ use lib.Dec.{eqb}
 use borrow.Author.Tests.{eqb-true, eqb-false, eq-eqb}
 use Rattle.rules.specs.Size.{lastDomain}
 use Rattle.rules.specs.Domain.{Domain, Connection, domainOf, isControl}
+use Rattle.rules.specs.World.{speaksFor}
 
 -- the control domain is domain 0
 pub control-test : (d : Domain) → isControl d ≡ eqb d 0
@@ -29,6 +30,11 @@ other-domain d h = eqb-false d 0 h
 pub connection-fits : (c : Connection) → domainOf c ≤ lastDomain → c < 65536
 unfolding domainOf
 connection-fits c h = omega arith
+
+-- a domain that can be released has the connection of its own number, and no other
+pub speaks-own : (d : Domain) → 1 ≤ d → d ≤ lastDomain → speaksFor d ≡ eqb d
+unfolding domainOf speaksFor
+speaks-own d low high = refl
 
 -- a connection speaks for the domain of its own number
 pub own-number : (c : Connection) → domainOf c ≡ c

@@ -184,7 +184,8 @@ module _ (n : Node) (f : NodeFits n) where
 
   entries-field : field (slotBytes (some n)) 3 9 ≡ pack (entryBits 4 (n .owner ∷ n .others))
   unfolding slotBytes fields entries name value
-  entries-field = field-at fields (entries ++ (name ++ value)) 3 9 (length-big 3 (pack (nodeBits n))) ∙ field-first 9 (pack (entryBits 4 (n .owner ∷ n .others))) (name ++ value) (read .bound)
+  entries-field = field-at fields (entries ++ (name ++ value)) 3 9 (length-big 3 (pack (nodeBits n)))
+      ∙ field-first 9 (pack (entryBits 4 (n .owner ∷ n .others))) (name ++ value) (read .bound)
 
   used-read : bitsAt head 23 1 ≡ 1
   unfolding head bitsAt pack packFrom nodeBits

@@ -7,12 +7,20 @@ use Prim.Native.Nat.{ℕ, _*_, _≤_, _<_}
 use lib.ListN.{length, take, drop, length-map}
 use lib.Dec.{eqb}
 use borrow.Author.Tests.{eqb-true, eq-eqb}
-use Rattle.rules.specs.Size.{mostTransactions, mostDomains, mostWatches, tableSize, copiesSize, domainsSize, watchesSize, transactionsSize, transactionSize, mostChanges}
+use Rattle.rules.specs.Size.{
+  mostTransactions, mostDomains, mostWatches, tableSize, copiesSize, domainsSize, watchesSize, transactionsSize, transactionSize, mostChanges,
+}
 use Rattle.rules.specs.Octets.{Octets, same, chunks, field}
 use Rattle.rules.specs.Path.{domainOf}
 use Rattle.rules.specs.Event.{Watch, Watches}
-use Rattle.rules.specs.Layout.{Domains, Transaction, Transactions, tableBytes, tableOf, domainsBytes, domainsOf, watchesBytes, watchesOf, transactionIn, transactionsBytes, transactionsOf}
-use Rattle.rules.specs.Sound.{known, goodDomains, soundDomains, goodWatch, goodWatches, soundWatches, goodTable, soundTable, goodTransactions, soundTransactions, goodPlace, noNul}
+use Rattle.rules.specs.Layout.{
+  Domains, Transaction, Transactions, tableBytes, tableOf, domainsBytes, domainsOf, watchesBytes, watchesOf, transactionIn, transactionsBytes,
+  transactionsOf,
+}
+use Rattle.rules.specs.Sound.{
+  known, goodDomains, soundDomains, goodWatch, goodWatches, soundWatches, goodTable, soundTable, goodTransactions, soundTransactions, goodPlace,
+  noNul,
+}
 use Rattle.rules.specs.World.{World}
 use Rattle.rules.specs.Call.{Tables, sizedTables, sound, Lendable, worldOf, tablesOf}
 use Rattle.rules.proofs.Compare.{same-refl, same-eq}
@@ -24,7 +32,10 @@ use Rattle.rules.proofs.DecodedEntries.{WatchRead, place-named, watch-i
 use Rattle.rules.proofs.TransactionLayouts.{ChangeFits, transactions-read, length-transactions}
 use Rattle.rules.proofs.SoundWorld.{DomainsSound, WatchSound, twins, WatchesSound, TransactionsSound, SoundWorld, table-encoded, table-decoded}
 use Rattle.rules.proofs.SoundEntries.{twins-sym}
-use Rattle.rules.proofs.SoundTables.{domains-good, good-domains, domains-fit, watches-parts, watches-good, watches-fit, changes-good, good-changes, transactions-good, good-transactions, transactions-fit}
+use Rattle.rules.proofs.SoundTables.{
+  domains-good, good-domains, domains-fit, watches-parts, watches-good, watches-fit, changes-good, good-changes, transactions-good, good-transactions,
+  transactions-fit,
+}
 
 -- ── a sound world's bytes ──
 
@@ -39,14 +50,17 @@ module _ (w : World) (s : SoundWorld w) where
   watches-back = watches-read (w .watches) (s .watches .long) (watches-fit (w .domains) (w .watches) (s .domains) (s .watches))
 
   transactions-back : transactionsOf (transactionsBytes (w .transactions)) ≡ w .transactions
-  transactions-back = transactions-read (w .transactions) (s .transactions .long) (transactions-fit (w .domains) (w .transactions) (w .copies) (s .domains) (s .transactions))
+  transactions-back = transactions-read (w .transactions) (s .transactions .long)
+      (transactions-fit (w .domains) (w .transactions) (w .copies) (s .domains) (s .transactions))
 
   copies-back : chunks mostTransactions tableSize (flatMap whole (w .copies)) ≡ w .copies
-  copies-back = ap (λ (n : ℕ). chunks n tableSize (flatMap whole (w .copies))) (sym (s .transactions .copies)) ∙ copies-read tableSize (w .copies) (s .transactions .sized)
+  copies-back = ap (λ (n : ℕ). chunks n tableSize (flatMap whole (w .copies))) (sym (s .transactions .copies))
+      ∙ copies-read tableSize (w .copies) (s .transactions .sized)
 
   pub world-back : worldOf (tablesOf w) ≡ w
   unfolding worldOf tablesOf
-  world-back = λ i. record { nodes = nodes-back i; copies = copies-back i; watches = watches-back i; transactions = transactions-back i; domains = domains-back i }
+  world-back = λ i. record { nodes = nodes-back i; copies = copies-back i; watches = watches-back i; transactions = transactions-back i;
+      domains = domains-back i }
 
   length-of-domains : length (domainsBytes (w .domains)) ≡ domainsSize
   length-of-domains = length-domains (w .domains) (domains-fit (w .domains) (s .domains)) ∙ rw (s .domains .long)
@@ -55,7 +69,8 @@ module _ (w : World) (s : SoundWorld w) where
   length-of-watches = length-watches (w .watches) (watches-fit (w .domains) (w .watches) (s .domains) (s .watches)) ∙ rw (s .watches .long)
 
   length-of-transactions : length (transactionsBytes (w .transactions)) ≡ transactionsSize
-  length-of-transactions = length-transactions (w .transactions) (transactions-fit (w .domains) (w .transactions) (w .copies) (s .domains) (s .transactions)) ∙ rw (s .transactions .long)
+  length-of-transactions = length-transactions (w .transactions) (transactions-fit (w .domains) (w .transactions) (w .copies) (s .domains) (s .transactions))
+      ∙ rw (s .transactions .long)
 
   length-of-copies : length (flatMap whole (w .copies)) ≡ copiesSize
   length-of-copies = length-encoded whole tableSize (w .copies) (s .transactions .sized) ∙ rw (s .transactions .copies)
@@ -63,7 +78,8 @@ module _ (w : World) (s : SoundWorld w) where
   encoded-sized : sizedTables (tablesOf w) ≡ true
   unfolding sizedTables tablesOf
   encoded-sized =
-      rw (eq-eqb _ _ (table-encoded (w .nodes) (s .nodes) .1), eq-eqb _ _ length-of-copies, eq-eqb _ _ length-of-watches, eq-eqb _ _ length-of-transactions, eq-eqb _ _ length-of-domains)
+      rw (eq-eqb _ _ (table-encoded (w .nodes) (s .nodes) .1), eq-eqb _ _ length-of-copies, eq-eqb _ _ length-of-watches, eq-eqb _ _ length-of-transactions,
+      eq-eqb _ _ length-of-domains)
 
   encoded-domains : soundDomains (domainsBytes (w .domains)) ≡ true
   unfolding soundDomains
@@ -90,7 +106,8 @@ module _ (w : World) (s : SoundWorld w) where
 -- ── what sound bytes mean ──
 
 -- an entry that was read, and the row that it was read from
-row-of : {A : Type 0} (decode : Octets → Option A) (n k : ℕ) (s : Octets) (i : ℕ) (x : A) → At (map decode (chunks n k s)) i x → (row : Octets) × (decode row ≡ some x)
+row-of : {A : Type 0} (decode : Octets → Option A) (n k : ℕ) (s : Octets) (i : ℕ) (x : A) → At (map decode (chunks n k s)) i x →
+    (row : Octets) × (decode row ≡ some x)
 row-of decode n k s i x e =
     let l : i < n = rw (length-map (chunks n k s) decode, length-chunks n k s) at (at-below (map decode (chunks n k s)) i x e) in
     (take k (drop (i * k) s), sym (decoded-at decode n k i s none l) ∙ e)
@@ -113,16 +130,19 @@ module _ (t : Tables) (l : Lendable t) where
   unfolding sizedTables
   sizes =
       let p = and-eq-true-iff (eqb (length (t .nodes)) tableSize) (eqb (length (t .copies)) copiesSize
-      && (eqb (length (t .watches)) watchesSize && (eqb (length (t .transactions)) transactionsSize && eqb (length (t .domains)) domainsSize))) .0 (l .sized) in (
+      && (eqb (length (t .watches)) watchesSize && (eqb (length (t .transactions)) transactionsSize && eqb (length (t .domains)) domainsSize))) .0 (l .sized) in
+      (
         p .0,
         and-eq-true-iff (eqb (length (t .copies)) copiesSize)
             (eqb (length (t .watches)) watchesSize && (eqb (length (t .transactions)) transactionsSize && eqb (length (t .domains)) domainsSize)) .0 (p .1) .0,
       )
 
-  tests : (soundTable (t .nodes) ≡ true) × (soundDomains (t .domains) ≡ true) × (soundWatches ds (t .watches) ≡ true) × (soundTransactions ds cs (t .transactions) ≡ true)
+  tests : (soundTable (t .nodes) ≡ true) × (soundDomains (t .domains) ≡ true) × (soundWatches ds (t .watches) ≡ true)
+      × (soundTransactions ds cs (t .transactions) ≡ true)
   unfolding sound ds cs
   tests =
-      let p = and-eq-true-iff (soundTable (t .nodes)) (soundDomains (t .domains) && (soundWatches ds (t .watches) && soundTransactions ds cs (t .transactions))) .0 (l .sound) in
+      let p = and-eq-true-iff (soundTable (t .nodes)) (soundDomains (t .domains)
+      && (soundWatches ds (t .watches) && soundTransactions ds cs (t .transactions))) .0 (l .sound) in
       let q = and-eq-true-iff (soundDomains (t .domains)) (soundWatches ds (t .watches) && soundTransactions ds cs (t .transactions)) .0 (p .1) in
       let r = and-eq-true-iff (soundWatches ds (t .watches)) (soundTransactions ds cs (t .transactions)) .0 (q .1) in
       (p .0, q .0, r .0, r .1)
@@ -143,13 +163,15 @@ module _ (t : Tables) (l : Lendable t) where
   unfolding soundTransactions xs
   transactions-test =
       and-eq-true-iff (same (transactionsBytes xs) (t .transactions)) (goodTransactions ds xs cs) .0
-      (and-eq-true-iff (eqb (length (t .transactions)) transactionsSize) (same (transactionsBytes xs) (t .transactions) && goodTransactions ds xs cs) .0 (tests .3) .1)
+      (and-eq-true-iff (eqb (length (t .transactions)) transactionsSize) (same (transactionsBytes xs) (t .transactions) && goodTransactions ds xs cs) .0
+      (tests .3) .1)
 
   nodes-test : same (tableBytes (tableOf (t .nodes))) (t .nodes) ≡ true
   unfolding soundTable
   nodes-test =
       and-eq-true-iff (same (tableBytes (tableOf (t .nodes))) (t .nodes)) (goodTable (tableOf (t .nodes))) .0
-      (and-eq-true-iff (eqb (length (t .nodes)) tableSize) (same (tableBytes (tableOf (t .nodes))) (t .nodes) && goodTable (tableOf (t .nodes))) .0 (tests .0) .1) .0
+      (and-eq-true-iff (eqb (length (t .nodes)) tableSize) (same (tableBytes (tableOf (t .nodes))) (t .nodes) && goodTable (tableOf (t .nodes))) .0
+      (tests .0) .1) .0
 
   decoded-domains : DomainsSound ds
   unfolding ds domainsOf
@@ -163,7 +185,8 @@ module _ (t : Tables) (l : Lendable t) where
       let g = every-at (goodWatch ds) ws (watches-parts ds ws (watches-test .1) .0) i v e in
       let p = and-eq-true-iff (known (domainOf (v .owner)) ds) (noNul (v .token) && goodPlace (v .owner) (v .depth) (v .place)) .0 g in
       let q = and-eq-true-iff (noNul (v .token)) (goodPlace (v .owner) (v .depth) (v .place)) .0 (p .1) in
-      record { known = p .0; token = q .0; place = q .1; depth-fits = w .depth; token-fits = w .token; place-fits = w .place (place-named (v .owner) (v .depth) (v .place) (q .1)) }
+      record { known = p .0; token = q .0; place = q .1; depth-fits = w .depth; token-fits = w .token;
+          place-fits = w .place (place-named (v .owner) (v .depth) (v .place) (q .1)) }
 
   decoded-watches : WatchesSound ds ws
   unfolding ws watchesOf
@@ -183,13 +206,15 @@ module _ (t : Tables) (l : Lendable t) where
         sized = rows-sized mostTransactions tableSize (t .copies) (eqb-true _ _ (sizes .1));
         each = λ k x e.
             let r = row-of transactionIn mostTransactions transactionSize (t .transactions) k x e in
-            let w = subst (λ (y : Transaction). (length (y .changes) ≤ mostChanges) × Each ChangeFits (y .changes)) (transaction-in (r .0) x (r .1)) (transaction-decoded (r .0) (field (r .0) 0 3)) in
+            let w = subst (λ (y : Transaction). (length (y .changes) ≤ mostChanges) × Each ChangeFits (y .changes)) (transaction-in (r .0) x (r .1))
+            (transaction-decoded (r .0) (field (r .0) 0 3)) in
             let g = good-transactions ds xs cs (transactions-test .1) (length-chunks mostTransactions tableSize (t .copies) ∙ sym long) k x e in
             record { known = g .0; few = w .0; good = good-changes (x .changes) (g .1); fit = w .1; copy = g .2 };
       }
     where
       long : length (map transactionIn (chunks mostTransactions transactionSize (t .transactions))) ≡ mostTransactions
-      long = length-map (chunks mostTransactions transactionSize (t .transactions)) transactionIn ∙ length-chunks mostTransactions transactionSize (t .transactions)
+      long = length-map (chunks mostTransactions transactionSize (t .transactions)) transactionIn
+          ∙ length-chunks mostTransactions transactionSize (t .transactions)
 
   pub decoded : SoundWorld (worldOf t)
   unfolding worldOf ds ws xs cs

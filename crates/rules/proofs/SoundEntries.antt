@@ -54,10 +54,12 @@ twins-sym v u h =
     let q = and-eq-true-iff (same (placeText (v .place)) (placeText (u .place))) (same (v .token) (u .token)) .0 (p .1) in
     and-eq-true-iff (eqb (u .owner) (v .owner)) (same (placeText (u .place)) (placeText (v .place)) && same (u .token) (v .token)) .1 (
       eq-eqb (u .owner) (v .owner) (sym (eqb-true (v .owner) (u .owner) (p .0))),
-      and-eq-true-iff (same (placeText (u .place)) (placeText (v .place))) (same (u .token) (v .token)) .1 (eq-same (sym (same-eq _ _ (q .0))), eq-same (sym (same-eq _ _ (q .1)))),
+      and-eq-true-iff (same (placeText (u .place)) (placeText (v .place))) (same (u .token) (v .token)) .1
+      (eq-same (sym (same-eq _ _ (q .0))), eq-same (sym (same-eq _ _ (q .1)))),
     )
 
-pub watches-grown : (ds : Domains) (ws : Watches) (v : Watch) → WatchesSound ds ws → WatchSound ds v → watched (v .owner) (placeText (v .place)) (v .token) ws ≡ false
+pub watches-grown : (ds : Domains) (ws : Watches) (v : Watch) → WatchesSound ds ws → WatchSound ds v →
+    watched (v .owner) (placeText (v .place)) (v .token) ws ≡ false
     → WatchesSound ds (set ws (lowest ws) (some v))
 unfolding watched
 watches-grown ds ws v s n h =
@@ -66,8 +68,10 @@ watches-grown ds ws v s n h =
       each = λ i u q. set-cases (WatchSound ds u) ws (lowest ws) i (some v) u q (λ r p. subst (WatchSound ds) (some-is p) n) (λ r p. s .each i u p);
       differ = λ i j x y p q e.
           set-cases (i ≡ j) ws (lowest ws) i (some v) x p
-          (λ r a. set-cases (i ≡ j) ws (lowest ws) j (some v) y q (λ t b. r ∙ sym t) (λ t b. absurd (alone j y b (subst (λ (z : Watch). twins z y ≡ true) (sym (some-is a)) e))))
-          (λ r a. set-cases (i ≡ j) ws (lowest ws) j (some v) y q (λ t b. absurd (alone i x a (twins-sym x v (subst (λ (z : Watch). twins x z ≡ true) (sym (some-is b)) e))))
+          (λ r a. set-cases (i ≡ j) ws (lowest ws) j (some v) y q (λ t b. r ∙ sym t)
+          (λ t b. absurd (alone j y b (subst (λ (z : Watch). twins z y ≡ true) (sym (some-is a)) e))))
+          (λ r a. set-cases (i ≡ j) ws (lowest ws) j (some v) y q (λ t b. absurd
+          (alone i x a (twins-sym x v (subst (λ (z : Watch). twins x z ≡ true) (sym (some-is b)) e))))
           (λ t b. s .differ i j x y a b e));
     }
   where
@@ -77,8 +81,10 @@ watches-grown ds ws v s n h =
 -- ── transactions ──
 
 -- transactions that were there before, stale or not, with holders that are still known
-pub transactions-left : {ds : Domains} {xs : Transactions} {cs : List Octets} (es : Domains) (ys : Transactions) → TransactionsSound ds xs cs → length ys ≡ length xs
-    → ((k : ℕ) (y : Transaction) → At ys k y → (x : Transaction) × At xs k x × (y .changes ≡ x .changes) × (known (domainOf (y .holder)) es ≡ true)) → TransactionsSound es ys cs
+pub transactions-left : {ds : Domains} {xs : Transactions} {cs : List Octets} (es : Domains) (ys : Transactions) → TransactionsSound ds xs cs →
+    length ys ≡ length xs
+    → ((k : ℕ) (y : Transaction) → At ys k y → (x : Transaction) × At xs k x × (y .changes ≡ x .changes) × (known (domainOf (y .holder)) es ≡ true)) →
+    TransactionsSound es ys cs
 transactions-left es ys s l f =
     record {
       long = l ∙ s .long;
@@ -91,7 +97,8 @@ transactions-left es ys s l f =
     }
 
 -- transaction k written, with a copy of a sound table
-pub transactions-written : {ds : Domains} {xs : Transactions} {cs : List Octets} (k : ℕ) (y : Transaction) (t : Table) → TransactionsSound ds xs cs → k < length xs → TableSound t
+pub transactions-written : {ds : Domains} {xs : Transactions} {cs : List Octets} (k : ℕ) (y : Transaction) (t : Table) → TransactionsSound ds xs cs →
+    k < length xs → TableSound t
     → (soundTable (tableBytes t) ≡ true → TransactionSound ds (tableBytes t) y) → TransactionsSound ds (set xs k (some y)) (set cs k (tableBytes t))
 transactions-written {ds} {xs} {cs} k y t s l h f =
     record {
@@ -100,18 +107,21 @@ transactions-written {ds} {xs} {cs} k y t s l h f =
       sized = each-set _ cs k (tableBytes t) (s .sized) (table-encoded t h .1);
       each = λ j x q.
           set-cases (TransactionSound ds (getD (set cs k (tableBytes t)) j []) x) xs k j (some y) x q
-          (λ r p. rw (r, getD-set-same cs k (tableBytes t) [] (omega (arith, s .long, s .copies))) (subst (TransactionSound ds (tableBytes t)) (some-is p) (f (table-encoded t h .0))))
+          (λ r p. rw (r, getD-set-same cs k (tableBytes t) [] (omega (arith, s .long, s .copies)))
+          (subst (TransactionSound ds (tableBytes t)) (some-is p) (f (table-encoded t h .0))))
           (λ r p. rw (getD-set-other cs k j (tableBytes t) [] r) (s .each j x p));
     }
 
 -- an entry after some became stale, or none did
-pub unstaled : (b : Bool) (ys : Transactions) (k : ℕ) (y : Transaction) → At (staledIf b ys) k y → (x : Transaction) × At ys k x × (y .holder ≡ x .holder) × (y .changes ≡ x .changes)
+pub unstaled : (b : Bool) (ys : Transactions) (k : ℕ) (y : Transaction) → At (staledIf b ys) k y →
+    (x : Transaction) × At ys k x × (y .holder ≡ x .holder) × (y .changes ≡ x .changes)
 unfolding staledIf
 unstaled false ys k y e = (y, e, refl, refl)
 unstaled true ys k y e = let r = getD-staled ys k y e in (r .0, r .1, r .2, r .4)
 
 -- transactions of the same domains, some closed, all stale or none
-pub transactions-staled : {ds : Domains} {xs : Transactions} {cs : List Octets} (b : Bool) (ys : Transactions) → TransactionsSound ds xs cs → length ys ≡ length xs
+pub transactions-staled : {ds : Domains} {xs : Transactions} {cs : List Octets} (b : Bool) (ys : Transactions) → TransactionsSound ds xs cs →
+    length ys ≡ length xs
     → ((k : ℕ) (y : Transaction) → At ys k y → At xs k y) → TransactionsSound ds (staledIf b ys) cs
 transactions-staled {ds} {xs} {cs} b ys s l f =
     transactions-left ds (staledIf b ys) s (length-staledIf b ys ∙ l) λ k y q.
@@ -154,7 +164,8 @@ unfolding eventDepth depthFor
 event-depth e none h = refl
 event-depth e (some k) h = h .1
 
-pub place-good : (w : World) (c : Connection) (p : Place) (k : Option ℕ) → placeFits w p ≡ true → PlaceGood c p → DepthGood p k → Controlled c p → goodPlace c k p ≡ true
+pub place-good : (w : World) (c : Connection) (p : Place) (k : Option ℕ) → placeFits w p ≡ true → PlaceGood c p → DepthGood p k → Controlled c p →
+    goodPlace c k p ≡ true
 unfolding placeFits goodPlace
 place-good w c (path r ns) k h f g u = and-eq-true-iff (fits ns) (not r || strictlyBelow (beyond (base (domainOf c)) ns)) .1 (h, f .1)
 place-good w c (event e) k h f g u =

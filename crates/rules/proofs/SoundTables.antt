@@ -15,7 +15,9 @@ use Rattle.rules.specs.Path.{Domain, domainOf}
 use Rattle.rules.specs.Answer.{Change}
 use Rattle.rules.specs.Event.{Watches}
 use Rattle.rules.specs.Layout.{Domains, Transaction, Transactions}
-use Rattle.rules.specs.Sound.{introduced, known, watched, goodDomains, goodWatch, goodWatches, goodChange, goodChanges, soundTable, goodTransactions, goodPlace, noNul}
+use Rattle.rules.specs.Sound.{
+  introduced, known, watched, goodDomains, goodWatch, goodWatches, goodChange, goodChanges, soundTable, goodTransactions, goodPlace, noNul,
+}
 use Rattle.rules.proofs.Tables.{Each}
 use Rattle.rules.proofs.Places.{nothing, some-is, At, every, apart, every-at, at-every, related-one, one-related}
 use Rattle.rules.proofs.EntryLayouts.{DomainFits, MaybeWatch}
@@ -58,7 +60,8 @@ parts-domains (some d ∷ ds) h k =
     let q = and-eq-true-iff (leb 1 d) (leb d lastDomain) .0 (p .0) in
     let r = and-eq-true-iff (not (has (eqb d) ds)) (apart eqb ds) .0 k in
     and-eq-true-iff (leb 1 d) (leb d lastDomain && (not (has (eqb d) ds) && goodDomains ds)) .1
-    (q .0, and-eq-true-iff (leb d lastDomain) (not (has (eqb d) ds) && goodDomains ds) .1 (q .1, and-eq-true-iff (not (has (eqb d) ds)) (goodDomains ds) .1 (r .0, parts-domains ds (p .1) (r .1))))
+    (q .0, and-eq-true-iff (leb d lastDomain) (not (has (eqb d) ds) && goodDomains ds) .1
+    (q .1, and-eq-true-iff (not (has (eqb d) ds)) (goodDomains ds) .1 (r .0, parts-domains ds (p .1) (r .1))))
 
 eqb-sym : (a b : ℕ) → eqb a b ≡ true → eqb b a ≡ true
 eqb-sym a b h = eq-eqb b a (sym (eqb-true a b h))
@@ -76,7 +79,8 @@ good-domains ds l h =
     let p = domains-parts ds h in
     record {
       long = l;
-      range = λ i d q. let r = and-eq-true-iff (leb 1 d) (leb d lastDomain) .0 (every-at inRange ds (p .0) i d q) in (leb-true 1 d (r .0), leb-true d lastDomain (r .1));
+      range = λ i d q. let r = and-eq-true-iff (leb 1 d) (leb d lastDomain) .0 (every-at inRange ds (p .0) i d q) in
+          (leb-true 1 d (r .0), leb-true d lastDomain (r .1));
       differ = λ i j d e a b x. related-one eqb eqb-sym ds (p .1) i j d e a b (eq-eqb d e x);
     }
 
@@ -118,7 +122,8 @@ watches-good ds ws s =
 pub watches-fit : (ds : Domains) (ws : Watches) → DomainsSound ds → WatchesSound ds ws → Each MaybeWatch ws
 watches-fit ds ws d s = each-of MaybeWatch ws tt λ i v q.
     let w = s .each i v q in
-    record { owner = connection-fits (v .owner) (known-range ds (domainOf (v .owner)) d (w .known)); depth = w .depth-fits; token = w .token-fits; place = w .place-fits }
+    record { owner = connection-fits (v .owner) (known-range ds (domainOf (v .owner)) d (w .known)); depth = w .depth-fits; token = w .token-fits;
+        place = w .place-fits }
 
 -- ── transactions ──
 
@@ -136,7 +141,8 @@ good-changes (c ∷ cs) h = let p = and-eq-true-iff (goodChange c) (goodChanges 
 abbrev GoodTransaction : Domains → Octets → Transaction → Type 0
 GoodTransaction ds copy x = (known (domainOf (x .holder)) ds ≡ true) × (goodChanges (x .changes) ≡ true) × (soundTable copy ≡ true)
 
-pub transactions-good : (ds : Domains) (xs : Transactions) (cs : List Octets) → length cs ≡ length xs → ((k : ℕ) (x : Transaction) → At xs k x → GoodTransaction ds (getD cs k []) x)
+pub transactions-good : (ds : Domains) (xs : Transactions) (cs : List Octets) → length cs ≡ length xs →
+    ((k : ℕ) (x : Transaction) → At xs k x → GoodTransaction ds (getD cs k []) x)
     → goodTransactions ds xs cs ≡ true
 unfolding goodTransactions
 transactions-good ds [] cs l h = refl

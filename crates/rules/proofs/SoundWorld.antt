@@ -113,7 +113,8 @@ known-grown ds c d h = go (isControl c) h
     go true q = refl
     go false q =
         let r = has-at (eqb c) ds q in
-        at-has (eqb c) u (r .0) (r .1) (getD-set-other ds (lowest ds) (r .0) (some d) none (λ z. nothing (sym (lowest-free ds) ∙ (ap (λ (i : ℕ). getD ds i none) (sym z) ∙ r .2))) ∙ r .2) (r .3)
+        at-has (eqb c) u (r .0) (r .1) (getD-set-other ds (lowest ds) (r .0) (some d) none
+        (λ z. nothing (sym (lowest-free ds) ∙ (ap (λ (i : ℕ). getD ds i none) (sym z) ∙ r .2))) ∙ r .2) (r .3)
 
 pub known-shrunk : (ds : Domains) (c d : Domain) → known c ds ≡ true → eqb d c ≡ false → known c (without (eqb d) ds) ≡ true
 unfolding known introduced
@@ -135,7 +136,8 @@ known-range ds c s h = go (isControl c) refl h
         let r = has-at (eqb c) ds q in
         omega (arith, eqb-true c (r .1) (r .3), s .range (r .0) (r .1) (r .2) .1)
 
-pub domains-grown : (ds : Domains) (d : Domain) → DomainsSound ds → introduced d ds ≡ false → 1 ≤ d → d ≤ lastDomain → DomainsSound (set ds (lowest ds) (some d))
+pub domains-grown : (ds : Domains) (d : Domain) → DomainsSound ds → introduced d ds ≡ false → 1 ≤ d → d ≤ lastDomain →
+    DomainsSound (set ds (lowest ds) (some d))
 unfolding introduced
 domains-grown ds d s n l h =
     record {

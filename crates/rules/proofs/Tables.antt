@@ -72,7 +72,8 @@ decoded-at decode (suc n) k (suc i) s d h =
 pub paste-past : (p q ys : Octets) (i : ℕ) → paste (length p + i) ys (p ++ q) ≡ p ++ paste i ys q
 unfolding paste
 paste-past p q ys i =
-    ap₂ _++_ (take-append-add p q i) (ap (λ (m : ℕ). ys ++ drop m (p ++ q)) (add-assoc (length p) i (length ys)) ∙ ap (λ (r : Octets). ys ++ r) (drop-append-add p q (i + length ys)))
+    ap₂ _++_ (take-append-add p q i) (ap (λ (m : ℕ). ys ++ drop m (p ++ q)) (add-assoc (length p) i (length ys))
+    ∙ ap (λ (r : Octets). ys ++ r) (drop-append-add p q (i + length ys)))
     ∙ append-assoc p (take i q) (ys ++ drop (i + length ys) q)
 
 module _ {A : Type 0} (encode : A → Octets) (k : ℕ) where

@@ -12,7 +12,9 @@ use Rattle.rules.specs.Size.{longestPath, mostChanges, changeSize, trans
 use Rattle.rules.specs.Octets.{Octets, padded, bit, _bits_, chunks, bigEndian, bigFrom, field, pack, packFrom, bitsAt}
 use Rattle.rules.specs.Path.{allNames, pathText, namesIn}
 use Rattle.rules.specs.Answer.{Change}
-use Rattle.rules.specs.Layout.{textAt, changeBytes, transactionBytes, changeIn, transactionAt, transactionIn, transactionsBytes, transactionsOf, Transactions, Transaction}
+use Rattle.rules.specs.Layout.{
+  textAt, changeBytes, transactionBytes, changeIn, transactionAt, transactionIn, transactionsBytes, transactionsOf, Transactions, Transaction,
+}
 use Rattle.rules.proofs.Slots.{length-padded, text-padded}
 use Rattle.rules.proofs.Tables.{Each, each-map, length-encoded, decoded, decoded-at}
 use Rattle.rules.proofs.PathLaws.{text-names}
@@ -48,14 +50,16 @@ module _ (c : Change) (f : ChangeFits c) where
 
   change-width : length (changeBytes c) ≡ changeSize
   unfolding changeBytes
-  change-width = length-append (bigEndian 2 _) (padded longestPath (pathText (c .names))) ∙ rw (length-big 2, length-padded longestPath (pathText (c .names)) (f .short))
+  change-width = length-append (bigEndian 2 _) (padded longestPath (pathText (c .names)))
+      ∙ rw (length-big 2, length-padded longestPath (pathText (c .names)) (f .short))
 
   change-head-read : field (changeBytes c) 0 2 ≡ change-fields
   change-head-read = rw change-seam (field-first 2 change-fields _ (fields-read .0))
 
   change-names : namesIn (textAt (changeBytes c) 2 longestPath (bitsAt change-fields 0 9)) ≡ c .names
   change-names =
-      ap namesIn (rw change-seam (text-padded (bigEndian 2 change-fields) (pathText (c .names)) [] 2 longestPath _ (length-big 2 change-fields) (f .short) (fields-read .2)))
+      ap namesIn (rw change-seam (text-padded (bigEndian 2 change-fields) (pathText (c .names)) [] 2 longestPath _ (length-big 2 change-fields) (f .short)
+      (fields-read .2)))
       ∙ text-names (c .names) (f .names) (omega (arith, f .short))
 
   change-read : changeIn (changeBytes c) ≡ c
@@ -74,7 +78,8 @@ unfolding flatMap chunks
 first-rows encode k n [] rest h w = refl
 first-rows encode k zero (x ∷ xs) rest h w = absurd (omega arith)
 first-rows encode k (suc n) (x ∷ xs) rest h w =
-    rw (append-assoc (encode x) (flatMap encode xs) rest, take-at (encode x) (flatMap encode xs ++ rest) k (w .0), drop-at (encode x) (flatMap encode xs ++ rest) k (w .0))
+    rw (append-assoc (encode x) (flatMap encode xs) rest, take-at (encode x) (flatMap encode xs ++ rest) k (w .0),
+    drop-at (encode x) (flatMap encode xs ++ rest) k (w .0))
     (ap (λ (l : List Octets). encode x ∷ l) (first-rows encode k n xs rest (omega arith) (w .1)))
 
 map-back : {A : Type 0} (encode : A → Octets) (decode : Octets → A) (xs : List A) → Each (λ (x : A). decode (encode x) ≡ x) xs → map decode (map encode xs) ≡ xs
@@ -113,7 +118,8 @@ module _ (x : Transaction) (f : TransactionFits x) where
   some-transaction-width : length (transactionBytes (some x)) ≡ transactionSize
   some-transaction-width =
       ap length transaction-seam
-      ∙ (length-append (bigEndian 3 transaction-fields) _ ∙ rw (length-big 3, length-padded (mostChanges * changeSize) (flatMap changeBytes (x .changes)) changes-short))
+      ∙ (length-append (bigEndian 3 transaction-fields) _ ∙ rw (length-big 3,
+      length-padded (mostChanges * changeSize) (flatMap changeBytes (x .changes)) changes-short))
 
   transaction-head-read : field (transactionBytes (some x)) 0 3 ≡ transaction-fields
   transaction-head-read = rw transaction-seam (field-first 3 transaction-fields _ (heads .0))
@@ -125,7 +131,8 @@ module _ (x : Transaction) (f : TransactionFits x) where
         transaction-seam,
         drop-at (bigEndian 3 transaction-fields) (padded (mostChanges * changeSize) (flatMap changeBytes (x .changes))) 3 (length-big 3 transaction-fields),
         heads .3,
-        first-rows changeBytes changeSize mostChanges (x .changes) (replicate (mostChanges * changeSize - length (flatMap changeBytes (x .changes))) 0) (f .few) rows,
+        first-rows changeBytes changeSize mostChanges (x .changes) (replicate (mostChanges * changeSize - length (flatMap changeBytes (x .changes))) 0) (f .few)
+        rows,
       )
       (map-back changeBytes changeIn (x .changes) (each-map ChangeFits _ change-read (x .changes) (f .changes)))
 
@@ -156,9 +163,11 @@ pub transactions-read : (xs : Transactions) → length xs ≡ mostTransactions �
 unfolding transactionsBytes transactionsOf
 transactions-read xs h f =
     ap (λ (n : ℕ). map transactionIn (chunks n transactionSize (flatMap transactionBytes xs))) (sym h)
-    ∙ decoded transactionBytes transactionSize transactionIn xs (each-map MaybeTransaction _ transaction-width xs f) (each-map MaybeTransaction _ transaction-read xs f)
+    ∙ decoded transactionBytes transactionSize transactionIn xs (each-map MaybeTransaction _ transaction-width xs f)
+    (each-map MaybeTransaction _ transaction-read xs f)
 
-pub transaction-at : (s : Octets) (i : ℕ) → i < mostTransactions → getD (transactionsOf s) i none ≡ transactionIn (take transactionSize (drop (i * transactionSize) s))
+pub transaction-at : (s : Octets) (i : ℕ) → i < mostTransactions → getD (transactionsOf s) i none
+    ≡ transactionIn (take transactionSize (drop (i * transactionSize) s))
 unfolding transactionsOf
 transaction-at s i h = decoded-at transactionIn mostTransactions transactionSize i s none h
 

@@ -206,7 +206,8 @@ added =
     ∷ record {
       says = "The first later entry counts: with `n3`, `r5`, `w5` 5 reads and does not write.";
       steps =
-          call 0 (INTRODUCE "5") OK ∷ call 0 (WRITE "/a" "1") OK ∷ call 0 (SETPERMS "/a" (string "n3" ++ (string "r5" ++ string "w5"))) OK ∷ call 5 (READ "/a") (done (text "1"))
+          call 0 (INTRODUCE "5") OK ∷ call 0 (WRITE "/a" "1") OK ∷ call 0 (SETPERMS "/a" (string "n3" ++ (string "r5" ++ string "w5"))) OK ∷ call 5 (READ "/a")
+          (done (text "1"))
           ∷ call 5 (WRITE "/a" "2") (refused EACCES) ∷ [];
     }
     ∷ record {

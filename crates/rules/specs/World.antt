@@ -96,8 +96,8 @@ module _ (w : World) where
   to r after rs = record { reply = r; world = after; records = rs; page = 0; channel = 0 }
 
   -- "A change outside transactions (the holder's own too) makes all open transactions stale."
-  unfoldable pub plainly : Answer → Outcome
-  plainly a =
+  unfoldable pub onStore : Answer → Outcome
+  onStore a =
       elim (a .change) [
         | none ↦ left (a .reply)
         | some c ↦ to (a .reply)
@@ -111,8 +111,8 @@ module _ (w : World) where
   transactionOf c (suc k) = elim (getD (w .transactions) k none) [ none ↦ none | some x ↦ cond (eqb c (x .holder)) (some x) none ]
 
   -- in transaction k a change goes to the copy, and a ninth is ENOSPC
-  unfoldable pub inside : ℕ → Transaction → Answer → Outcome
-  inside k x a =
+  unfoldable pub inTransaction : ℕ → Transaction → Answer → Outcome
+  inTransaction k x a =
       elim (a .change) [
         | none ↦ left (a .reply)
         | some c ↦ cond (ltb (length (x .changes)) mostChanges)
@@ -125,10 +125,10 @@ module _ (w : World) where
 
   unfoldable pub asked : Connection → ℕ → Ask → Names → Outcome
   asked c tx a ns =
-      cond (eqb tx 0) (plainly (answer (domainOf c) a ns (w .nodes)))
+      cond (eqb tx 0) (onStore (answer (domainOf c) a ns (w .nodes)))
       (elim (transactionOf c tx) [
         | none ↦ left (refused ENOENT)
-        | some x ↦ inside (tx - 1) x (answer (domainOf c) a ns (copyOf (tx - 1)))
+        | some x ↦ inTransaction (tx - 1) x (answer (domainOf c) a ns (copyOf (tx - 1)))
       ])
 
   unfoldable pub placeFits : Place → Bool
