@@ -36,10 +36,12 @@ unfolding soundCopy
 copy-open x copy t = rw (taken-some (opened 0) x t)
 
 -- copy k, as the code takes it
-pub copy-part : (copies : Octets) (k : ℕ) → soundTable (take (k * tableSize + tableSize - k * tableSize) (drop (k * tableSize) copies)) ≡ soundTable (take tableSize (drop (k * tableSize) copies))
+pub copy-part : (copies : Octets) (k : ℕ) → soundTable (take (k * tableSize + tableSize - k * tableSize) (drop (k * tableSize) copies))
+    ≡ soundTable (take tableSize (drop (k * tableSize) copies))
 copy-part copies k = ap (λ (n : ℕ). soundTable (take n (drop (k * tableSize) copies))) (add-sub-cancel-left (k * tableSize) tableSize)
 
-copies-cons : (x : Option Transaction) (copy : Octets) (xs : Transactions) (copies : List Octets) → soundCopies (x ∷ xs) (copy ∷ copies) ≡ (soundCopy x copy && soundCopies xs copies)
+copies-cons : (x : Option Transaction) (copy : Octets) (xs : Transactions) (copies : List Octets) →
+    soundCopies (x ∷ xs) (copy ∷ copies) ≡ (soundCopy x copy && soundCopies xs copies)
 unfolding soundCopies soundCopy
 copies-cons none copy xs copies = refl
 copies-cons (some x) copy xs copies = refl
@@ -47,7 +49,8 @@ copies-cons (some x) copy xs copies = refl
 module _ (copies transactions : Octets) (i : ℕ) where
   copy-at : i < 3 → getD (chunks mostTransactions tableSize copies) i [] ≡ take tableSize (drop (i * tableSize) copies)
   copy-at h =
-      sym (ap (λ (l : List Octets). getD l i []) (map-whole (chunks mostTransactions tableSize copies))) ∙ decoded-at whole mostTransactions tableSize i copies [] h
+      sym (ap (λ (l : List Octets). getD l i []) (map-whole (chunks mostTransactions tableSize copies)))
+      ∙ decoded-at whole mostTransactions tableSize i copies [] h
 
   -- the copies from place i on
   pub copies-next : i < 3 → soundCopies (drop i (transactionsOf transactions)) (drop i (chunks mostTransactions tableSize copies))
@@ -104,7 +107,8 @@ module _ (t : Tables) where
       unsound-watches w = rw (n, d, w)
 
       module _ (w : soundWatches (domainsOf (t .domains)) (t .watches) ≡ true) where
-        transactions-left : sound t ≡ (soundEntries (domainsOf (t .domains)) (t .transactions) && soundCopies (transactionsOf (t .transactions)) (chunks mostTransactions tableSize (t .copies)))
+        transactions-left : sound t ≡ (soundEntries (domainsOf (t .domains)) (t .transactions)
+            && soundCopies (transactionsOf (t .transactions)) (chunks mostTransactions tableSize (t .copies)))
         unfolding sound
         transactions-left =
             rw (n, d, w)
@@ -114,7 +118,8 @@ module _ (t : Tables) where
         pub unsound-entries : soundEntries (domainsOf (t .domains)) (t .transactions) ≡ false → sound t ≡ false
         unsound-entries e = transactions-left ∙ and-first _ _ e
 
-        pub copies-left : soundEntries (domainsOf (t .domains)) (t .transactions) ≡ true → sound t ≡ soundCopies (transactionsOf (t .transactions)) (chunks mostTransactions tableSize (t .copies))
+        pub copies-left : soundEntries (domainsOf (t .domains)) (t .transactions) ≡ true →
+            sound t ≡ soundCopies (transactionsOf (t .transactions)) (chunks mostTransactions tableSize (t .copies))
         copies-left e = transactions-left ∙ and-rest _ _ e
 
 -- ── the call number ──

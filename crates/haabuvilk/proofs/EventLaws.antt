@@ -51,4 +51,5 @@ module _ (watches domains events message : Octets) where
             → sentAs r after ≡ sentOver message (messageOf (watchesOf watches) events count i k)
             → MessageMeets watches domains events message count i k (sentAs e after)
         unfolding eventCall
-        answered r e after w q h = ap (λ (x : Sent). sentAs x after) (sym q) ∙ h ∙ sent-over (messageOf (watchesOf watches) events count i k) ∙ sym (rw (z, d, w) refl)
+        answered r e after w q h = ap (λ (x : Sent). sentAs x after) (sym q) ∙ h ∙ sent-over (messageOf (watchesOf watches) events count i k)
+            ∙ sym (rw (z, d, w) refl)

@@ -1,41 +1,36 @@
 -- What a node request's answer leaves: a sound table, a path within the sizes, and `OK` where it changed something.
 use mathlib.Core.Path.{_≡_, refl, sym, ap, subst, _∙_}
 use mathlib.Core.Bool.{Bool, true, false, cond, not, _&&_, and-eq-true-iff}
-use mathlib.Core.List.{List, [], _∷_}
+use mathlib.Core.List.{[], _∷_}
 use mathlib.Core.Option.{none, some, Option·none-ne-some}
-use Prim.Native.Nat.{ℕ, zero, suc, _-_, _≤_, _<_}
+use Prim.Native.Nat.{ℕ, suc, _-_, _≤_}
 use native.Mathlib.Omega.{arith}
 use lib.Dec.{eqb, leb}
-use lib.ListN.{length, take, replicate}
-use borrow.Author.Tests.{le-leb}
-use Rattle.rules.specs.Size.{lastDomain, longestValue, longestPath, mostEntries, replySize, tableSize}
+use lib.ListN.{length}
+use Rattle.rules.specs.Size.{longestValue, longestPath, mostEntries, replySize, tableSize}
 use Rattle.rules.specs.Octets.{Octets}
 use Rattle.rules.specs.Domain.{Domain}
 use Rattle.rules.specs.Path.{Names, namesIn, pathText, fits}
-use Rattle.rules.specs.Node.{Entry, Table, Reached, nodeAt, reach}
+use Rattle.rules.specs.Node.{Table, Reached, nodeAt, reach}
 use Rattle.rules.specs.Rights.{mayWrite}
 use Rattle.rules.specs.Payload as P
 use Rattle.rules.specs.Answer.{Reply, OK, Change, Answer, unchanged, changed, room, created, looked, written, directoryMade, taken, maySet, permitted, answered}
 use Rattle.rules.specs.Answer.{answer}
 use Rattle.rules.specs.Layout.{tableOf, tableBytes}
-use Rattle.rules.specs.Sound.{goodEntries, goodChange, soundTable}
+use Rattle.rules.specs.Sound.{goodChange, soundTable}
 use Rattle.rules.proofs.Cases.{cond-case}
-use Rattle.rules.proofs.Tables.{Each, each-append}
-use Rattle.rules.proofs.Slots.{EntryFits, table-read}
-use Rattle.rules.proofs.Fitting.{AskFits}
+use Rattle.rules.proofs.Slots.{table-read}
 use Rattle.rules.proofs.PathLaws.{full, fits-length}
-use Rattle.rules.proofs.GoodAnswers.{AskGood, change-good}
+use Rattle.rules.proofs.GoodAnswers.{change-good}
 use Rattle.rules.proofs.GoodRequests.{AskedGood}
 use Rattle.rules.proofs.SoundWorld.{TableSound, asked-sound, table-encoded, table-decoded}
 use Rattle.transactions.specs.Transaction.{changeGiven}
 use Rattle.nodes.specs.Answers.{Ready, effectMeant}
 use Rattle.nodes.specs.declared.kinds.Effect.{Effect}
 use Rattle.nodes.specs.declared.kinds.Effect.the-variants.{Wrote, Removed}
-use Rattle.payload.specs.Meaning.{entryMeant, blank, othersMeant, askMeant, EntrySound, EntriesSound, AskSound}
-use Rattle.payload.specs.declared.answer.Entry as Payload
-use Rattle.payload.specs.declared.answer.Entries.{Entries}
+use Rattle.payload.proofs.Kept.{ask-good, ask-fits}
+use Rattle.payload.specs.Meaning.{askMeant, AskSound}
 use Rattle.payload.specs.declared.answer.Ask.{Ask}
-use Rattle.payload.specs.declared.answer.Ask.the-variants as ask
 use Rattle.handlers.specs.Asking.{Asking}
 
 -- ── a change is told by `OK`, and without one the table stays ──
@@ -114,62 +109,6 @@ change-made false path x e = ap (λ (y : Effect). effectMeant y (namesIn path)) 
 change-made true path x e = ap (λ (y : Effect). effectMeant y (namesIn path)) e
 
 -- ── a request in its bounds ──
-
--- an entry within its bounds
-abbrev Bounded : Entry → Type 0
-Bounded e = (e .access < 4) × (e .domain ≤ lastDomain)
-
-bounded : (e : Payload.Entry) → EntrySound e → Bounded (entryMeant e)
-bounded e h = (h .access, h .domain)
-
-each-take : (n : ℕ) (es : List Entry) → Each Bounded es → Each Bounded (take n es)
-each-take zero es h = tt
-each-take (suc n) [] h = tt
-each-take (suc n) (e ∷ es) h = (h .0, each-take n es (h .1))
-
-each-blank : (n : ℕ) → Each Bounded (replicate n blank)
-each-blank zero = tt
-each-blank (suc n) = ((omega arith, omega arith), each-blank n)
-
-each-other : (k : Entries) → EntriesSound k → Each Bounded (othersMeant k)
-unfolding othersMeant
-each-other k h =
-    each-append Bounded (take (k .count - 1) (entryMeant (k .second) ∷ entryMeant (k .third) ∷ entryMeant (k .fourth) ∷ []))
-    (replicate (k .count - mostEntries) blank)
-    (each-take (k .count - 1) _ (bounded _ (h .second), (bounded _ (h .third), (bounded _ (h .fourth), tt))))
-    (each-blank (k .count - mostEntries))
-
-bounded-good : (es : List Entry) → Each Bounded es → goodEntries es ≡ true
-unfolding goodEntries
-bounded-good [] h = refl
-bounded-good (e ∷ es) h =
-    and-eq-true-iff (leb (e .domain) lastDomain) (goodEntries es) .1 (le-leb (e .domain) lastDomain (h .0 .1), bounded-good es (h .1))
-
-bounded-fits : (es : List Entry) → Each Bounded es → Each EntryFits es
-bounded-fits [] h = tt
-bounded-fits (e ∷ es) h = (record { access = h .0 .0; domain = omega (arith, h .0 .1) }, bounded-fits es (h .1))
-
--- the entries that are asked for name domains
-pub ask-good : (s : Octets) (a : Ask) → AskSound s a → AskGood (askMeant s a)
-ask-good s ask.Directory h = tt
-ask-good s ask.Read h = tt
-ask-good s ask.GetPerms h = tt
-ask-good s (ask.Write from) h = tt
-ask-good s ask.Mkdir h = tt
-ask-good s ask.Rm h = tt
-ask-good s (ask.SetPerms es) h = bounded-good (entryMeant (es .first) ∷ othersMeant es) (bounded _ (h .first), each-other es h)
-
--- the entries that are asked for fit their fields
-pub ask-fits : (s : Octets) (a : Ask) → AskSound s a → AskFits (askMeant s a)
-ask-fits s ask.Directory h = tt
-ask-fits s ask.Read h = tt
-ask-fits s ask.GetPerms h = tt
-ask-fits s (ask.Write from) h = tt
-ask-fits s ask.Mkdir h = tt
-ask-fits s ask.Rm h = tt
-ask-fits s (ask.SetPerms es) h =
-    let f = bounded-fits (entryMeant (es .first) ∷ othersMeant es) (bounded _ (h .first), each-other es h) in
-    (f .0, f .1)
 
 module _ {d : Domain} {ask : Ask} {path s : Octets} (k : Asking d ask path s) where
   abbrev pub request : P.Ask

@@ -20,7 +20,7 @@ use Rattle.rules.specs.Layout.{Transaction, Transactions, Domains, tableBytes, 
 use Rattle.rules.specs.Layout.{domainsBytes, domainsOf}
 use Rattle.rules.specs.Sound.{introduced}
 use Rattle.rules.specs.World as W
-use Rattle.rules.specs.World.{World, left, to, staled, staledIf, speaksFor, withoutWatches, withoutTransactions, releasing, withNodes, withWatches}
+use Rattle.rules.specs.World.{World, left, to, staled, staledIf, withoutWatches, withoutTransactions, releasing, withNodes, withWatches}
 use Rattle.rules.specs.World.{withTransactions, withDomains}
 use Rattle.rules.proofs.GoodNodes.{withoutAll-good}
 use Rattle.rules.proofs.Fitting.{withoutAll-fits}
@@ -180,7 +180,8 @@ module _ (nodes ws xs ds : Octets) (d : Domain) (events nodes′ ws′ xs′ ds�
     (q : Released nodes ws xs ds d events nodes′ ws′ xs′ ds′ events′ n)
     (w : World) (nw : w .nodes ≡ tableOf nodes) (ww : w .watches ≡ watchesOf ws) (xw : w .transactions ≡ transactionsOf xs)
     (dw : w .domains ≡ domainsOf ds) where
-  pub released-handled : 1 ≤ d → d ≤ lastDomain → introduced d (domainsOf ds) ≡ true → (reply reply′ : Octets) (x : Reply) (r : Outcome) → Told OK x reply reply′ → r ≡ outcomeOf x n →
+  pub released-handled : 1 ≤ d → d ≤ lastDomain → introduced d (domainsOf ds) ≡ true → (reply reply′ : Octets) (x : Reply) (r : Outcome) →
+      Told OK x reply reply′ → r ≡ outcomeOf x n →
       Handled (releasing w d) (tables nodes′ (itsCopies w) ws′ xs′ ds′) reply reply′ events events′ r
   released-handled low high h reply reply′ x r t p =
       let e = release-done w d (domainsOf ds) dw low high h in

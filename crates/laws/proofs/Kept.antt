@@ -1,13 +1,12 @@
 -- What a request leaves of an open transaction: its holder, its stale mark with the request's change, and whether it has recorded one.
 use mathlib.Core.Path.{_≡_, refl, sym, _∙_, ap}
 use mathlib.Core.Bool.{Bool, true, false, not, _||_, or-false, or-true, true≢false}
-use mathlib.Core.List.{[], _∷_}
 use mathlib.Core.Option.{Option, none, some}
-use Prim.Native.Nat.{ℕ, zero, suc}
-use lib.ListN.{getD, set}
+use Prim.Native.Nat.{ℕ}
+use lib.ListN.{set}
 use Rattle.rules.specs.Entries.{isEmpty, lowest, without}
 use Rattle.rules.specs.Layout.{Transaction, Transactions}
-use Rattle.rules.specs.World.{staled, staledIf}
+use Rattle.rules.specs.World.{staledIf}
 use Rattle.rules.proofs.Places.{nothing, some-is, At, set-cases, lowest-free, at-without}
 use Rattle.rules.proofs.OpenTransactions.{getD-staled}
 

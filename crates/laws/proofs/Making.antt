@@ -9,17 +9,15 @@ use native.Mathlib.Omega.{arith}
 use lib.ListN.{length, getD, set}
 use lib.Seq.{getD-set-same, getD-set-other}
 use lib.Dec.{leb}
-use borrow.Author.Tests.{leb-true}
 use Rattle.rules.specs.Size.{longestValue}
 use Rattle.rules.specs.Octets.{Octets}
 use Rattle.rules.specs.Entries.{isEmpty, lowest, freeCount}
-use Rattle.rules.specs.Path.{Name, Domain, Names, fits}
+use Rattle.rules.specs.Path.{Name, Domain, Names}
 use Rattle.rules.specs.Node.{Node, Table, Reached, nodeAt, child, reachFrom, reach, newNode, lastValue, made, withValue}
 use Rattle.rules.specs.Payload.{write, mkdir, onRoot}
 use Rattle.rules.specs.Rights.{mayWrite}
 use Rattle.rules.specs.Answer.{Answer, answer, answered, created, changed, unchanged, room, written, directoryMade}
 use Rattle.rules.proofs.Cases.{cond-case, cond-known}
-use Rattle.rules.proofs.Compare.{both-true}
 use Rattle.rules.proofs.Places.{At, nothing, lowest-free}
 use Rattle.rules.proofs.Fitting.{roomy, lowest-below, free-fewer, reach-below}
 use Rattle.rules.proofs.GoodTables.{Good, good-of, nodeAt-is, child-some, child-back}

@@ -53,7 +53,8 @@ module _ (ts : Table) (j : ℕ) (is : List ℕ) (k : ℕ) where
   place-further h l =
       ap (λ (r : List ℕ). take k is ++ insert ts j r) (Seq.drop-cons is k 0 h)
       ∙ rw (l, add-one)
-      (sym (Seq.append-snoc (take k is) (getD is k 0) (insert ts j (drop (suc k) is))) ∙ ap (λ (r : List ℕ). r ++ insert ts j (drop (suc k) is)) (sym (Seq.take-suc is k 0 h)))
+      (sym (Seq.append-snoc (take k is) (getD is k 0) (insert ts j (drop (suc k) is)))
+      ∙ ap (λ (r : List ℕ). r ++ insert ts j (drop (suc k) is)) (sym (Seq.take-suc is k 0 h)))
 
   pub place-over : length is ≤ k → insert ts j (drop k is) ≡ j ∷ drop k is
   unfolding insert
@@ -112,7 +113,8 @@ module _ (list₀ : List ℕ) (n m : ℕ) (list : List ℕ) (h : n < length list
       let ys = take (n - m) (drop m list₀) in
       let back : suc (m - 1) ≡ m = omega arith in
       let one : n - (m - 1) ≡ suc (n - m) = omega arith in
-      let front : getD list (m - 1) 0 ≡ getD list₀ (m - 1) 0 = ap (λ (l : List ℕ). getD l (m - 1) 0) e ∙ getD-paste-before (m + 1) ys list₀ (m - 1) (omega arith) (omega arith) in
+      let front : getD list (m - 1) 0 ≡ getD list₀ (m - 1) 0 = ap (λ (l : List ℕ). getD l (m - 1) 0) e
+      ∙ getD-paste-before (m + 1) ys list₀ (m - 1) (omega arith) (omega arith) in
       let part-up : take (n - (m - 1)) (drop (m - 1) list₀) ≡ getD list₀ (m - 1) 0 ∷ ys =
       ap₂ take one (Seq.drop-cons list₀ (m - 1) 0 (omega arith) ∙ ap (λ (i : ℕ). getD list₀ (m - 1) 0 ∷ drop i list₀) back) in
       ap₂ (λ (l : List ℕ) (x : ℕ). set l m x) e front
@@ -139,14 +141,16 @@ module _ (ts : Table) (j : ℕ) (list : List ℕ) (n k : ℕ) (long : n ≤ leng
   placed l =
       record {
         within = omega (arith, here);
-        inserted = so-far ∙ ap (λ (r : List ℕ). take k (take n list) ++ r) (place-here ts j (take n list) k here (ap (λ (i : ℕ). less (nodeAt ts j .name) (nodeAt ts i .name)) element ∙ l));
+        inserted = so-far ∙ ap (λ (r : List ℕ). take k (take n list) ++ r)
+            (place-here ts j (take n list) k here (ap (λ (i : ℕ). less (nodeAt ts j .name) (nodeAt ts i .name)) element ∙ l));
       }
 
   pub not-placed : less (nodeAt ts j .name) (nodeAt ts (getD list k 0) .name) ≡ false →
       insert ts j (take n list) ≡ take (k + 1) (take n list) ++ insert ts j (drop (k + 1) (take n list))
   not-placed l = so-far ∙ place-further ts j (take n list) k here (ap (λ (i : ℕ). less (nodeAt ts j .name) (nodeAt ts i .name)) element ∙ l)
 
-pub placed-last : (ts : Table) (j : ℕ) (is : List ℕ) (k : ℕ) → k ≤ length is → length is ≤ k → insert ts j is ≡ take k is ++ insert ts j (drop k is) → Placed ts j is k
+pub placed-last : (ts : Table) (j : ℕ) (is : List ℕ) (k : ℕ) → k ≤ length is → length is ≤ k → insert ts j is ≡ take k is ++ insert ts j (drop k is) →
+    Placed ts j is k
 placed-last ts j is k low high so-far = record { within = low; inserted = so-far ∙ ap (λ (r : List ℕ). take k is ++ r) (place-over ts j is k high) }
 
 -- ── the children gathered from the last slot down ──
@@ -163,15 +167,18 @@ all-insert : (t : Octets) (ts : Table) (j : ℕ) (is : List ℕ) → Asked t j �
 unfolding insert
 all-insert t ts j [] a rest = (a, tt)
 all-insert t ts j (k ∷ ks) a rest =
-    cond-case (AllAsked t) (less (nodeAt ts j .name) (nodeAt ts k .name)) (j ∷ k ∷ ks) (k ∷ insert ts j ks) (a, rest) (rest .0, all-insert t ts j ks a (rest .1))
+    cond-case (AllAsked t) (less (nodeAt ts j .name) (nodeAt ts k .name)) (j ∷ k ∷ ks) (k ∷ insert ts j ks) (a, rest)
+    (rest .0, all-insert t ts j ks a (rest .1))
 
 -- what is put into place k of the first n
-put-at : (list : List ℕ) (n k j : ℕ) → k ≤ n → n < length list → take (n + 1) (paste k (j ∷ take (n - k) (drop k list)) list) ≡ take k (take n list) ++ (j ∷ drop k (take n list))
+put-at : (list : List ℕ) (n k j : ℕ) → k ≤ n → n < length list → take (n + 1) (paste k (j ∷ take (n - k) (drop k list)) list)
+    ≡ take k (take n list) ++ (j ∷ drop k (take n list))
 unfolding paste
 put-at list n k j h long =
     let part = j ∷ take (n - k) (drop k list) in
     let size : length (take k list ++ part) ≡ n + 1 =
-    length-append (take k list) part ∙ ap₂ _+_ (Seq.length-take-le k list (omega arith)) (ap suc (Seq.length-take-le (n - k) (drop k list) (rw length-drop (omega arith)))) ∙ omega arith in
+    length-append (take k list) part ∙ ap₂ _+_ (Seq.length-take-le k list (omega arith))
+    (ap suc (Seq.length-take-le (n - k) (drop k list) (rw length-drop (omega arith)))) ∙ omega arith in
     ap (take (n + 1)) (sym (append-assoc (take k list) part (drop (k + length part) list)))
     ∙ Seq.take-at (take k list ++ part) (drop (k + length part) list) (n + 1) size
     ∙ ap₂ (λ (x y : List ℕ). x ++ (j ∷ y)) (sym (Seq.take-take k n list h)) (sym (drop-take k n list))
@@ -191,11 +198,13 @@ module _ (t : Octets) (p i n : ℕ) (list : List ℕ) (g : Gathered t p i n list
         low = omega arith;
         few = omega (arith, g .few);
         long = g .long;
-        all = g .all ∙ sym (children-without (tableOf t) p (i - 1) low (omega arith) c ∙ ap (λ (k : ℕ). childrenFrom (tableOf t) p k (drop k (tableOf t))) back);
+        all = g .all ∙ sym (children-without (tableOf t) p (i - 1) low (omega arith) c
+            ∙ ap (λ (k : ℕ). childrenFrom (tableOf t) p k (drop k (tableOf t))) back);
         asked = g .asked;
       }
 
-  pub gather-put : hasParent p (slotAt t (i - 1)) ≡ true → Asked t (i - 1) → (k : ℕ) → Placed (tableOf t) (i - 1) (take n list) k → (j : ℕ) → j ≡ i - 1 → (list′ : List ℕ)
+  pub gather-put : hasParent p (slotAt t (i - 1)) ≡ true → Asked t (i - 1) → (k : ℕ) → Placed (tableOf t) (i - 1) (take n list) k → (j : ℕ) → j ≡ i - 1 →
+      (list′ : List ℕ)
       → list′ ≡ paste k (j ∷ take (n - k) (drop k list)) list → Gathered t p (i - 1) (n + 1) list′
   gather-put c a k at j e list′ l =
       let back : i - 1 + 1 ≡ i = omega arith in
@@ -207,8 +216,10 @@ module _ (t : Octets) (p i n : ℕ) (list : List ℕ) (g : Gathered t p i n list
       record {
         low = omega arith;
         few = omega (arith, g .few);
-        long = ap length l ∙ length-paste k (j ∷ take (n - k) (drop k list)) list (rw (Seq.length-take-le (n - k) (drop k list) (rw length-drop (omega arith))) (omega arith)) ∙ g .long;
-        all = put ∙ ap (insert (tableOf t) (i - 1)) (g .all ∙ ap (λ (m : ℕ). childrenFrom (tableOf t) p m (drop m (tableOf t))) (sym back)) ∙ sym (children-with (tableOf t) p (i - 1) low (omega arith) c);
+        long = ap length l ∙ length-paste k (j ∷ take (n - k) (drop k list)) list
+            (rw (Seq.length-take-le (n - k) (drop k list) (rw length-drop (omega arith))) (omega arith)) ∙ g .long;
+        all = put ∙ ap (insert (tableOf t) (i - 1)) (g .all ∙ ap (λ (m : ℕ). childrenFrom (tableOf t) p m (drop m (tableOf t))) (sym back))
+            ∙ sym (children-with (tableOf t) p (i - 1) low (omega arith) c);
         asked = rw put (all-insert t (tableOf t) (i - 1) (take n list) a (g .asked));
       }
 

@@ -8,7 +8,7 @@ use native.Mathlib.Omega.{arith}
 use lib.ListN.{length, getD, take, drop, set, length-append}
 use lib.Seq as Seq
 use lib.Dec.{lit≤}
-use Rattle.rules.specs.Size.{longestName, slots}
+use Rattle.rules.specs.Size.{longestName}
 use Rattle.rules.specs.Octets.{Octets, nul, paste, decimal, bitsAt}
 use Rattle.rules.specs.Node.{Entry, Node, Table, nodeAt}
 use Rattle.rules.specs.Answer.{nameList, accessText, entryText}
@@ -27,14 +27,16 @@ use Rattle.lookup.proofs.RightsLaws.{few}
 
 -- ── one more of a list ──
 
-pub flat-next : {A : Type 0} (f : A → Octets) (xs : List A) (k : ℕ) (d : A) → k < length xs → flatMap f (take (k + 1) xs) ≡ flatMap f (take k xs) ++ f (getD xs k d)
+pub flat-next : {A : Type 0} (f : A → Octets) (xs : List A) (k : ℕ) (d : A) → k < length xs →
+    flatMap f (take (k + 1) xs) ≡ flatMap f (take k xs) ++ f (getD xs k d)
 unfolding flatMap
 flat-next f xs k d h =
     ap (λ (j : ℕ). flatMap f (take j xs)) (add-one k)
     ∙ ap (flatMap f) (Seq.take-suc xs k d h)
     ∙ flat-last f (take k xs) (getD xs k d)
 
-pub names-next : (ts : Table) (is : List ℕ) (k : ℕ) → k < length is → nameList ts (take (k + 1) is) ≡ nameList ts (take k is) ++ (nodeAt ts (getD is k 0) .name ++ nul)
+pub names-next : (ts : Table) (is : List ℕ) (k : ℕ) → k < length is → nameList ts (take (k + 1) is)
+    ≡ nameList ts (take k is) ++ (nodeAt ts (getD is k 0) .name ++ nul)
 unfolding nameList
 names-next ts is k h = flat-next (λ (i : ℕ). nodeAt ts i .name ++ nul) is k 0 h
 
@@ -43,7 +45,8 @@ names-next ts is k h = flat-next (λ (i : ℕ). nodeAt ts i .name ++ nul) is k 0
 pub name-length : (t : Octets) (i : ℕ) → Asked t i → nameLength t i ≡ length (nodeAt (tableOf t) i .name)
 name-length t i a =
     let n = used-some (slotAt t i) (a .used) in
-    name-length-is t (sound-canonical t (a .sound)) i (a .below) (n .0) (n .1) ∙ ap (λ (m : Node). length (m .name)) (sym (node-some (tableOf t) i (n .0) (n .1)))
+    name-length-is t (sound-canonical t (a .sound)) i (a .below) (n .0) (n .1)
+    ∙ ap (λ (m : Node). length (m .name)) (sym (node-some (tableOf t) i (n .0) (n .1)))
 
 pub name-fits : (t : Octets) (i : ℕ) → length (nodeAt (tableOf t) i .name) ≤ longestName
 name-fits t i = nodeAt-fits (tableOf t) i (decoded-fits t .all) .name
@@ -54,7 +57,8 @@ pub names-longer : (t : Octets) (is : List ℕ) (k : ℕ) → k < length is → 
 names-longer t is k h a =
     ap length (names-next (tableOf t) is k h)
     ∙ length-append (nameList (tableOf t) (take k is)) (nodeAt (tableOf t) (getD is k 0) .name ++ nul)
-    ∙ ap (λ (m : ℕ). length (nameList (tableOf t) (take k is)) + m) (length-append (nodeAt (tableOf t) (getD is k 0) .name) nul ∙ ap (λ (m : ℕ). m + 1) (sym (name-length t (getD is k 0) a)))
+    ∙ ap (λ (m : ℕ). length (nameList (tableOf t) (take k is)) + m) (length-append (nodeAt (tableOf t) (getD is k 0) .name) nul
+    ∙ ap (λ (m : ℕ). m + 1) (sym (name-length t (getD is k 0) a)))
 
 -- fewer names are not longer
 pub names-mono : (ts : Table) (is : List ℕ) (j n : ℕ) → j ≤ n → length (nameList ts (take j is)) ≤ length (nameList ts (take n is))
@@ -92,7 +96,8 @@ module _ (at : ℕ) (xs before into : Octets) (to : ℕ) (written : into ≡ pas
 
     pub nul-behind : set after (to + length ys) 0 ≡ paste at (xs ++ (ys ++ nul)) before
     nul-behind =
-        let e : to + length ys ≡ at + length (xs ++ ys) = ap (λ (n : ℕ). n + length ys) behind ∙ add-assoc at (length xs) (length ys) ∙ ap (λ (n : ℕ). at + n) (sym (length-append xs ys)) in
+        let e : to + length ys ≡ at + length (xs ++ ys) = ap (λ (n : ℕ). n + length ys) behind ∙ add-assoc at (length xs) (length ys)
+        ∙ ap (λ (n : ℕ). at + n) (sym (length-append xs ys)) in
         set-paste after (to + length ys) 0 (omega (arith, room-after))
         ∙ ap (paste (to + length ys) nul) joined
         ∙ paste-behind at (to + length ys) (xs ++ ys) nul before (omega arith) e
@@ -138,7 +143,8 @@ entry-short e low = omega (arith, length-decimal-lt 5 (e .domain) (lit≤ tt) (o
 abbrev pub entries : Octets → ℕ → List Entry
 entries t i = nodeAt (tableOf t) i .owner ∷ nodeAt (tableOf t) i .others
 
-pub entry-listed : (t : Octets) (i : ℕ) → Asked t i → (k : ℕ) → k < suc (length (nodeAt (tableOf t) i .others)) → entryOf t i k ≡ getD (entries t i) k (entryOf t i k)
+pub entry-listed : (t : Octets) (i : ℕ) → Asked t i → (k : ℕ) → k < suc (length (nodeAt (tableOf t) i .others)) →
+    entryOf t i k ≡ getD (entries t i) k (entryOf t i k)
 entry-listed t i a k h =
     let n = used-some (slotAt t i) (a .used) in
     let e = node-some (tableOf t) i (n .0) (n .1) in
@@ -176,12 +182,15 @@ module _ (t : Octets) (i : ℕ) (a : Asked t i) (at : ℕ) (before : Octets) (ro
         let more : xs ++ entryText e ≡ flatMap entryText (take (k + 1) (entries t i)) =
         ap (λ (x : Entry). xs ++ entryText x) same ∙ sym (flat-next entryText (entries t i) k (entryOf t i k) h) in
         record {
-          bytes = p .bytes ∙ ap (paste to (entryText e)) (w .bytes) ∙ paste-behind at to xs (entryText e) before (omega arith) (w .behind) ∙ ap (λ (l : Octets). paste at l before) more;
-          behind = p .behind ∙ ap (λ (n : ℕ). n + length (entryText e)) (w .behind) ∙ add-assoc at (length xs) (length (entryText e)) ∙ ap (λ (n : ℕ). at + n) (sym (length-append xs (entryText e)) ∙ ap length more);
+          bytes = p .bytes ∙ ap (paste to (entryText e)) (w .bytes) ∙ paste-behind at to xs (entryText e) before (omega arith) (w .behind)
+              ∙ ap (λ (l : Octets). paste at l before) more;
+          behind = p .behind ∙ ap (λ (n : ℕ). n + length (entryText e)) (w .behind) ∙ add-assoc at (length xs) (length (entryText e))
+              ∙ ap (λ (n : ℕ). at + n) (sym (length-append xs (entryText e)) ∙ ap length more);
           short = omega (arith, p .behind, w .short, entry-short e (omega (arith, entry-fits)));
         }
 
-  pub all-written : (k : ℕ) (into : Octets) (to : ℕ) → Written t i at before k into to → length (entries t i) ≤ k → Put at (flatMap entryText (entries t i)) before into to
+  pub all-written : (k : ℕ) (into : Octets) (to : ℕ) → Written t i at before k into to → length (entries t i) ≤ k →
+      Put at (flatMap entryText (entries t i)) before into to
   all-written k into to w h =
       let e = Seq.take-all k (entries t i) h in
       record {

@@ -129,13 +129,15 @@ left-whole p f = elim (decLt 1 (length p)) [
 
 -- ── a turn of the look-up ──
 
-module _ (t p : Octets) (i at : ℕ) (h : at < length p) (names : allNames (leftAt p at) ≡ true) (so-far : reach (tableOf t) (namesIn p) ≡ reachFrom (leftAt p at) (tableOf t) i) (end : ℕ) (e : nameEnd p at ≡ end) where
+module _ (t p : Octets) (i at : ℕ) (h : at < length p) (names : allNames (leftAt p at) ≡ true)
+    (so-far : reach (tableOf t) (namesIn p) ≡ reachFrom (leftAt p at) (tableOf t) i) (end : ℕ) (e : nameEnd p at ≡ end) where
   next : leftAt p at ≡ take (end - at) (drop at p) ∷ leftAt p (end + 1)
   next = left-next p at h names ∙ ap (λ (k : ℕ). take (k - at) (drop at p) ∷ leftAt p (k + 1)) e
 
   -- the name is there: below it
   pub turned : (j : ℕ) → child (tableOf t) i (take (end - at) (drop at p)) ≡ some j →
-      (j < slots) × (isUsed (slotAt t j) ≡ true) × (allNames (leftAt p (end + 1)) ≡ true) × (reach (tableOf t) (namesIn p) ≡ reachFrom (leftAt p (end + 1)) (tableOf t) j)
+      (j < slots) × (isUsed (slotAt t j) ≡ true) × (allNames (leftAt p (end + 1)) ≡ true)
+      × (reach (tableOf t) (namesIn p) ≡ reachFrom (leftAt p (end + 1)) (tableOf t) j)
   unfolding allNames
   turned j c =
       let u = found-used (tableOf t) i j (take (end - at) (drop at p)) c in (

@@ -30,7 +30,8 @@ module _ (d : Domain) (f : ℕ) (es : List Entry) (k : ℕ) (h : 1 ≤ k) where
       let e : suc (k - 1) ≡ k + 1 - 1 = omega arith in
       drop-cons es (k - 1) x (omega arith) ∙ ap (λ (j : ℕ). getD es (k - 1) x ∷ drop j es) e
 
-  pub named-here : (x : Entry) → k ≤ length es → getD es (k - 1) x .domain ≡ d → named d f k (from k es) ≡ record { access = getD es (k - 1) x .access; ground = entry k }
+  pub named-here : (x : Entry) → k ≤ length es → getD es (k - 1) x .domain ≡ d →
+      named d f k (from k es) ≡ record { access = getD es (k - 1) x .access; ground = entry k }
   unfolding named
   named-here x b e = rw (split x b, eq-eqb (getD es (k - 1) x .domain) d e)
 

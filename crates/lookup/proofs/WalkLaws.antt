@@ -1,18 +1,18 @@
 -- The walk, node by node and list by list, and what it enters.
-use mathlib.Core.Path.{_≡_, refl, sym, ap, ap₂, _∙_, subst}
+use mathlib.Core.Path.{_≡_, sym, ap, ap₂, _∙_, subst}
 use mathlib.Core.Bool.{true}
 use mathlib.Core.List.{List, [], _∷_, _++_, append-assoc, append-nil, flatMap}
-use Prim.Native.Nat.{ℕ, zero, suc, _+_, _-_, _≤_, _<_}
-use native.Mathlib.Numerals.{add-one, sub-one}
+use Prim.Native.Nat.{ℕ, suc, _+_, _-_, _≤_, _<_}
+use native.Mathlib.Numerals.{add-one}
 use native.Mathlib.Omega.{arith}
 use lib.ListN.{length, getD, take, drop, set, drop-of-length-le, length-append}
 use lib.Seq as Seq
-use lib.Dec.{eqb, lit<}
+use lib.Dec.{lit<}
 use borrow.Author.Tests.{eq-eqb, ne-eqb}
 use Rattle.rules.specs.Size.{slots}
 use Rattle.rules.specs.Octets.{Octets}
 use Rattle.rules.specs.Path.{Domain}
-use Rattle.rules.specs.Node.{Entry, Node, Table, nodeAt, children, ownedBelow, ownedBy}
+use Rattle.rules.specs.Node.{Entry, Table, nodeAt, ownedBelow, ownedBy}
 use Rattle.rules.specs.Layout.{tableOf}
 use Rattle.rules.specs.Sound.{soundTable}
 use Rattle.rules.proofs.Tables.{Each, each-at, each-map}
@@ -66,7 +66,8 @@ module _ (m : ℕ) (ts : Table) (d : Domain) (list : List ℕ) (n k : ℕ) (long
       ap (flatMap (ownedBelow m ts d)) (Seq.drop-cons (take n list) k 0 (rw count-is h))
       ∙ ap₂ (λ (i j : ℕ). ownedBelow m ts d i ++ flatMap (ownedBelow m ts d) (drop j (take n list))) (Seq.getD-take n list k 0 h) (sym (add-one k))
 
-  pub among-length : k < n → length (ownedAmong m ts d (drop k (take n list))) ≡ length (ownedBelow m ts d (getD list k 0)) + length (ownedAmong m ts d (drop (k + 1) (take n list)))
+  pub among-length : k < n → length (ownedAmong m ts d (drop k (take n list)))
+      ≡ length (ownedBelow m ts d (getD list k 0)) + length (ownedAmong m ts d (drop (k + 1) (take n list)))
   among-length h = ap length (among-next h) ∙ length-append (ownedBelow m ts d (getD list k 0)) (ownedAmong m ts d (drop (k + 1) (take n list)))
 
 -- ── what is entered ──
@@ -82,7 +83,8 @@ entered-one list n i j is h e f =
 pub entered-as : (list : List ℕ) (n : ℕ) (xs is after : List ℕ) (r : ℕ) → is ≡ xs → Entered list n xs after r → Entered list n is after r
 entered-as list n xs is after r e a = subst (λ (l : List ℕ). Entered list n l after r) (sym e) a
 
-pub entered-join : (list : List ℕ) (n : ℕ) (xs middle : List ℕ) (r : ℕ) (ys after : List ℕ) (q : ℕ) (is : List ℕ) → Entered list n xs middle r → Entered middle r ys after q → is ≡ xs ++ ys → Entered list n is after q
+pub entered-join : (list : List ℕ) (n : ℕ) (xs middle : List ℕ) (r : ℕ) (ys after : List ℕ) (q : ℕ) (is : List ℕ) → Entered list n xs middle r →
+    Entered middle r ys after q → is ≡ xs ++ ys → Entered list n is after q
 entered-join list n xs middle r ys after q is a b e =
     record {
       count = omega (arith, a .count, b .count, ap length e ∙ length-append xs ys);

@@ -4,7 +4,7 @@ use mathlib.Core.Bool.{true, false}
 use mathlib.Core.List.{List, [], _∷_, _++_, append-nil}
 use Prim.Native.Nat.{ℕ, zero, suc, _-_, _≤_, _<_}
 use native.Mathlib.Omega.{arith}
-use lib.ListN.{length, take, getD, replicate, length-append, length-take, length-replicate}
+use lib.ListN.{take, getD, replicate}
 use lib.Dec.{eqb}
 use Rattle.rules.specs.Size.{mostEntries}
 use Rattle.rules.specs.Octets.{Octets}
@@ -53,11 +53,6 @@ module _ (es : Entries) where
   -- those after the owner's that are kept, of as many as there are
   abbrev front : List Entry
   front = take (es .count - 1) (entryMeant (es .second) ∷ entryMeant (es .third) ∷ entryMeant (es .fourth) ∷ [])
-
-  -- the owner's and the others are as many as there are
-  pub many-meant : 1 ≤ es .count → suc (length (othersMeant es)) ≡ es .count
-  unfolding othersMeant
-  many-meant h = simp (length-append, length-take, length-replicate) (omega arith)
 
   module _ (few : es .count ≤ mostEntries) where
     others-in : othersIn (es .count) accesses domains ≡ othersMeant es

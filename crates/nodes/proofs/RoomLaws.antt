@@ -1,12 +1,12 @@
 -- What is left of a path: how many names, and whether there is room for them.
 use mathlib.Core.Path.{_≡_, ap, ap₂}
-use mathlib.Core.Bool.{true, false, _&&_}
+use mathlib.Core.Bool.{true, false}
 use Prim.Native.Nat.{ℕ, suc, _+_, _≤_, _<_}
 use native.Mathlib.Numerals.{add-one}
 use lib.ListN.{length, getD, drop, drop-of-length-le}
 use lib.Seq.{drop-cons}
 use lib.Dec.{leb}
-use borrow.Author.Tests.{eq-eqb, ne-eqb, le-leb, lt-leb, leb-true}
+use borrow.Author.Tests.{eq-eqb, ne-eqb, le-leb, lt-leb}
 use Rattle.rules.specs.Size.{longestValue, deepest}
 use Rattle.rules.specs.Octets.{Octets}
 use Rattle.rules.specs.Entries.{freeCount}

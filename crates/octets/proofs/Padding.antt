@@ -47,7 +47,8 @@ module _ (y : Octets) (n h size : ℕ) (l : n ≤ h) (w : h + h ≤ size) where
   pub first-decides : allZero (drop h (take size y)) ≡ true → allZero (take h (drop n y)) ≡ allZero (drop n (take size y))
   first-decides e =
       let turned : n + h ≡ h + n = omega arith in
-      let late = both-true (allZero (take n (drop h y))) (allZero (take (size - h - n) (drop (h + n) y))) (sym (pieces y size h n (size - h - n) (omega arith)) ∙ e) in
+      let late = both-true (allZero (take n (drop h y))) (allZero (take (size - h - n) (drop (h + n) y)))
+      (sym (pieces y size h n (size - h - n) (omega arith)) ∙ e) in
       sym (pieces y size n h (size - h - n) (omega arith) ∙ rw (turned, late .1) (and-true (allZero (take h (drop n y)))))
 
 -- the parts as the code has them

@@ -84,7 +84,8 @@ module _ (a s : Octets) (f : isFull a ≡ true) (g : isFull s ≡ true) where
       where
         go : (ns : Names) → a ≡ pathText ns → s ≡ pathText (ns ++ beneath .rest) → drop (length a) s ≡ slashed (beneath .rest)
         go [] e p = absurd (false≢true (sym h ∙ ap (λ (x : Octets). same x (47 ∷ [])) e ∙ same-refl (47 ∷ [])))
-        go (n ∷ ns) e p = ap (drop (length a)) (p ∙ slashed-append (n ∷ ns) (beneath .rest) ∙ ap (λ (x : Octets). x ++ slashed (beneath .rest)) (sym e)) ∙ drop-append-seam a (slashed (beneath .rest))
+        go (n ∷ ns) e p = ap (drop (length a)) (p ∙ slashed-append (n ∷ ns) (beneath .rest) ∙ ap (λ (x : Octets). x ++ slashed (beneath .rest)) (sym e))
+            ∙ drop-append-seam a (slashed (beneath .rest))
 
     rest-text : drop (length a) s ≡ pathText (beneath .rest)
     unfolding pathText slashed
@@ -95,7 +96,8 @@ module _ (a s : Octets) (f : isFull a ≡ true) (g : isFull s ≡ true) where
         go (n ∷ ns) e = e
 
     rest-names : allNames (beneath .rest) ≡ true
-    rest-names = and-eq-true-iff (allNames (namesIn a)) _ .0 (sym (names-append (namesIn a) (beneath .rest)) ∙ ap allNames (sym (beneath .joined)) ∙ full s g .names) .1
+    rest-names = and-eq-true-iff (allNames (namesIn a)) _ .0 (sym (names-append (namesIn a) (beneath .rest)) ∙ ap allNames (sym (beneath .joined))
+        ∙ full s g .names) .1
 
     rest-short : length (pathText (beneath .rest)) ≤ longestAbsolute
     rest-short = let l = sym (ap length rest-text) ∙ length-drop (length a) s in omega (arith, l, full s g .short)

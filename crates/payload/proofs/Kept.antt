@@ -22,7 +22,7 @@ use Rattle.rules.specs.World.{World, Outcome, left, transactionOf, copyOf, hand
 use Rattle.rules.specs.Call.{outcomeOf}
 use Rattle.rules.proofs.Tables.{Each, each-append}
 use Rattle.rules.proofs.Slots.{EntryFits}
-use Rattle.rules.proofs.Fitting.{AskFits}
+use Rattle.rules.proofs.Fitting.{AskFits, take-each}
 use Rattle.rules.proofs.GoodAnswers.{AskGood}
 use Rattle.payload.specs.Meaning.{
   entryMeant,
@@ -145,11 +145,6 @@ Bounded e = (e .access < 4) × (e .domain ≤ lastDomain)
 bounded : (e : Entry) → EntrySound e → Bounded (entryMeant e)
 bounded e h = (h .access, h .domain)
 
-each-take : (n : ℕ) (es : List nodes.Entry) → Each Bounded es → Each Bounded (take n es)
-each-take zero es h = tt
-each-take (suc n) [] h = tt
-each-take (suc n) (e ∷ es) h = (h .0, each-take n es (h .1))
-
 each-blank : (n : ℕ) → Each Bounded (replicate n blank)
 each-blank zero = tt
 each-blank (suc n) = ((omega arith, omega arith), each-blank n)
@@ -159,7 +154,7 @@ unfolding othersMeant
 each-other k h =
     each-append Bounded (take (k .count - 1) (entryMeant (k .second) ∷ entryMeant (k .third) ∷ entryMeant (k .fourth) ∷ []))
     (replicate (k .count - mostEntries) blank)
-    (each-take (k .count - 1) _ (bounded _ (h .second), (bounded _ (h .third), (bounded _ (h .fourth), tt))))
+    (take-each Bounded (k .count - 1) _ (bounded _ (h .second), (bounded _ (h .third), (bounded _ (h .fourth), tt))))
     (each-blank (k .count - mostEntries))
 
 bounded-good : (es : List nodes.Entry) → Each Bounded es → goodEntries es ≡ true

@@ -137,7 +137,8 @@ taken-at s at t e = record { string = record { low = omega arith; high = high; a
     rest = sym (rw (add-assoc at (length (t .first)) 1, ← drop-drop (length (t .first) + 1) at s, b .whole) (drop-append-add (t .first) (0 ∷ t .rest) 1))
 
     all : strings (drop at s) ≡ prepended (part at (at + length (t .first)) s) (strings (drop (at + length (t .first) + 1) s))
-    all = b .all ∙ (ap (λ (l : Octets). prepended l (strings (t .rest))) first ∙ ap (λ (l : Octets). prepended (part at (at + length (t .first)) s) (strings l)) rest)
+    all = b .all ∙ (ap (λ (l : Octets). prepended l (strings (t .rest))) first
+        ∙ ap (λ (l : Octets). prepended (part at (at + length (t .first)) s) (strings l)) rest)
 
 -- ── strings that are all there, nul after nul ──
 

@@ -10,7 +10,6 @@ use lib.ListN.{length, take}
 use Rattle.rules.specs.Size.{deepestWatch}
 use Rattle.rules.specs.Octets.{Octets, numberIn}
 use Rattle.rules.specs.Path.{Domain, Connection, domainOf, Given, malformed, absolute, relative, special, given}
-use Rattle.rules.specs.Payload as rules
 use Rattle.rules.specs.Payload.{invalid, strings, placeOf, depthFor, watchingTo, watchPayload, unwatchPayload}
 use Rattle.rules.proofs.Decimals.{range-bounds}
 use Rattle.paths.specs.Form.{formOf}

@@ -44,14 +44,16 @@ reply-parts m a =
 
 -- a header put before a payload that stands in its place
 pub reply-put : (m : Octets) (a : A.Reply) (before after : Octets) (l : ℕ) → 16 ≤ length m → 16 ≤ length before →
-    after ≡ paste 0 (header (replyType (typeOf m) a) m (length (replyPayload a))) (paste headerSize (replyPayload a) before) → l ≡ 16 + length (replyPayload a) →
+    after ≡ paste 0 (header (replyType (typeOf m) a) m (length (replyPayload a))) (paste headerSize (replyPayload a) before) → l
+    ≡ 16 + length (replyPayload a) →
     (after ≡ paste 0 (replyTo m a) before) × (l ≡ length (replyTo m a))
 reply-put m a before after l h b e q =
     let w = header-length (replyType (typeOf m) a) m (length (replyPayload a)) h in (
       e ∙ (sym (paste-append 0 (header (replyType (typeOf m) a) m (length (replyPayload a))) (replyPayload a) before (rw w b)
           ∙ ap (λ (n : ℕ). paste 0 (header (replyType (typeOf m) a) m (length (replyPayload a))) (paste n (replyPayload a) before)) (ap (λ (n : ℕ). 0 + n) w))
           ∙ ap (λ (x : Octets). paste 0 x before) (sym (reply-parts m a))),
-      q ∙ sym (ap length (reply-parts m a) ∙ (length-append (header (replyType (typeOf m) a) m (length (replyPayload a))) (replyPayload a) ∙ ap (λ (n : ℕ). n + length (replyPayload a)) w)),
+      q ∙ sym (ap length (reply-parts m a) ∙ (length-append (header (replyType (typeOf m) a) m (length (replyPayload a))) (replyPayload a)
+      ∙ ap (λ (n : ℕ). n + length (replyPayload a)) w)),
     )
 
 -- ── what stands behind the header ──
@@ -60,7 +62,8 @@ pub held-done : (r : Reply) (n : ℕ) → r ≡ Done n → Held r → 16 + n ≤
 held-done r n q h = subst Held q h
 
 pub written-fits : (s before after : Octets) (n : ℕ) → Written s before after n → length before ≡ replySize → length after ≡ replySize → 16 + n ≤ replySize
-written-fits s before after n w b a = rw (w .long) (subst (λ (k : ℕ). 16 + length s ≤ k) b (payload-fits s before after (w .bytes) (a ∙ sym b) (rw b (omega arith))))
+written-fits s before after n w b a = rw (w .long) (subst (λ (k : ℕ). 16 + length s ≤ k) b
+    (payload-fits s before after (w .bytes) (a ∙ sym b) (rw b (omega arith))))
 
 -- the name of an error, which is x
 pub errno-put : (x e : Errno) (s before after : Octets) (n : ℕ) → e ≡ x → s ≡ errnoText (errnoMeant x) ++ nul → Written s before after n →
@@ -72,7 +75,8 @@ pub done-framed : (m : Octets) (r : Reply) (n : ℕ) (told after : Octets) (l : 
 unfolding replyType replyPayload
 done-framed m r n told after l h q e k (done s) before b t =
     let i : n ≡ length s = cc in
-    reply-put m (done s) before after l h (rw b (omega arith)) (e ∙ (ap (paste 0 (header (typeOf m) m n)) (t .1) ∙ ap (λ (j : ℕ). paste 0 (header (typeOf m) m j) (paste headerSize s before)) i))
+    reply-put m (done s) before after l h (rw b (omega arith)) (e ∙ (ap (paste 0 (header (typeOf m) m n)) (t .1)
+    ∙ ap (λ (j : ℕ). paste 0 (header (typeOf m) m j) (paste headerSize s before)) i))
     (k ∙ ap (λ (j : ℕ). 16 + j) i)
 done-framed m r n told after l h q e k (refused x) before b t = absurd (Option·none-ne-some x (sym (ap refusalMeant q) ∙ t .0))
 
@@ -84,5 +88,6 @@ error-framed m r x n told put after l h q w e k (refused y) before b t =
     let i : errnoMeant x ≡ y = Option·some-injective (errnoMeant x) y (sym (ap refusalMeant q) ∙ t .0) in
     let p : put ≡ paste headerSize (errnoText y ++ nul) before = w .bytes ∙ (ap (λ (z : A.Errno). paste headerSize (errnoText z ++ nul) told) i ∙ t .1) in
     let j : n ≡ length (errnoText y ++ nul) = w .long ∙ ap (λ (z : A.Errno). length (errnoText z ++ nul)) i in
-    reply-put m (refused y) before after l h (rw b (omega arith)) (e ∙ (ap (paste 0 (header 16 m n)) p ∙ ap (λ (o : ℕ). paste 0 (header 16 m o) (paste headerSize (errnoText y ++ nul) before)) j))
+    reply-put m (refused y) before after l h (rw b (omega arith)) (e ∙ (ap (paste 0 (header 16 m n)) p
+    ∙ ap (λ (o : ℕ). paste 0 (header 16 m o) (paste headerSize (errnoText y ++ nul) before)) j))
     (k ∙ ap (λ (o : ℕ). 16 + o) j)

@@ -8,7 +8,8 @@ use Rattle.rules.specs.Size.{headerSize}
 use Rattle.rules.specs.Octets.{Octets, paste}
 
 -- a payload that stands in a reply of that length is no longer than what is behind its header
-pub payload-fits : (s before after : Octets) → after ≡ paste headerSize s before → length after ≡ length before → headerSize ≤ length before → headerSize + length s ≤ length before
+pub payload-fits : (s before after : Octets) → after ≡ paste headerSize s before → length after ≡ length before → headerSize ≤ length before →
+    headerSize + length s ≤ length before
 unfolding paste
 payload-fits s before after e l h =
     omega (arith, simp length-append at (ap length e), length-take-le headerSize before h)

@@ -58,7 +58,8 @@ use Rattle.requests.specs.Served.{Served}
 
 -- the copy of an open transaction
 copy-at : (cs : Octets) (k : ℕ) → k < mostTransactions → getD (chunks mostTransactions tableSize cs) k [] ≡ copyIn cs k
-copy-at cs k h = sym (ap (λ (x : List Octets). getD x k []) (map-id (chunks mostTransactions tableSize cs))) ∙ decoded-at whole mostTransactions tableSize k cs [] h
+copy-at cs k h = sym (ap (λ (x : List Octets). getD x k []) (map-id (chunks mostTransactions tableSize cs)))
+    ∙ decoded-at whole mostTransactions tableSize k cs [] h
 
 module _ (t : Tables) (sender : Sender) (reply events s : Octets) (v : Served t sender reply events s) where
   lendable : Lendable t
@@ -103,7 +104,8 @@ module _ (t : Tables) (sender : Sender) (reply events s : Octets) (v : Served t 
   transactions-kept =
       let l = length-chunks mostTransactions tableSize (t .copies) ∙ sym (three-transactions (t .transactions)) in
       let e = transactions.sound-parts (domainsOf (t .domains)) (chunks mostTransactions tableSize (t .copies)) (t .transactions) l in
-      transactions.sound-kept (domainsOf (t .domains)) (t .transactions) (and-eq-true-iff (soundEntries (domainsOf (t .domains)) (t .transactions)) _ .0 (sym e ∙ tests .3) .0)
+      transactions.sound-kept (domainsOf (t .domains)) (t .transactions)
+      (and-eq-true-iff (soundEntries (domainsOf (t .domains)) (t .transactions)) _ .0 (sym e ∙ tests .3) .0)
 
   pub committable : Committable (t .nodes) (t .copies) (t .watches) (t .transactions) reply events
   unfolding worldOf

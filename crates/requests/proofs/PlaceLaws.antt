@@ -10,7 +10,7 @@ use lib.Seq.{length-take-le, take-at}
 use Rattle.rules.specs.Octets.{Octets, paste}
 use Rattle.rules.specs.Domain.{Domain, Connection, domainOf, isControl}
 use Rattle.rules.specs.Path.{Names, Given, malformed, absolute, relative, special, given, allNames, isFull, namesIn, base, split, pathText}
-use Rattle.rules.specs.Payload.{path, event}
+use Rattle.rules.specs.Payload.{path}
 use Rattle.rules.specs.Answer.{EACCES, refused}
 use Rattle.rules.specs.Event.{placeText}
 use Rattle.rules.specs.Layout.{placeIn}
@@ -68,7 +68,8 @@ module _ (s : Octets) (p : Path) (d : Domain) (k : PathSound s p) where
   unfolding namesFrom
   relative-put f l l′ n q =
       let h = form-relative (take (p .end) s) (k .form ∙ f) in
-      let e : pathText (namesAt d s p) ≡ baseText d ++ take (p .end) s = ap (λ (g : Given). pathText (namesFrom d g)) h ∙ sym (full-text d (take (p .end) s) _ h) in
+      let e : pathText (namesAt d s p) ≡ baseText d ++ take (p .end) s = ap (λ (g : Given). pathText (namesFrom d g)) h
+      ∙ sym (full-text d (take (p .end) s) _ h) in
       rw e q
 
   -- what is no path of a node has no names
@@ -98,7 +99,8 @@ module _ (s : Octets) (p : Path) (d : Domain) (k : PathSound s p) where
           at _ (ap (namesFrom d) g) (subst (λ (x : Octets). given x ≡ absolute (namesIn (take (p .end) s))) (full (take (p .end) s) h .text) g)
       go Relative q =
           let h = form-relative (take (p .end) s) (k .form ∙ q) in
-          at _ (ap (namesFrom d) h) (subst (λ (x : Octets). given x ≡ absolute (base d ++ split (take (p .end) s))) (full-text d (take (p .end) s) _ h) (relative-given d (take (p .end) s) _ h))
+          at _ (ap (namesFrom d) h) (subst (λ (x : Octets). given x ≡ absolute (base d ++ split (take (p .end) s))) (full-text d (take (p .end) s) _ h)
+          (relative-given d (take (p .end) s) _ h))
       go Special q = at [] (ap (namesFrom d) (form-special (take (p .end) s) (k .form ∙ q))) (text-given [] refl (omega arith))
       go Malformed q = at [] (ap (namesFrom d) (form-malformed (take (p .end) s) (k .form ∙ q))) (text-given [] refl (omega arith))
 
@@ -149,7 +151,8 @@ module _ (s : Octets) (p : Path) (d : Domain) (k : PathSound s p) where
           let u = full-text d (take (p .end) s) _ h in
           let f : isFull (baseText d ++ take (p .end) s) ≡ true = given-is-full _ _ e in
           let t : placeText (placeAt d s p) ≡ baseText d ++ take (p .end) s = ap (λ (g : Given). placeText (placeFrom d g)) h ∙ sym u in
-          rw t (record { placed = f; named = tt; place = place-full true (baseText d ++ take (p .end) s) f ∙ (ap (path true) (given-names _ _ e) ∙ sym (ap (placeFrom d) h)) })
+          rw t (record { placed = f; named = tt; place = place-full true (baseText d ++ take (p .end) s) f
+          ∙ (ap (path true) (given-names _ _ e) ∙ sym (ap (placeFrom d) h)) })
       go Special q =
           let h = form-special (take (p .end) s) (k .form ∙ q) in
           let t : placeText (placeAt d s p) ≡ take (p .end) s = ap (λ (g : Given). placeText (placeFrom d g)) h in
@@ -159,9 +162,11 @@ module _ (s : Octets) (p : Path) (d : Domain) (k : PathSound s p) where
           let t : placeText (placeAt d s p) ≡ pathText [] = ap (λ (g : Given). placeText (placeFrom d g)) h in
           let e : given (pathText []) ≡ absolute [] = text-given [] refl (omega arith) in
           let f : isFull (pathText []) ≡ true = given-is-full _ _ e in
-          rw t (record { placed = f; named = tt; place = place-full false (pathText []) f ∙ (ap (path false) (given-names (pathText []) [] e) ∙ sym (ap (placeFrom d) h)) })
+          rw t (record { placed = f; named = tt; place = place-full false (pathText []) f
+          ∙ (ap (path false) (given-names (pathText []) [] e) ∙ sym (ap (placeFrom d) h)) })
 
-  pub stands-so : (named below : Bool) (t : Octets) → named ≡ isSpecial (p .form) → below ≡ isRelative (p .form) → t ≡ placeText (placeAt d s p) → Stands named below t
+  pub stands-so : (named below : Bool) (t : Octets) → named ≡ isSpecial (p .form) → below ≡ isRelative (p .form) → t ≡ placeText (placeAt d s p) →
+      Stands named below t
   stands-so named below t a b e = rw (a, b, e) stands
 
   -- step 3: an event's name is for domain 0

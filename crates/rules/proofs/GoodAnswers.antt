@@ -7,10 +7,9 @@ use Prim.Native.Nat.{ℕ, zero, suc, _+_, _≤_}
 use native.Mathlib.Omega.{arith}
 use lib.ListN.{length, getD}
 use lib.Dec.{eqb, leb, eqb·suc-zero}
-use borrow.Author.Tests.{eqb-true, leb-true, le-leb}
+use borrow.Author.Tests.{leb-true, le-leb}
 use Rattle.rules.specs.Size.{deepest, lastDomain, longestName, longestValue, mostEntries}
 use Rattle.rules.specs.Octets.{Octets}
-use Rattle.rules.specs.Entries.{freeCount}
 use Rattle.rules.specs.Path.{Domain, Name, Names, isName, allNames, shortNames, fits}
 use Rattle.rules.specs.Node.{Entry, Node, Table, Reached, nodeAt, child, reachFrom, reach, withValue, withEntries}
 use Rattle.rules.specs.Rights.{mayWrite}

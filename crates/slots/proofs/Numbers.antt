@@ -2,13 +2,11 @@
 use mathlib.Core.Path.{_≡_, refl, sym, ap, _∙_}
 use mathlib.Core.Bool.{Bool, true, false, cond}
 use mathlib.Core.List.{List, [], _∷_}
-use mathlib.Core.Option.{some}
 use Prim.Native.Nat.{ℕ, zero, suc, _+_, _*_, _-_, _/_, _≤_, _<_}
 use native.Mathlib.Nat.{mod-lt}
 use native.Mathlib.Omega.{arith}
 use lib.ListN.{length, getD, take}
 use lib.Seq.{getD-take, length-take-le}
-use lib.Dec.{eqb}
 use Rattle.rules.specs.Size.{slots, entriesSize}
 use Rattle.rules.specs.Octets.{Octets, paste, bigEndian, pack, packFrom, bitsAt}
 use Rattle.rules.specs.Domain.{Domain, isControl}
@@ -129,7 +127,8 @@ module _ (count : ℕ) (access domain : List ℕ) (g : Given count access domain
       let s = g .least in
       let es = entryIn access domain 0 ∷ othersIn count access domain in
       let d = entryIn access domain 0 in (
-        sym (number-at es k d (omega (arith, others-many)) ∙ ap numbered (getD-take (suc (count - 1)) (four access domain) k d (omega arith) ∙ listed access domain k d (omega arith))),
+        sym (number-at es k d (omega (arith, others-many)) ∙ ap numbered
+        (getD-take (suc (count - 1)) (four access domain) k d (omega arith) ∙ listed access domain k d (omega arith))),
         omega (arith, g .kinds k h, g .ids k h),
       )
 

@@ -63,7 +63,8 @@ four-bytes a b c d ha hb hc hd = (omega arith, omega arith, omega arith, omega a
 pub four-put : (at a b c d : ℕ) (t : Octets) → at + entriesSize ≤ length t → a < 262144 → b < 262144 → c < 262144 → d < 262144 →
     set
     (set
-    (set (set (set (set (set (set (set t at (a / 1024)) (at + 1) (a / 4 % 256)) (at + 2) (a % 4 * 64 + b / 4096)) (at + 3) (b / 16 % 256)) (at + 4) (b % 16 * 16 + c / 16384)) (at + 5) (c / 64 % 256)) (at + 6) (c % 64 * 4 + d / 65536))
+    (set (set (set (set (set (set (set t at (a / 1024)) (at + 1) (a / 4 % 256)) (at + 2) (a % 4 * 64 + b / 4096)) (at + 3) (b / 16 % 256)) (at + 4)
+    (b % 16 * 16 + c / 16384)) (at + 5) (c / 64 % 256)) (at + 6) (c % 64 * 4 + d / 65536))
     (at + 7)
     (d / 256 % 256))
     (at + 8)
@@ -132,7 +133,8 @@ module _ (t : Octets) (k : Canonical t) (i : ℕ) (h : i < slots) where
 
   -- the parts of a used slot: all behind the fields, then the fields
   rest-put : (m : Node) → NodeFits m → (f : ℕ) → f ≡ fieldsOf (m .parent) (length (m .name)) (length (m .value)) (suc (length (m .others))) →
-      paste (i * slotSize) (bigEndian fieldsSize f) (paste (i * slotSize + fieldsSize) (entriesBytes (m .owner) (m .others) ++ (padded longestName (m .name) ++ padded longestValue (m .value))) t)
+      paste (i * slotSize) (bigEndian fieldsSize f) (paste (i * slotSize + fieldsSize)
+      (entriesBytes (m .owner) (m .others) ++ (padded longestName (m .name) ++ padded longestValue (m .value))) t)
       ≡ tableBytes (set (tableOf t) i (some m))
   unfolding slotBytes entriesBytes
   rest-put m g f e =
@@ -146,7 +148,8 @@ module _ (t : Octets) (k : Canonical t) (i : ℕ) (h : i < slots) where
   -- the same, put in from the last on
   node-put : (m : Node) → NodeFits m → (f : ℕ) → f ≡ fieldsOf (m .parent) (length (m .name)) (length (m .value)) (suc (length (m .others))) →
       let at = i * slotSize in
-      paste at (bigEndian fieldsSize f) (paste (at + fieldsSize) (entriesBytes (m .owner) (m .others)) (paste (at + nameAt) (padded longestName (m .name)) (paste (at + valueAt) (padded longestValue (m .value)) t)))
+      paste at (bigEndian fieldsSize f) (paste (at + fieldsSize) (entriesBytes (m .owner) (m .others))
+      (paste (at + nameAt) (padded longestName (m .name)) (paste (at + valueAt) (padded longestValue (m .value)) t)))
       ≡ tableBytes (set (tableOf t) i (some m))
   node-put m g f e =
       let at = i * slotSize in
@@ -157,12 +160,15 @@ module _ (t : Octets) (k : Canonical t) (i : ℕ) (h : i < slots) where
       ap (paste at (bigEndian fieldsSize f))
       (sym
       (seam (at + fieldsSize) entriesSize (at + nameAt) b (n ++ v) t (length-entries (m .owner) (m .others)) (omega arith) (omega arith)
-      ∙ ap (paste (at + fieldsSize) b) (seam (at + nameAt) longestName (at + valueAt) n v t (length-padded longestName (m .name) (g .name)) (omega arith) (omega arith))))
+      ∙ ap (paste (at + fieldsSize) b) (seam (at + nameAt) longestName (at + valueAt) n v t (length-padded longestName (m .name) (g .name)) (omega arith)
+      (omega arith))))
       ∙ rest-put m g f e
 
   -- a new node: its entries, its name, its value, its fields
-  pub new-put : (p : ℕ) (n v : Octets) (d e : ℕ) → p < slots → isUsed (slotAt t p) ≡ true → length n ≤ longestName → length v ≤ longestValue → d < 65536 → e ≡ entryCount t p →
-      {x y z r : Octets} → x ≡ paste (i * slotSize + fieldsSize) (entriesBytes (heir d (nodeAt (tableOf t) p .owner)) (nodeAt (tableOf t) p .others)) t → y ≡ paste (i * slotSize + nameAt) (padded longestName n) x →
+  pub new-put : (p : ℕ) (n v : Octets) (d e : ℕ) → p < slots → isUsed (slotAt t p) ≡ true → length n ≤ longestName → length v ≤ longestValue → d < 65536 →
+      e ≡ entryCount t p →
+      {x y z r : Octets} → x ≡ paste (i * slotSize + fieldsSize) (entriesBytes (heir d (nodeAt (tableOf t) p .owner)) (nodeAt (tableOf t) p .others)) t → y
+      ≡ paste (i * slotSize + nameAt) (padded longestName n) x →
       z ≡ paste (i * slotSize + valueAt) (padded longestValue v) y → r ≡ paste (i * slotSize) (bigEndian fieldsSize (fieldsOf p (length n) (length v) e)) z →
       r ≡ tableBytes (set (tableOf t) i (some (newNode d (tableOf t) p n v)))
   unfolding newNode
@@ -180,8 +186,10 @@ module _ (t : Octets) (k : Canonical t) (i : ℕ) (h : i < slots) where
       q₄
       ∙ ap (paste at (bigEndian fieldsSize (fieldsOf p (length n) (length v) e)))
       (q₃
-      ∙ ap (paste (at + valueAt) (padded longestValue v)) (q₂ ∙ ap (paste (at + nameAt) (padded longestName n)) q₁ ∙ paste-behind (at + fieldsSize) (at + nameAt) b (padded longestName n) t (omega arith) (omega arith))
-      ∙ paste-behind (at + fieldsSize) (at + valueAt) (b ++ padded longestName n) (padded longestValue v) t (omega arith) (omega (arith, length-append b (padded longestName n)))
+      ∙ ap (paste (at + valueAt) (padded longestValue v)) (q₂ ∙ ap (paste (at + nameAt) (padded longestName n)) q₁
+      ∙ paste-behind (at + fieldsSize) (at + nameAt) b (padded longestName n) t (omega arith) (omega arith))
+      ∙ paste-behind (at + fieldsSize) (at + valueAt) (b ++ padded longestName n) (padded longestValue v) t (omega arith)
+      (omega (arith, length-append b (padded longestName n)))
       ∙ ap (λ (s : Octets). paste (at + fieldsSize) s t) (append-assoc b (padded longestName n) (padded longestValue v)))
       ∙ rest-put m g (fieldsOf p (length n) (length v) e) (ap (fieldsOf p (length n) (length v)) (he ∙ entry-count-is t k p hp parent (used-is t p hp u)))
 
@@ -224,7 +232,8 @@ module _ (t : Octets) (k : Canonical t) (i : ℕ) (h : i < slots) where
 
     name-part : take longestName (drop (i * slotSize + nameAt) t) ≡ padded longestName (node .name)
     unfolding slotBytes entriesBytes first front
-    name-part = part nameAt longestName front (padded longestName (node .name)) (padded longestValue (node .value)) (sym (append-assoc first _ _)) length-front (length-padded longestName (node .name) (fits .name)) (omega arith)
+    name-part = part nameAt longestName front (padded longestName (node .name)) (padded longestValue (node .value)) (sym (append-assoc first _ _)) length-front
+        (length-padded longestName (node .name) (fits .name)) (omega arith)
 
     value-part : take longestValue (drop (i * slotSize + valueAt) t) ≡ padded longestValue (node .value)
     unfolding slotBytes entriesBytes first front
@@ -251,12 +260,14 @@ module _ (t : Octets) (k : Canonical t) (i : ℕ) (h : i < slots) where
         let lvalue = stays valueAt longestValue (padded longestValue (node .value)) t refl value-part (omega arith) in
         let lname = stays nameAt longestName (padded longestName (node .name)) t refl name-part (omega arith) in
         r
-        ∙ ap (paste at (bigEndian fieldsSize (fieldsOf p l v e))) (q ∙ ap (paste (at + fieldsSize) b) (sym (ap (paste (at + nameAt) (padded longestName (node .name))) lvalue ∙ lname)))
+        ∙ ap (paste at (bigEndian fieldsSize (fieldsOf p l v e))) (q ∙ ap (paste (at + fieldsSize) b)
+        (sym (ap (paste (at + nameAt) (padded longestName (node .name))) lvalue ∙ lname)))
         ∙ node-put m g (fieldsOf p l v e)
         (λ j. fieldsOf (hp j) ((hl ∙ name-length-is t k i h node s) j) ((hv ∙ value-length-is t k i h node s) j) (he j))
 
     pub value-put : (v : Octets) → length v ≤ longestValue → (p l e : ℕ) → p ≡ nodeAt (tableOf t) i .parent → l ≡ nameLength t i → e ≡ entryCount t i →
-        {x y : Octets} → x ≡ paste (i * slotSize + valueAt) (padded longestValue v) t → y ≡ paste (i * slotSize) (bigEndian fieldsSize (fieldsOf p l (length v) e)) x →
+        {x y : Octets} → x ≡ paste (i * slotSize + valueAt) (padded longestValue v) t → y
+        ≡ paste (i * slotSize) (bigEndian fieldsSize (fieldsOf p l (length v) e)) x →
         y ≡ tableBytes (withValue (tableOf t) i v)
     unfolding withValue node
     value-put v hv p l e hp hl he {x} q r =
@@ -266,11 +277,14 @@ module _ (t : Octets) (k : Canonical t) (i : ℕ) (h : i < slots) where
         let same = length-paste (at + valueAt) (padded longestValue v) t (rw length-padded (omega arith)) in
         let m : Node = record { parent = node .parent; name = node .name; value = v; owner = node .owner; others = node .others } in
         let g : NodeFits m = record { parent = fits .parent; name = fits .name; value = hv; owner = fits .owner; few = fits .few; others = fits .others } in
-        let before : (j c : ℕ) → j + c ≤ valueAt → take c (drop (at + j) pasted) ≡ take c (drop (at + j) t) = λ j c b. part-before (at + valueAt) (at + j) c (padded longestValue v) t (omega arith) (omega arith) in
-        let lname = stays nameAt longestName (padded longestName (node .name)) pasted same (before nameAt longestName (omega arith) ∙ name-part) (omega arith) in
+        let before : (j c : ℕ) → j + c ≤ valueAt → take c (drop (at + j) pasted)
+        ≡ take c (drop (at + j) t) = λ j c b. part-before (at + valueAt) (at + j) c (padded longestValue v) t (omega arith) (omega arith) in
+        let lname = stays nameAt longestName (padded longestName (node .name)) pasted same (before nameAt longestName (omega arith) ∙ name-part)
+        (omega arith) in
         let lentries = stays 3 9 (entriesBytes (node .owner) (node .others)) pasted same (before 3 9 (omega arith) ∙ entries-part) (omega arith) in
         r
-        ∙ ap (paste at (bigEndian fieldsSize (fieldsOf p l (length v) e))) (q ∙ sym (ap (paste (at + fieldsSize) (entriesBytes (node .owner) (node .others))) lname ∙ lentries))
+        ∙ ap (paste at (bigEndian fieldsSize (fieldsOf p l (length v) e)))
+        (q ∙ sym (ap (paste (at + fieldsSize) (entriesBytes (node .owner) (node .others))) lname ∙ lentries))
         ∙ node-put m g (fieldsOf p l (length v) e)
         (λ s. fieldsOf (hp s) ((hl ∙ name-length-is t k i h node (used-is t i h u)) s) (length v) ((he ∙ entry-count-is t k i h node (used-is t i h u)) s))
 

@@ -47,7 +47,8 @@ node-some ts i n e = ap (λ (o : Option Node). elim o as (λ (x : Option Node). 
 
 module _ (t : Octets) (i : ℕ) (h : i < slots) where
   pub used-slot : isUsed (slotAt t i) ≡ true → slotAt t i ≡ some (meant t i)
-  used-slot u = slot-is t i h ∙ ap (λ (b : Bool). cond b (some (meant t i)) none) (sym (is-used (eqb (bitsAt (head t i) 23 1) 1) (meant t i)) ∙ ap isUsed (sym (slot-is t i h)) ∙ u)
+  used-slot u = slot-is t i h ∙ ap (λ (b : Bool). cond b (some (meant t i)) none)
+      (sym (is-used (eqb (bitsAt (head t i) 23 1) 1) (meant t i)) ∙ ap isUsed (sym (slot-is t i h)) ∙ u)
 
   pub used-node : isUsed (slotAt t i) ≡ true → nodeAt (tableOf t) i ≡ meant t i
   used-node u = node-some (tableOf t) i (meant t i) (used-slot u)
@@ -109,7 +110,8 @@ module _ (t : Octets) (bytes : Bytes t) (whole : length t ≡ tableSize) (i : �
       × (field t (at + a + 3) b < 256 ^ b)
   apart a b e =
       let at = i * slotSize + fieldsSize in (
-        ap (field t at) (sym e) ∙ field-split t at a (3 + b) (omega arith) ∙ ap (λ (n : ℕ). field t at a * 256 ^ (3 + b) + n) (field-split t (at + a) 3 b (omega arith)),
+        ap (field t at) (sym e) ∙ field-split t at a (3 + b) (omega arith)
+        ∙ ap (λ (n : ℕ). field t at a * 256 ^ (3 + b) + n) (field-split t (at + a) 3 b (omega arith)),
         field-bound t bytes 3 (at + a) (omega arith),
         field-bound t bytes b (at + a + 3) (omega arith),
       )

@@ -92,8 +92,10 @@ packed-past : (m c : ℕ) → m < 256 ^ 9 → 1 ≤ c → c ≤ 4 → packed m c
 packed-past m zero b h k = absurd (omega arith)
 packed-past m (suc zero) b h k = rw (pack-one (entryAt m 3) (entryAt m 2) (entryAt m 1) (entryAt m 0), word-three m) (omega arith)
 packed-past m (suc (suc zero)) b h k = rw (pack-two (entryAt m 3) (entryAt m 2) (entryAt m 1) (entryAt m 0), word-three m, word-two m) (two-words m b)
-packed-past m (suc (suc (suc zero))) b h k = rw (pack-three (entryAt m 3) (entryAt m 2) (entryAt m 1) (entryAt m 0), word-three m, word-two m, word-one m) (three-words m b)
-packed-past m (suc (suc (suc (suc zero)))) b h k = rw (pack-four (entryAt m 3) (entryAt m 2) (entryAt m 1) (entryAt m 0), word-three m, word-two m, word-one m, word-none m) (none-left m b _ ∙ three-words m b)
+packed-past m (suc (suc (suc zero))) b h k = rw (pack-three (entryAt m 3) (entryAt m 2) (entryAt m 1) (entryAt m 0), word-three m, word-two m, word-one m)
+    (three-words m b)
+packed-past m (suc (suc (suc (suc zero)))) b h k = rw (pack-four (entryAt m 3) (entryAt m 2) (entryAt m 1) (entryAt m 0), word-three m, word-two m, word-one m,
+    word-none m) (none-left m b _ ∙ three-words m b)
 packed-past m (suc (suc (suc (suc (suc c))))) b h k = absurd (omega arith)
 
 -- where nothing is left past the entries that count, the entries decide

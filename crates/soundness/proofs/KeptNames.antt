@@ -47,7 +47,8 @@ zeros (suc m) (c ∷ cs) h e =
     let q = leb-true c 0 (both-true (leb c 0) (leb 97 c || true) (p .0) .0) in
     both (eq-eqb c 0 (omega arith)) (zeros m cs (omega arith) (p .1))
 
-letters : (n : ℕ) (s zs : Octets) → n ≤ length s → smallLetters s (replicate n 122 ++ zs) ≡ true → (allBytes (take n s) ≡ true) × (smallLetters (drop n s) zs ≡ true)
+letters : (n : ℕ) (s zs : Octets) → n ≤ length s → smallLetters s (replicate n 122 ++ zs) ≡ true →
+    (allBytes (take n s) ≡ true) × (smallLetters (drop n s) zs ≡ true)
 unfolding smallLetters allBytes
 letters zero s zs h e = (refl, e)
 letters (suc n) [] zs h e = absurd (omega arith)
@@ -65,7 +66,8 @@ lasts = replicate 16 122 ++ replicate 16 0
 lasts-from : (n : ℕ) → n ≤ 16 → drop (halfName - n) lasts ≡ replicate n 122 ++ replicate 16 0
 lasts-from n h =
     let e : 16 - n + n ≡ 16 = omega arith in
-    let front : _≡_ {A = Octets} (replicate 16 122) (replicate (halfName - n) 122 ++ replicate n 122) = sym (replicate-append-replicate (halfName - n) n 122 ∙ rw e refl) in
+    let front : _≡_ {A = Octets} (replicate 16 122) (replicate (halfName - n) 122 ++ replicate n 122) =
+    sym (replicate-append-replicate (halfName - n) n 122 ∙ rw e refl) in
     ap (λ (l : Octets). drop (halfName - n) (l ++ replicate 16 0)) front
     ∙ ap (drop (halfName - n)) (append-assoc (replicate (halfName - n) 122) (replicate n 122) (replicate 16 0))
     ∙ drop-at (replicate (halfName - n) 122) (replicate n 122 ++ replicate 16 0) (halfName - n) (length-replicate (halfName - n) 122)
@@ -118,7 +120,8 @@ module _ (t : Octets) (at n : ℕ) where
       unfolding keptName
       short-name e f = pass (sym first-is ∙ e) (f ∙ ap isName (front t at n))
 
-      pub small-name : (n ≡ 0 → ⊥) → at + longestName ≤ length t → smallLetters (take (at + halfName - at) (drop at t)) (drop (halfName - n) lasts) ≡ true → true ≡ keptName t at n
+      pub small-name : (n ≡ 0 → ⊥) → at + longestName ≤ length t → smallLetters (take (at + halfName - at) (drop at t)) (drop (halfName - n) lasts) ≡ true →
+          true ≡ keptName t at n
       unfolding keptName
       small-name some whole e =
           let y = drop at t in
@@ -128,7 +131,8 @@ module _ (t : Octets) (at n : ℕ) where
           let past : allZero (drop n (take 16 y)) ≡ true = zeros 16 (drop n (take 16 y)) (rw (length-drop n (take 16 y)) (omega arith)) (p .1) in
           let bytes : allBytes (take n y) ≡ true = ap allBytes (sym (take-take n 16 y h)) ∙ p .0 in
           let many : length (take n y) ≡ n = length-take-le n y (omega arith) in
-          pass (no-fault y n halfName longestName h (omega arith) past (ap allZero (sym second-is) ∙ z)) (sym (name-parts (take n y) ∙ rw (bytes, many, ne-eqb n 0 some) refl))
+          pass (no-fault y n halfName longestName h (omega arith) past (ap allZero (sym second-is) ∙ z))
+          (sym (name-parts (take n y) ∙ rw (bytes, many, ne-eqb n 0 some) refl))
 
 -- ── the name of a slot ──
 
@@ -138,7 +142,8 @@ module _ (t : Octets) (i : ℕ) (h : i < slots) (u : isUsed (slotAt t i) ≡ tru
 
   pub other-kept : {r : Bool} → (i ≡ 0 → ⊥) → r ≡ keptName t (i * slotSize + nameAt) n → r ≡ nameKept t i
   unfolding keptName nameKept
-  other-kept z f = f ∙ ap (λ (b : Bool). allZero (drop n (take longestName (drop (i * slotSize + nameAt) t))) && b) (ap isName text ∙ other-name i _ z) ∙ rw e refl
+  other-kept z f = f ∙ ap (λ (b : Bool). allZero (drop n (take longestName (drop (i * slotSize + nameAt) t))) && b) (ap isName text ∙ other-name i _ z)
+      ∙ rw e refl
 
   pub root-named : i ≡ 0 → (n ≡ 0 → ⊥) → length t ≡ tableSize → false ≡ nameKept t i
   unfolding nameKept
@@ -147,8 +152,10 @@ module _ (t : Octets) (i : ℕ) (h : i < slots) (u : isUsed (slotAt t i) ≡ tru
       let bad : goodName i (nodeAt (tableOf t) i .name) ≡ false = sym (root-good z text) ∙ rw many (ne-eqb n 0 some) in
       sym (rw bad (and-false (allZero (drop (nameLength t i) (take longestName (drop (i * slotSize + nameAt) t))))))
 
-  pub root-kept : {r : Bool} → i ≡ 0 → n ≡ 0 → r ≡ allZero (take (i * slotSize + nameAt + longestName - (i * slotSize + nameAt)) (drop (i * slotSize + nameAt) t)) → r ≡ nameKept t i
+  pub root-kept : {r : Bool} → i ≡ 0 → n ≡ 0 → r ≡ allZero (take (i * slotSize + nameAt + longestName - (i * slotSize + nameAt))
+      (drop (i * slotSize + nameAt) t)) → r ≡ nameKept t i
   unfolding nameKept
   root-kept z none f =
       let good : goodName i (nodeAt (tableOf t) i .name) ≡ true = sym (root-good z text) ∙ rw none refl in
-      f ∙ ap allZero (front t (i * slotSize + nameAt) longestName) ∙ sym (rw (← e, none, good) (and-true (allZero (take longestName (drop (i * slotSize + nameAt) t)))))
+      f ∙ ap allZero (front t (i * slotSize + nameAt) longestName) ∙ sym
+      (rw (← e, none, good) (and-true (allZero (take longestName (drop (i * slotSize + nameAt) t)))))

@@ -46,7 +46,8 @@ unfolding keyOf
 key-none none e = refl
 key-none (some n) e = absurd (true≢false e)
 
-pub key-some : (t : Octets) (i p d : ℕ) (s : Octets) → isUsed (slotAt t i) ≡ true → p ≡ nodeAt (tableOf t) i .parent → s ≡ nodeAt (tableOf t) i .name → d ≡ digestOf s →
+pub key-some : (t : Octets) (i p d : ℕ) (s : Octets) → isUsed (slotAt t i) ≡ true → p ≡ nodeAt (tableOf t) i .parent → s ≡ nodeAt (tableOf t) i .name →
+    d ≡ digestOf s →
     32768 + p * 256 + d ≡ keyOf (slotAt t i)
 unfolding keyOf
 key-some t i p d s u ep es ed =

@@ -15,7 +15,8 @@ use Rattle.soundness.proofs.Tests.{stop, both}
 
 -- the eight bytes behind the first: two, four and two
 pub behind-first : (s : Octets) (at : ℕ) → at + entriesSize ≤ length s
-    → field s (at + 1) 8 ≡ (getD s (at + 1) 0 * 256 + getD s (at + 2) 0) * 281474976710656 + (field s (at + 3) 4 * 65536 + (getD s (at + 7) 0 * 256 + getD s (at + 8) 0))
+    → field s (at + 1) 8 ≡ (getD s (at + 1) 0 * 256 + getD s (at + 2) 0) * 281474976710656
+    + (field s (at + 3) 4 * 65536 + (getD s (at + 7) 0 * 256 + getD s (at + 8) 0))
 behind-first s at h =
     let e2 : at + 1 + 1 ≡ at + 2 = omega arith in
     let e3 : at + 1 + 2 ≡ at + 3 = omega arith in
@@ -54,7 +55,8 @@ module _ (first a b m l rest : ℕ) (hb : b < 256) (hm : m < 4294967296) (hl : l
       let two : rest / 68719476736 % 65536 ≤ 32751 = omega arith in
       let three : rest / 262144 % 65536 ≤ 32751 = omega arith in
       let four : rest % 65536 ≤ 32751 = omega arith in
-      both (le-leb _ 32751 one) (both (le-leb (rest / 68719476736 % 65536) 32751 two) (both (le-leb (rest / 262144 % 65536) 32751 three) (le-leb (rest % 65536) 32751 four)))
+      both (le-leb _ 32751 one) (both (le-leb (rest / 68719476736 % 65536) 32751 two)
+      (both (le-leb (rest / 262144 % 65536) 32751 three) (le-leb (rest % 65536) 32751 four)))
 
   pub lone-rest : (first * 1024 + a * 4 + b / 64) % 65536 ≤ 32751 → b % 64 ≡ 0 → eqb m 0 && eqb l 0 ≡ Kept
   lone-rest h z = by (ℕ-discrete m 0) (ℕ-discrete l 0)
@@ -91,13 +93,16 @@ module _ (s : Octets) (bytes : (j : ℕ) → getD s j 0 < 256) (at : ℕ) (h : a
 
   pub entry-high : 32751 < domain → false ≡ Asked
   entry-high =
-      lone-high (getD s at 0) (getD s (at + 1) 0) (getD s (at + 2) 0) (field s (at + 3) 4) low (field s (at + 1) 8) (bytes (at + 2)) middle-bound low-bound (behind-first s at h)
+      lone-high (getD s at 0) (getD s (at + 1) 0) (getD s (at + 2) 0) (field s (at + 3) 4) low (field s (at + 1) 8) (bytes (at + 2)) middle-bound low-bound
+      (behind-first s at h)
 
   pub entry-bits : (getD s (at + 2) 0 % 64 ≡ 0 → ⊥) → false ≡ Asked
   entry-bits =
-      lone-bits (getD s at 0) (getD s (at + 1) 0) (getD s (at + 2) 0) (field s (at + 3) 4) low (field s (at + 1) 8) (bytes (at + 2)) middle-bound low-bound (behind-first s at h)
+      lone-bits (getD s at 0) (getD s (at + 1) 0) (getD s (at + 2) 0) (field s (at + 3) 4) low (field s (at + 1) 8) (bytes (at + 2)) middle-bound low-bound
+      (behind-first s at h)
 
   pub entry-rest : (m : ℕ) → m ≡ field s (at + 3) 4 → domain ≤ 32751 → getD s (at + 2) 0 % 64 ≡ 0 → eqb m 0 && eqb low 0 ≡ Asked
   entry-rest m e d z =
       ap (λ (x : ℕ). eqb x 0 && eqb low 0) e
-      ∙ lone-rest (getD s at 0) (getD s (at + 1) 0) (getD s (at + 2) 0) (field s (at + 3) 4) low (field s (at + 1) 8) (bytes (at + 2)) middle-bound low-bound (behind-first s at h) d z
+      ∙ lone-rest (getD s at 0) (getD s (at + 1) 0) (getD s (at + 2) 0) (field s (at + 3) 4) low (field s (at + 1) 8) (bytes (at + 2)) middle-bound low-bound
+      (behind-first s at h) d z

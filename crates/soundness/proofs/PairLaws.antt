@@ -2,7 +2,6 @@
 use mathlib.Core.Path.{_≡_, sym, ap, ap₂, _∙_}
 use mathlib.Core.Bool.{Bool, true, false, true≢false, not, _&&_, and-false}
 use mathlib.Core.List.{List}
-use mathlib.Core.Option.{none}
 use Prim.Native.Nat.{ℕ, _+_, _≤_, _<_}
 use native.Mathlib.Omega.{arith}
 use native.Mathlib.Decide.{ℕ-discrete}
@@ -77,7 +76,8 @@ row-next t i j r f a n m h p q = by (ℕ-discrete a j)
     by (no e) = r a n m (omega arith) p q
 
 -- slots whose keys differ
-pub row-differ : (t : Octets) (keys : List ℕ) (i j k : ℕ) → Keyed t keys i → k ≡ keyOf (slotAt t i) → j < i → (getD keys j 0 ≡ k → ⊥) → Row t i j → Row t i (j + 1)
+pub row-differ : (t : Octets) (keys : List ℕ) (i j k : ℕ) → Keyed t keys i → k ≡ keyOf (slotAt t i) → j < i → (getD keys j 0 ≡ k → ⊥) → Row t i j →
+    Row t i (j + 1)
 row-differ t keys i j k s e h d r =
     row-next t i j r λ n m p q. is-false (clash n m) λ c. d (s .each j h ∙ ap keyOf p ∙ clash-keys n m c ∙ sym (e ∙ ap keyOf q))
 
@@ -86,7 +86,8 @@ pub row-names : (t : Octets) (i j : ℕ) → same (nodeAt (tableOf t) j .name) (
 unfolding clash
 row-names t i j d r =
     row-next t i j r λ n m p q.
-    ap (λ (b : Bool). eqb (n .parent) (m .parent) && b) (sym (ap₂ (λ (x y : Node). same (x .name) (y .name)) (node-some (tableOf t) j n p) (node-some (tableOf t) i m q)) ∙ d)
+    ap (λ (b : Bool). eqb (n .parent) (m .parent) && b) (sym (ap₂ (λ (x y : Node). same (x .name) (y .name)) (node-some (tableOf t) j n p)
+    (node-some (tableOf t) i m q)) ∙ d)
     ∙ and-false (eqb (n .parent) (m .parent))
 
 -- a key that is looked for is not 0
@@ -95,7 +96,8 @@ unfolding mayClash
 met-key taken keys p k e z = true≢false (sym (both-true (not (eqb k 0)) (not (eqb (getD taken p 0) 0) && hasKey k keys) e .0) ∙ ap not (eq-eqb k 0 z))
 
 -- a slot the place of whose key is not taken, or whose key is not among those so far
-pub row-new : (t taken : Octets) (keys : List ℕ) (i k p : ℕ) → i < slots → Keyed t keys i → Taken t taken i → k ≡ keyOf (slotAt t i) → p ≡ placeOf k → mayClash taken keys p k ≡ false → Row t i i
+pub row-new : (t taken : Octets) (keys : List ℕ) (i k p : ℕ) → i < slots → Keyed t keys i → Taken t taken i → k ≡ keyOf (slotAt t i) → p ≡ placeOf k →
+    mayClash taken keys p k ≡ false → Row t i i
 unfolding mayClash
 row-new t taken keys i k p h o s e f g a n m l x y = is-false (clash n m) λ c.
     let z : k ≡ 0 → ⊥ = λ w. key-positive m (sym (e ∙ ap keyOf y) ∙ w) in
@@ -121,7 +123,8 @@ pair-found t keys i j k s e z h d f =
     let names : same (n .name) (m .name) ≡ true =
     sym (ap₂ (λ (a b : Node). same (a .name) (b .name)) (node-some (tableOf t) j n (x .1)) (node-some (tableOf t) i m (y .1))) ∙ f in
     sym (is-false (distinct (tableOf t)) λ g.
-    true≢false (sym (both (eq-eqb (n .parent) (m .parent) parents) names) ∙ apart-at clash (tableOf t) (sym (distinct-is (tableOf t)) ∙ g) j i n m h (x .1) (y .1)))
+    true≢false (sym (both (eq-eqb (n .parent) (m .parent) parents) names)
+    ∙ apart-at clash (tableOf t) (sym (distinct-is (tableOf t)) ∙ g) j i n m h (x .1) (y .1)))
 
 pub row-whole : (t : Octets) (i j : ℕ) → j ≤ i → i ≤ j → Row t i j → Row t i i
 row-whole t i j h l r a n m k p q = r a n m (omega arith) p q

@@ -73,7 +73,8 @@ pub root-put : (t into : Octets) (i : ℕ) → i ≡ 0 → 0 < length into → P
 unfolding pathText pathOf pathUp
 root-put t into i e h = rw e (record { bytes = set-paste into 0 47 h; behind = refl })
 
-module _ (t into after : Octets) (i : ℕ) (h : i ≡ 0 → ⊥) (r : reachesRoot 8 (tableOf t) i ≡ true) (l : length into ≡ longestPath) (way : Walk) (w : Walked 8 t i into after way) where
+module _ (t into after : Octets) (i : ℕ) (h : i ≡ 0 → ⊥) (r : reachesRoot 8 (tableOf t) i ≡ true) (l : length into ≡ longestPath) (way : Walk)
+    (w : Walked 8 t i into after way) where
   found : way ≡ Root (stepsTo 8 t i) (length (taken (textTo 8 t i) into))
   found = w .found ∙ rw r refl
 

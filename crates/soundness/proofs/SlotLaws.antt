@@ -48,7 +48,8 @@ sizes-of t i e =
 
 of-sizes : (t : Octets) (i : ℕ) → Sizes t i → sized t i ≡ true
 unfolding sized
-of-sizes t i s = both (le-leb (nameLength t i) longestName (s .name)) (both (le-leb (valueLength t i) longestValue (s .value)) (both (le-leb 1 (entryCount t i) (s .least)) (le-leb (entryCount t i) mostEntries (s .few))))
+of-sizes t i s = both (le-leb (nameLength t i) longestName (s .name)) (both (le-leb (valueLength t i) longestValue (s .value))
+    (both (le-leb 1 (entryCount t i) (s .least)) (le-leb (entryCount t i) mostEntries (s .few))))
 
 bytes-drop : (n : ℕ) (t : Octets) → Bytes t → Bytes (drop n t)
 bytes-drop n t b k = rw (getD-drop n t k 0) (b (n + k))
@@ -81,17 +82,20 @@ module _ (t : Octets) (bytes : Bytes t) (whole : length t ≡ tableSize) (i : �
     -- the lengths that the node has
     name-long : length (meant t i .name) ≡ min (nameLength t i) longestName
     unfolding nodeOf textAt nameLength
-    name-long = length-take _ _ ∙ ap (min (nameLength t i)) (length-take-le longestName (drop nameAt (chunk t i)) (rw (length-drop nameAt (chunk t i), length-chunk) (omega arith)))
+    name-long = length-take _ _ ∙ ap (min (nameLength t i)) (length-take-le longestName (drop nameAt (chunk t i))
+        (rw (length-drop nameAt (chunk t i), length-chunk) (omega arith)))
 
     value-long : length (meant t i .value) ≡ min (valueLength t i) longestValue
     unfolding nodeOf textAt valueLength
-    value-long = length-take _ _ ∙ ap (min (valueLength t i)) (length-take-le longestValue (drop valueAt (chunk t i)) (rw (length-drop valueAt (chunk t i), length-chunk) (omega arith)))
+    value-long = length-take _ _ ∙ ap (min (valueLength t i)) (length-take-le longestValue (drop valueAt (chunk t i))
+        (rw (length-drop valueAt (chunk t i), length-chunk) (omega arith)))
 
     others-few : length (meant t i .others) ≡ min (entryCount t i - 1) 3
     unfolding nodeOf entryCount
     others-few = length-take _ _
 
-    number : pack (nodeBits (meant t i)) ≡ (((128 + head t i / 65536 % 128) * 64 + min (nameLength t i) longestName) * 128 + min (valueLength t i) longestValue) * 8 + suc (min (entryCount t i - 1) 3)
+    number : pack (nodeBits (meant t i)) ≡ (((128 + head t i / 65536 % 128) * 64 + min (nameLength t i) longestName) * 128 + min (valueLength t i) longestValue)
+        * 8 + suc (min (entryCount t i - 1) 3)
     unfolding nodeOf bitsAt pack packFrom nodeBits
     number = rw (name-long, value-long, others-few) refl
 
@@ -101,11 +105,13 @@ module _ (t : Octets) (bytes : Bytes t) (whole : length t ≡ tableSize) (i : �
 
     first : 128 ≤ head t i / 65536
     first =
-        omega (arith, head-bytes t i (omega arith), bytes (i * slotSize + 1), bytes (i * slotSize + 2), leb-true 128 (getD t (i * slotSize) 0) (used-byte t bytes whole i h ∙ u))
+        omega (arith, head-bytes t i (omega arith), bytes (i * slotSize + 1), bytes (i * slotSize + 2),
+        leb-true 128 (getD t (i * slotSize) 0) (used-byte t bytes whole i h ∙ u))
 
     kept-number : Sizes t i → pack (nodeBits (meant t i)) ≡ head t i
     unfolding nameLength valueLength entryCount
-    kept-number s = number ∙ rw (min-eq-left (s .name), min-eq-left (s .value), min-eq-left {n = entryCount t i - 1} {m = 3} (omega (arith, s .few))) (omega (arith, fields-of (head t i) bound first, s .least))
+    kept-number s = number ∙ rw (min-eq-left (s .name), min-eq-left (s .value), min-eq-left {n = entryCount t i - 1} {m = 3} (omega (arith, s .few)))
+        (omega (arith, fields-of (head t i) bound first, s .least))
 
     -- the fields that the node has are the slot's where they are within the sizes
     head-part : eqb (pack (nodeBits (meant t i))) (head t i) ≡ sized t i
@@ -115,20 +121,27 @@ module _ (t : Octets) (bytes : Bytes t) (whole : length t ≡ tableSize) (i : �
         (λ p.
         let e : pack (nodeBits (meant t i)) ≡ head t i = eqb-true (pack (nodeBits (meant t i))) (head t i) p in
         let u = uncut (nameLength t i) (valueLength t i) (entryCount t i) (mod-lt _ (omega arith)) (mod-lt _ (omega arith)) (mod-lt _ (omega arith))
-        (aligned (head t i / 65536 % 128) (nameLength t i) (valueLength t i) (entryCount t i) (min (nameLength t i) longestName) (min (valueLength t i) longestValue) (min (entryCount t i - 1) 3) (pack (nodeBits (meant t i))) (head t i) (fields-of (head t i) bound first) number e) in
+        (aligned (head t i / 65536 % 128) (nameLength t i) (valueLength t i) (entryCount t i) (min (nameLength t i) longestName)
+        (min (valueLength t i) longestValue) (min (entryCount t i - 1) 3) (pack (nodeBits (meant t i))) (head t i) (fields-of (head t i) bound first) number
+        e) in
         of-sizes t i (record { name = u .0; value = u .1; least = u .2; few = u .3 }))
         (λ p.
         let s = sizes-of t i p in
         eq-eqb (pack (nodeBits (meant t i))) (head t i) (kept-number s))
 
     -- the slot's four parts
-    parted : chunk t i ≡ take fieldsSize (chunk t i) ++ (take entriesSize (drop fieldsSize (chunk t i)) ++ (take longestName (drop nameAt (chunk t i)) ++ take longestValue (drop valueAt (chunk t i))))
+    parted : chunk t i ≡ take fieldsSize (chunk t i) ++ (take entriesSize
+        (drop fieldsSize (chunk t i)) ++ (take longestName (drop nameAt (chunk t i)) ++ take longestValue (drop valueAt (chunk t i))))
     parted =
         let s = chunk t i in
-        let last : take longestValue (drop valueAt s) ≡ drop valueAt s = take-all longestValue (drop valueAt s) (rw (length-drop valueAt s, length-chunk) (omega arith)) in
-        let third : drop nameAt s ≡ take longestName (drop nameAt s) ++ take longestValue (drop valueAt s) = sym (rw (last, ← drop-drop longestName nameAt s) (take-append-drop 32 (drop nameAt s))) in
-        let second : drop fieldsSize s ≡ take entriesSize (drop fieldsSize s) ++ drop nameAt s = sym (rw (← drop-drop entriesSize fieldsSize s) (take-append-drop entriesSize (drop fieldsSize s))) in
-        sym (take-append-drop fieldsSize s) ∙ ap (λ (l : Octets). take fieldsSize s ++ l) (second ∙ ap (λ (l : Octets). take entriesSize (drop fieldsSize s) ++ l) third)
+        let last : take longestValue (drop valueAt s) ≡ drop valueAt s =
+        take-all longestValue (drop valueAt s) (rw (length-drop valueAt s, length-chunk) (omega arith)) in
+        let third : drop nameAt s ≡ take longestName (drop nameAt s) ++ take longestValue (drop valueAt s) =
+        sym (rw (last, ← drop-drop longestName nameAt s) (take-append-drop 32 (drop nameAt s))) in
+        let second : drop fieldsSize s ≡ take entriesSize (drop fieldsSize s) ++ drop nameAt s =
+        sym (rw (← drop-drop entriesSize fieldsSize s) (take-append-drop entriesSize (drop fieldsSize s))) in
+        sym (take-append-drop fieldsSize s) ∙ ap (λ (l : Octets). take fieldsSize s ++ l)
+        (second ∙ ap (λ (l : Octets). take entriesSize (drop fieldsSize s) ++ l) third)
 
     part-length : (j k : ℕ) → j + k ≤ slotSize → length (take k (drop j (chunk t i))) ≡ k
     part-length j k l = length-take-le k (drop j (chunk t i)) (rw (length-drop j (chunk t i), length-chunk) (omega arith))
@@ -158,7 +171,8 @@ module _ (t : Octets) (bytes : Bytes t) (whole : length t ≡ tableSize) (i : �
     unfolding nodeOf entryCount
     counted-is = refl
 
-    second-part : Sizes t i → same (bigEndian entriesSize (pack (entryBits 4 (meant t i .owner ∷ meant t i .others)))) (take entriesSize (drop fieldsSize (chunk t i)))
+    second-part : Sizes t i → same (bigEndian entriesSize (pack (entryBits 4 (meant t i .owner ∷ meant t i .others))))
+        (take entriesSize (drop fieldsSize (chunk t i)))
         ≡ eqb (pack (entryBits 4 (meant t i .owner ∷ meant t i .others))) (field t (i * slotSize + fieldsSize) entriesSize)
     unfolding entries field
     second-part s =
@@ -170,7 +184,8 @@ module _ (t : Octets) (bytes : Bytes t) (whole : length t ≡ tableSize) (i : �
     part-of : (j k : ℕ) → j + k ≤ slotSize → take k (drop j (chunk t i)) ≡ take k (drop (i * slotSize + j) t)
     part-of j k l = take-drop-take k j slotSize (drop (i * slotSize) t) l ∙ ap (take k) (drop-drop j (i * slotSize) t)
 
-    padding : (j k n : ℕ) → j + k ≤ slotSize → n ≤ k → same (padded k (textAt (chunk t i) j k n)) (take k (drop j (chunk t i))) ≡ allZero (drop n (take k (drop (i * slotSize + j) t)))
+    padding : (j k n : ℕ) → j + k ≤ slotSize → n ≤ k → same (padded k (textAt (chunk t i) j k n)) (take k (drop j (chunk t i)))
+        ≡ allZero (drop n (take k (drop (i * slotSize + j) t)))
     unfolding textAt
     padding j k n l m = same-padded k n (take k (drop j (chunk t i))) (part-length j k l) m ∙ ap (λ (x : Octets). allZero (drop n x)) (part-of j k l)
 
@@ -178,7 +193,8 @@ module _ (t : Octets) (bytes : Bytes t) (whole : length t ≡ tableSize) (i : �
     all-parts : goodSlot t i
         ≡ same (bigEndian fieldsSize (pack (nodeBits (meant t i)))) (take fieldsSize (chunk t i))
         && (same (bigEndian entriesSize (pack (entryBits 4 (meant t i .owner ∷ meant t i .others)))) (take entriesSize (drop fieldsSize (chunk t i)))
-        && (same (padded longestName (meant t i .name)) (take longestName (drop nameAt (chunk t i))) && same (padded longestValue (meant t i .value)) (take longestValue (drop valueAt (chunk t i)))))
+        && (same (padded longestName (meant t i .name)) (take longestName (drop nameAt (chunk t i)))
+        && same (padded longestValue (meant t i .value)) (take longestValue (drop valueAt (chunk t i)))))
         && (goodName i (meant t i .name) && goodEntries (meant t i .owner ∷ meant t i .others))
     unfolding goodSlot fair slotBytes
     all-parts =
@@ -189,11 +205,14 @@ module _ (t : Octets) (bytes : Bytes t) (whole : length t ≡ tableSize) (i : �
         ap (λ (x : Option Node). same (slotBytes x) s && fair i x) (used-slot t i h u)
         ∙ ap (λ (b : Bool). b && (goodName i (n .name) && goodEntries (n .owner ∷ n .others)))
         (ap (same (slotBytes (some n))) parted
-        ∙ same-append fields (perms ++ (padded longestName (n .name) ++ padded longestValue (n .value))) (take fieldsSize s) _ (length-big 3 _ ∙ sym (part-length 0 3 (omega arith)))
+        ∙ same-append fields (perms ++ (padded longestName (n .name) ++ padded longestValue (n .value))) (take fieldsSize s) _
+        (length-big 3 _ ∙ sym (part-length 0 3 (omega arith)))
         ∙ ap (λ (b : Bool). same fields (take fieldsSize s) && b)
-        (same-append perms (padded longestName (n .name) ++ padded longestValue (n .value)) (take entriesSize (drop fieldsSize s)) _ (length-big 9 _ ∙ sym (part-length 3 9 (omega arith)))
+        (same-append perms (padded longestName (n .name) ++ padded longestValue (n .value)) (take entriesSize (drop fieldsSize s)) _
+        (length-big 9 _ ∙ sym (part-length 3 9 (omega arith)))
         ∙ ap (λ (b : Bool). same perms (take entriesSize (drop fieldsSize s)) && b)
-        (same-append (padded longestName (n .name)) (padded longestValue (n .value)) (take longestName (drop nameAt s)) _ (length-padded longestName (n .name) (rw name-long (min-le-right _ 32)) ∙ sym (part-length 12 32 (omega arith))))))
+        (same-append (padded longestName (n .name)) (padded longestValue (n .value)) (take longestName (drop nameAt s)) _
+        (length-padded longestName (n .name) (rw name-long (min-le-right _ 32)) ∙ sym (part-length 12 32 (omega arith))))))
 
     -- what is not within the sizes is not good
     pub unsized : sized t i ≡ false → false ≡ goodSlot t i
@@ -214,23 +233,29 @@ module _ (t : Octets) (bytes : Bytes t) (whole : length t ≡ tableSize) (i : �
         (goodName i (meant t i .name)) (goodEntries (meant t i .owner ∷ meant t i .others))))
       where
         regroup : (p q r g e : Bool) → (p && (q && r)) && (g && e) ≡ (p && e) && (r && (q && g))
-        regroup true q r g e = sym (and-assoc (q && r) g e) ∙ and-comm ((q && r) && g) e ∙ ap (_&&_ e) (ap (λ (b : Bool). b && g) (and-comm q r) ∙ and-assoc r q g)
+        regroup true q r g e = sym (and-assoc (q && r) g e) ∙ and-comm ((q && r) && g) e
+            ∙ ap (_&&_ e) (ap (λ (b : Bool). b && g) (and-comm q r) ∙ and-assoc r q g)
         regroup false q r g e = refl
 
-        name-padding : Sizes t i → same (padded longestName (meant t i .name)) (take longestName (drop nameAt (chunk t i))) ≡ allZero (drop (nameLength t i) (take longestName (drop (i * slotSize + nameAt) t)))
+        name-padding : Sizes t i → same (padded longestName (meant t i .name)) (take longestName (drop nameAt (chunk t i)))
+            ≡ allZero (drop (nameLength t i) (take longestName (drop (i * slotSize + nameAt) t)))
         name-padding s = padding nameAt longestName (nameLength t i) (omega arith) (s .name)
 
-        value-padding : Sizes t i → same (padded longestValue (meant t i .value)) (take longestValue (drop valueAt (chunk t i))) ≡ allZero (drop (valueLength t i) (take longestValue (drop (i * slotSize + valueAt) t)))
+        value-padding : Sizes t i → same (padded longestValue (meant t i .value)) (take longestValue (drop valueAt (chunk t i)))
+            ≡ allZero (drop (valueLength t i) (take longestValue (drop (i * slotSize + valueAt) t)))
         value-padding s = padding valueAt longestValue (valueLength t i) (omega arith) (s .value)
 
     -- the entries, as the code has them
-    pub entries-by : sized t i ≡ true → (first rest c : ℕ) → first ≡ getD t (i * slotSize + fieldsSize) 0 → rest ≡ field t (i * slotSize + fieldsSize + 1) 8 → c ≡ entryCount t i →
+    pub entries-by : sized t i ≡ true → (first rest c : ℕ) → first ≡ getD t (i * slotSize + fieldsSize) 0 → rest ≡ field t (i * slotSize + fieldsSize + 1) 8 →
+        c ≡ entryCount t i →
         keptEntries t i ≡ lowDomains first rest && eqb (rest % 2 ^ (18 * (4 - c))) 0
     unfolding keptEntries entries
     entries-by e first rest c ef er ec =
         let s = sizes-of t i e in
-        let split : field t (i * slotSize + fieldsSize) entriesSize ≡ field t (i * slotSize + fieldsSize) 1 * 256 ^ 8 + field t (i * slotSize + fieldsSize + 1) 8 = field-split t (i * slotSize + fieldsSize) 1 8 (omega arith) in
-        let m : field t (i * slotSize + fieldsSize) entriesSize ≡ first * 256 ^ 8 + rest = split ∙ rw (field-one t (i * slotSize + fieldsSize) (omega arith), ← ef, ← er) refl in
+        let split : field t (i * slotSize + fieldsSize) entriesSize ≡ field t (i * slotSize + fieldsSize) 1 * 256 ^ 8 + field t (i * slotSize + fieldsSize + 1)
+        8 = field-split t (i * slotSize + fieldsSize) 1 8 (omega arith) in
+        let m : field t (i * slotSize + fieldsSize) entriesSize ≡ first * 256 ^ 8 + rest = split
+        ∙ rw (field-one t (i * slotSize + fieldsSize) (omega arith), ← ef, ← er) refl in
         let r : rest < 256 ^ 8 = rw er (field-bound t bytes 8 (i * slotSize + fieldsSize + 1) (omega arith)) in
         rw (used-node t i h u, counted-is, ec)
         (entries-low (field t (i * slotSize + fieldsSize) entriesSize) (entryCount t i) first rest entries-bound (s .least) (s .few) r m)

@@ -81,7 +81,8 @@ node-parts ts i none = sym (and-true (not (eqb i 0)))
 node-parts ts i (some n) = sym (and-assoc (goodName i (n .name)) (goodEntries (n .owner ∷ n .others)) (reachesRoot deepest ts i))
 
 -- the part that every slot gives to the test of the whole
-slots-parts : (t : Octets) → length t ≡ tableSize → (same (tableBytes (tableOf t)) t && goodNodes (tableOf t) 0 (tableOf t)) ≡ every (goodSlot t) slots 0 && every (chained t) slots 0
+slots-parts : (t : Octets) → length t ≡ tableSize → (same (tableBytes (tableOf t)) t && goodNodes (tableOf t) 0 (tableOf t)) ≡ every (goodSlot t) slots 0
+    && every (chained t) slots 0
 unfolding goodSlot chained
 slots-parts t w = both-ways
     (λ e.
@@ -124,7 +125,9 @@ module _ (t : Octets) (w : length t ≡ tableSize) where
 
     pub root-used : Used t 0
     unfolding goodSlot fair
-    root-used = record { below = omega arith; whole = w; used = by (slotAt t 0) (both-true (same (slotBytes (slotAt t 0)) (take slotSize (drop (0 * slotSize) t))) (fair 0 (slotAt t 0)) (all-slots (goodSlot t) e 0 (omega arith)) .1) }
+    root-used = record { below = omega arith; whole = w; used = by (slotAt t 0)
+        (both-true (same (slotBytes (slotAt t 0)) (take slotSize (drop (0 * slotSize) t))) (fair 0 (slotAt t 0)) (all-slots (goodSlot t) e 0 (omega arith)) .1)
+        }
       where
         by : (x : Option Node) → fair 0 x ≡ true → isUsed x ≡ true
         by none f = absurd (false≢true f)

@@ -17,7 +17,8 @@ use Rattle.soundness.proofs.EntryLaws.{field-four, field-eight}
 
 -- the eight bytes behind the first: four single ones, and four
 behind-first : (s : Octets) (at : ℕ) → at + entriesSize ≤ length s
-    → field s (at + 1) 8 ≡ (getD s (at + 1) 0 * 16777216 + getD s (at + 2) 0 * 65536 + getD s (at + 3) 0 * 256 + getD s (at + 4) 0) * 4294967296 + field s (at + 5) 4
+    → field s (at + 1) 8 ≡ (getD s (at + 1) 0 * 16777216 + getD s (at + 2) 0 * 65536 + getD s (at + 3) 0 * 256 + getD s (at + 4) 0) * 4294967296 + field s
+    (at + 5) 4
 behind-first s at h =
     let e2 : at + 1 + 1 ≡ at + 2 = omega arith in
     let e3 : at + 1 + 2 ≡ at + 3 = omega arith in

@@ -202,13 +202,15 @@ module _ (t into : Octets) where
     reaches : reachesRoot k (tableOf t) i ≡ reachesRoot (k - 1) (tableOf t) p
     reaches =
         let x = used-some (slotAt t i) (g .used) in
-        ap (λ (m : ℕ). reachesRoot m (tableOf t) i) one-more ∙ reaches-up (k - 1) (tableOf t) i (x .0) not-root (x .1) ∙ ap (reachesRoot (k - 1) (tableOf t)) (sym (g .parent))
+        ap (λ (m : ℕ). reachesRoot m (tableOf t) i) one-more ∙ reaches-up (k - 1) (tableOf t) i (x .0) not-root (x .1)
+        ∙ ap (reachesRoot (k - 1) (tableOf t)) (sym (g .parent))
 
     steps : stepsTo k t i ≡ suc (stepsTo (k - 1) t p)
     steps = ap (λ (m : ℕ). stepsTo m t i) one-more ∙ steps-step (k - 1) t i not-root ∙ ap (λ (q : ℕ). suc (stepsTo (k - 1) t q)) (sym (g .parent))
 
     text : textTo k t i ≡ textTo (k - 1) t p ++ (47 ∷ nodeAt (tableOf t) i .name)
-    text = ap (λ (m : ℕ). textTo m t i) one-more ∙ text-step (k - 1) t i not-root ∙ ap (λ (q : ℕ). textTo (k - 1) t q ++ (47 ∷ nodeAt (tableOf t) i .name)) (sym (g .parent))
+    text = ap (λ (m : ℕ). textTo m t i) one-more ∙ text-step (k - 1) t i not-root
+        ∙ ap (λ (q : ℕ). textTo (k - 1) t q ++ (47 ∷ nodeAt (tableOf t) i .name)) (sym (g .parent))
 
     -- the parent's way is known
     module _ (b : k ≤ deepest) (known : Octets) (o : Lent t known into) (z : getD known p 0 ≡ 0 → ⊥) where
@@ -217,7 +219,8 @@ module _ (t into : Octets) where
         where
           by : (r : Bool) → reachesRoot (k - 1) (tableOf t) p ≡ r → r ≡ false
           by false q = refl
-          by true q = absurd (omega (arith, b, h, o .levels p z .1, steps-bound (k - 1) t p, steps-same (k - 1) 8 t p q (omega (arith, b, steps-bound (k - 1) t p)) .1))
+          by true q = absurd (omega (arith, b, h, o .levels p z .1, steps-bound (k - 1) t p,
+              steps-same (k - 1) 8 t p q (omega (arith, b, steps-bound (k - 1) t p)) .1))
 
       pub walked-near : getD known p 0 ≤ k → Walked k t i into into (Root (getD known p 0) 0)
       walked-near h =
@@ -262,7 +265,8 @@ module _ (t into : Octets) where
           pub walked-place : k ≤ deepest → at + 1 + longestName ≤ longestPath
           walked-place b = omega (arith, b, g .left, place, text-bound (k - 1) t p)
 
-          pub walked-up : length mid ≡ length into → at < length into → (s : Octets) → s ≡ nodeAt (tableOf t) i .name → (after : Octets) → after ≡ paste (at + 1) s (set mid at 47)
+          pub walked-up : length mid ≡ length into → at < length into → (s : Octets) → s ≡ nodeAt (tableOf t) i .name → (after : Octets) →
+              after ≡ paste (at + 1) s (set mid at 47)
               → Walked k t i into after (Root (m + 1) (at + 1 + length s))
           walked-up len h s f after q =
               let name = nodeAt (tableOf t) i .name in
@@ -270,7 +274,8 @@ module _ (t into : Octets) where
               let long : at + 1 + length s ≡ length (before ++ (47 ∷ name)) = omega (arith, ap length f, place, length-append before (47 ∷ name)) in
               let whole : taken (textTo k t i) into ≡ before ++ (47 ∷ name) = all-taken (textTo k t i) into o ∙ text in
               let put : mid ≡ paste 0 before into = here ∙ rw (all-taken before into o) refl in
-              let named : after ≡ paste at (47 ∷ name) mid = q ∙ rw (set-paste mid at 47 (omega (arith, len)), f) (paste-behind at (at + 1) (47 ∷ []) name mid (omega (arith, len)) refl) in
+              let named : after ≡ paste at (47 ∷ name) mid = q ∙ rw (set-paste mid at 47 (omega (arith, len)), f)
+              (paste-behind at (at + 1) (47 ∷ []) name mid (omega (arith, len)) refl) in
               let behind : after ≡ paste (length before) (47 ∷ name) (paste 0 before into) = named ∙ rw (place, put) refl in
               record {
                 found = rw (reaches, reached .0, whole) (ap (λ (x : ℕ). Root x (at + 1 + length s)) count ∙ ap (Root (stepsTo k t i)) long);

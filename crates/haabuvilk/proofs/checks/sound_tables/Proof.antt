@@ -29,7 +29,8 @@ nodes-sound c = sym (c .before .sound .ensures) ∙ not-false _ (c .if1 .left)
 domains-sound : (c : tie.Else2) → soundDomains (start (c .before .before) .args .domains .now) ≡ true
 domains-sound c = sym (c .before .sound-domains .ensures) ∙ not-false _ (c .if2 .left)
 
-watches-sound : (c : tie.Else3) → let b = start (c .before .before .before .before) in soundWatches (domainsOf (b .args .domains .now)) (b .args .watches .now) ≡ true
+watches-sound : (c : tie.Else3) → let b = start (c .before .before .before .before) in soundWatches (domainsOf (b .args .domains .now)) (b .args .watches .now)
+    ≡ true
 watches-sound c = sym (c .before .sound-watches .ensures) ∙ not-false _ (c .if3 .left)
 
 returns : tie.Need-returns
@@ -45,7 +46,8 @@ sound-watches-requires : tie.Need-sound-watches-requires
 sound-watches-requires c κs = sized (start (c .before .before)) .domains
 
 returns-3 : tie.Need-returns-3
-returns-3 c = sym (unsound-watches _ (nodes-sound (c .before .before .before .before)) (domains-sound (c .before .before)) (sym (c .before .sound-watches .ensures) ∙ not-true _ (c .if3 .taken)))
+returns-3 c = sym (unsound-watches _ (nodes-sound (c .before .before .before .before)) (domains-sound (c .before .before))
+    (sym (c .before .sound-watches .ensures) ∙ not-true _ (c .if3 .taken)))
 
 sound-entries-requires : tie.Need-sound-entries-requires
 sound-entries-requires c κs = sized (start (c .before .before .before .before)) .domains
@@ -54,7 +56,8 @@ returns-4 : tie.Need-returns-4
 returns-4 c =
     let w = c .before .before in
     let d = w .before .before in
-    sym (unsound-entries _ (nodes-sound (d .before .before)) (domains-sound d) (watches-sound w) (sym (c .before .sound-entries .ensures) ∙ not-true _ (c .if4 .taken)))
+    sym (unsound-entries _ (nodes-sound (d .before .before)) (domains-sound d) (watches-sound w)
+    (sym (c .before .sound-entries .ensures) ∙ not-true _ (c .if4 .taken)))
 
 sound-copies-requires : tie.Need-sound-copies-requires
 sound-copies-requires c κs = let z = sized (start (c .before .before .before .before .before .before)) in (z .copies, z .transactions)
@@ -65,7 +68,8 @@ returns-5 c =
     let w = e .before .before in
     let d = w .before .before in
     c .sound-copies .ensures
-    ∙ sym (copies-left _ (nodes-sound (d .before .before)) (domains-sound d) (watches-sound w) (sym (e .before .sound-entries .ensures) ∙ not-false _ (e .if4 .left)))
+    ∙ sym (copies-left _ (nodes-sound (d .before .before)) (domains-sound d) (watches-sound w)
+    (sym (e .before .sound-entries .ensures) ∙ not-false _ (e .if4 .left)))
 
 pub sound-tables-spec : {M : Type 1} → statement M
 sound-tables-spec =

@@ -39,7 +39,8 @@ sound-tables-requires c κs = sized (c .before .before)
 returns-4 : tie.Need-returns-4
 returns-4 c =
     let e = c .before .before in
-    sym (unsound-tables _ _ _ _ _ (sized (e .before .before)) (e .before .if2 .left) (e .if3 .left) (sym (c .before .sound-tables .ensures) ∙ not-true _ (c .if4 .taken)))
+    sym (unsound-tables _ _ _ _ _ (sized (e .before .before)) (e .before .if2 .left) (e .if3 .left)
+    (sym (c .before .sound-tables .ensures) ∙ not-true _ (c .if4 .taken)))
 
 known-sender-requires : tie.Need-known-sender-requires
 known-sender-requires c κs = tables-sized _ (sized (c .before .before .before .before)) .domains
@@ -48,7 +49,8 @@ returns-5 : tie.Need-returns-5
 returns-5 c =
     let s = c .before .before in
     let e = s .before .before in
-    sym (unknown-sender _ _ _ _ _ (sized (e .before .before)) (e .before .if2 .left) (e .if3 .left) (sound-all s) (sym (c .before .known-sender .ensures) ∙ not-true _ (c .if5 .taken)))
+    sym (unknown-sender _ _ _ _ _ (sized (e .before .before)) (e .before .if2 .left) (e .if3 .left) (sound-all s)
+    (sym (c .before .known-sender .ensures) ∙ not-true _ (c .if5 .taken)))
 
 frame-requires : tie.Need-frame-requires
 frame-requires c κs = search needs
@@ -59,7 +61,8 @@ returns-6 c =
     let s = k .before .before in
     let e = s .before .before in
     c .frame .ensures
-    ∙ sym (frame-left _ _ _ _ _ (sized (e .before .before)) (e .before .if2 .left) (e .if3 .left) (sound-all s) (sym (k .before .known-sender .ensures) ∙ not-false _ (k .if5 .left)))
+    ∙ sym (frame-left _ _ _ _ _ (sized (e .before .before)) (e .before .if2 .left) (e .if3 .left) (sound-all s)
+    (sym (k .before .known-sender .ensures) ∙ not-false _ (k .if5 .left)))
 
 pub verdict-spec : {M : Type 1} → statement M
 verdict-spec =

@@ -28,7 +28,8 @@ sized c = sym (c .before .sized-message .ensures) ∙ not-false _ (c .if1 .left)
 domains-sound : (c : tie.Else2) → soundDomains (start (c .before .before) .args .domains .now) ≡ true
 domains-sound c = sym (c .before .sound-domains .ensures) ∙ not-false _ (c .if2 .left)
 
-watches-sound : (c : tie.Else3) → let b = start (c .before .before .before .before) in soundWatches (domainsOf (b .args .domains .now)) (b .args .watches .now) ≡ true
+watches-sound : (c : tie.Else3) → let b = start (c .before .before .before .before) in soundWatches (domainsOf (b .args .domains .now)) (b .args .watches .now)
+    ≡ true
 watches-sound c = sym (c .before .sound-watches .ensures) ∙ not-false _ (c .if3 .left)
 
 sound-domains-requires : tie.Need-sound-domains-requires
@@ -47,10 +48,12 @@ same-length-3 : tie.Need-same-length-3
 same-length-3 c = search needs
 
 returns-3 : tie.Need-returns-3
-returns-3 c = unsound-watches _ _ _ _ (sized (c .before .before .before .before)) _ _ _ (domains-sound (c .before .before)) (sym (c .before .sound-watches .ensures) ∙ not-true _ (c .if3 .taken))
+returns-3 c = unsound-watches _ _ _ _ (sized (c .before .before .before .before)) _ _ _ (domains-sound (c .before .before))
+    (sym (c .before .sound-watches .ensures) ∙ not-true _ (c .if3 .taken))
 
 message-requires : tie.Need-message-requires
-message-requires c κs = let s = lent-sized _ _ _ _ (sized (c .before .before .before .before .before)) in (record { domains = _; sound = watches-sound (c .before) }, s .1, s .2)
+message-requires c κs = let s = lent-sized _ _ _ _ (sized (c .before .before .before .before .before)) in
+    (record { domains = _; sound = watches-sound (c .before) }, s .1, s .2)
 
 enum-known-n : tie.Need-enum-known-n
 enum-known-n c = search needs
@@ -66,7 +69,8 @@ unfolding callNumber
 returns-4 c =
     let m = c .before .before .before .before .before in
     let p = m .before .before in
-    answered _ _ _ _ (sized (p .before .before .before .before)) _ _ _ (domains-sound (p .before .before)) _ _ _ (watches-sound p) (c .before .n .given .1) (m .message .ensures)
+    answered _ _ _ _ (sized (p .before .before .before .before)) _ _ _ (domains-sound (p .before .before)) _ _ _ (watches-sound p) (c .before .n .given .1)
+    (m .message .ensures)
 
 same-length-5 : tie.Need-same-length-5
 same-length-5 c = search needs
@@ -76,7 +80,8 @@ unfolding callNumber
 returns-5 c =
     let m = c .before .before .before .before in
     let p = m .before .before in
-    answered _ _ _ _ (sized (p .before .before .before .before)) _ _ _ (domains-sound (p .before .before)) _ _ _ (watches-sound p) (c .enum-told .given .1) (m .message .ensures)
+    answered _ _ _ _ (sized (p .before .before .before .before)) _ _ _ (domains-sound (p .before .before)) _ _ _ (watches-sound p) (c .enum-told .given .1)
+    (m .message .ensures)
 
 pub haabuvilk-event-message-spec : {M : Type 1} → statement M
 haabuvilk-event-message-spec =

@@ -47,10 +47,13 @@ loop-again : tie.Need-loop-again Inv-loop μ-loop
 loop-again c =
     let a = c .before .before .before .before .before .before .before .before .before .before .before .before in
     let b = c .before .before .before .before .before .before .before .before .before in
-    let u = parent-used (a .args .p) _ (sym (c .before .before .before .before .before .before .before .has-parent .ensures) ∙ c .before .before .before .before .before .before .if1 .taken) in
+    let u = parent-used (a .args .p) _ (sym (c .before .before .before .before .before .before .before .has-parent .ensures)
+    ∙ c .before .before .before .before .before .before .if1 .taken) in
     gather-put (a .args .t .now) (a .args .p) (b .loop .i) (b .loop .n) (b .loop .list) (b .loop .inv) (omega arith)
-    (sym (c .before .before .before .before .before .before .before .has-parent .ensures) ∙ c .before .before .before .before .before .before .if1 .taken) (record { below = omega arith; sound = a .pre .0; used = u })
-    (c .before .before .before .before .place .result) (c .before .before .before .before .place .ensures) ((b .loop .i - 1) % 256) (omega arith) (c .before .before .put-in .last .0) (c .before .before .put-in .ensures)
+    (sym (c .before .before .before .before .before .before .before .has-parent .ensures) ∙ c .before .before .before .before .before .before .if1 .taken)
+    (record { below = omega arith; sound = a .pre .0; used = u })
+    (c .before .before .before .before .place .result) (c .before .before .before .before .place .ensures) ((b .loop .i - 1) % 256) (omega arith)
+    (c .before .before .put-in .last .0) (c .before .before .put-in .ensures)
 
 loop-less-2 : tie.Need-loop-less-2 Inv-loop μ-loop
 loop-less-2 c = omega arith
@@ -59,7 +62,8 @@ loop-again-2 : tie.Need-loop-again-2 Inv-loop μ-loop
 loop-again-2 c =
     let a = c .before .before .before .before .before .before in
     let b = c .before .before .before in
-    gather-skip (a .args .t .now) (a .args .p) (b .loop .i) (b .loop .n) (b .loop .list) (b .loop .inv) (omega arith) (sym (c .before .has-parent .ensures) ∙ c .if1 .left)
+    gather-skip (a .args .t .now) (a .args .p) (b .loop .i) (b .loop .n) (b .loop .list) (b .loop .inv) (omega arith)
+    (sym (c .before .has-parent .ensures) ∙ c .if1 .left)
 
 same-length : tie.Need-same-length Inv-loop μ-loop
 same-length c = c .before .loop .inv .long ∙ sym (c .before .before .before .before .pre .1)

@@ -24,7 +24,8 @@ entry-count-requires c κs = (c .before .before .pre .0 .below, sound-canonical 
 loop-holds : tie.Need-loop-holds Inv-loop μ-loop
 loop-holds c =
     let a = c .before .before .before in
-    (search needs, c .entry-count .ensures ∙ count-is (a .args .t .now) (a .args .i) (a .pre .0), none-written (a .args .t .now) (a .args .i) (a .pre .0) (a .args .at) (a .args .into .now) (a .pre .1))
+    (search needs, c .entry-count .ensures ∙ count-is (a .args .t .now) (a .args .i) (a .pre .0),
+    none-written (a .args .t .now) (a .args .i) (a .pre .0) (a .args .at) (a .args .into .now) (a .pre .1))
 
 entry-at-requires : tie.Need-entry-at-requires Inv-loop μ-loop
 entry-at-requires c κs =
@@ -36,8 +37,10 @@ put-entry-requires c κs =
     let a = c .before .before .before .before .before .before .before in
     let b = c .before .before .before in
     let e = c .before .entry-at .ensures in
-    let f = entry-fits (a .args .t .now) (a .args .i) (a .pre .0) (a .args .at) (a .args .into .now) (a .pre .1) (b .loop .k) (b .loop .into) (b .loop .to) (b .loop .inv .2) (omega arith) in
-    let r = written-room (a .args .t .now) (a .args .i) (a .pre .0) (a .args .at) (a .args .into .now) (a .pre .1) (b .loop .k) (b .loop .into) (b .loop .to) (b .loop .inv .2) (omega arith) in
+    let f = entry-fits (a .args .t .now) (a .args .i) (a .pre .0) (a .args .at) (a .args .into .now) (a .pre .1) (b .loop .k) (b .loop .into) (b .loop .to)
+    (b .loop .inv .2) (omega arith) in
+    let r = written-room (a .args .t .now) (a .args .i) (a .pre .0) (a .args .at) (a .args .into .now) (a .pre .1) (b .loop .k) (b .loop .into) (b .loop .to)
+    (b .loop .inv .2) (omega arith) in
     let n = few (a .args .t .now) (a .args .i) (a .pre .0) in
     (omega arith, omega arith, omega (arith, b .loop .inv .2 .short))
 
@@ -52,14 +55,17 @@ loop-again c =
     let a = c .before .before .before .before .before .before .before .before .before .before in
     let b = c .before .before .before .before .before .before in
     let e = c .before .before .before .before .entry-at in
-    (omega arith, b .loop .inv .1, one-more (a .args .t .now) (a .args .i) (a .pre .0) (a .args .at) (a .args .into .now) (a .pre .1) (b .loop .k) (b .loop .into) (b .loop .to) (b .loop .inv .2) (omega arith) (e .result .access) (e .result .domain) (e .ensures .0) (e .ensures .1) (c .before .before .put-entry .last .0) (c .before .before .put-entry .result) (c .before .before .put-entry .ensures))
+    (omega arith, b .loop .inv .1, one-more (a .args .t .now) (a .args .i) (a .pre .0) (a .args .at) (a .args .into .now) (a .pre .1) (b .loop .k)
+    (b .loop .into) (b .loop .to) (b .loop .inv .2) (omega arith) (e .result .access) (e .result .domain) (e .ensures .0) (e .ensures .1)
+    (c .before .before .put-entry .last .0) (c .before .before .put-entry .result) (c .before .before .put-entry .ensures))
 
 same-length : tie.Need-same-length Inv-loop μ-loop
 same-length c =
     let a = c .before .before .before .before .before in
     let b = c .before in
     let n = few (a .args .t .now) (a .args .i) (a .pre .0) in
-    let w = all-written (a .args .t .now) (a .args .i) (a .pre .0) (a .args .at) (a .args .into .now) (a .pre .1) (b .loop .k) (b .loop .into) (b .loop .to) (b .loop .inv .2) (omega arith) in
+    let w = all-written (a .args .t .now) (a .args .i) (a .pre .0) (a .args .at) (a .args .into .now) (a .pre .1) (b .loop .k) (b .loop .into) (b .loop .to)
+    (b .loop .inv .2) (omega arith) in
     ap length (w .bytes) ∙ length-paste (a .args .at) _ (a .args .into .now) (omega (arith, w .behind, b .loop .inv .2 .short))
 
 returns : tie.Need-returns Inv-loop μ-loop
@@ -67,7 +73,8 @@ returns c =
     let a = c .before .before .before .before .before in
     let b = c .before in
     let n = few (a .args .t .now) (a .args .i) (a .pre .0) in
-    let w = all-written (a .args .t .now) (a .args .i) (a .pre .0) (a .args .at) (a .args .into .now) (a .pre .1) (b .loop .k) (b .loop .into) (b .loop .to) (b .loop .inv .2) (omega arith) in
+    let w = all-written (a .args .t .now) (a .args .i) (a .pre .0) (a .args .at) (a .args .into .now) (a .pre .1) (b .loop .k) (b .loop .into) (b .loop .to)
+    (b .loop .inv .2) (omega arith) in
     w
 
 pub put-entries-spec : {M : Type 1} → statement M

@@ -16,7 +16,8 @@ use Rattle.lookup.proofs.listing.put_names.Statement.{statement}
 use Rattle.lookup.proofs.listing.put_names.Tie as tie
 
 abbrev Inv-loop : tie.InvT-loop
-Inv-loop t list n into₀ at to₀ k₀ into to k = (k ≤ n) × (into ≡ paste at (nameList (tableOf t) (take k list)) into₀) × (to ≡ at + length (nameList (tableOf t) (take k list)))
+Inv-loop t list n into₀ at to₀ k₀ into to k = (k ≤ n) × (into ≡ paste at (nameList (tableOf t) (take k list)) into₀)
+    × (to ≡ at + length (nameList (tableOf t) (take k list)))
 
 abbrev μ-loop : tie.MeasureT-loop
 μ-loop t list n into₀ at to₀ k₀ into to k = n - k
@@ -50,7 +51,8 @@ copy-requires c κs =
     let xs = nameList ts (take (b .loop .k) is) in
     let ys = nodeAt ts (getD is (b .loop .k) 0) .name in
     let long : length (c .before .name .result .now) ≡ length ys = ap length (c .before .name .ensures) in
-    let room : a .args .at + (length xs + (length ys + 1)) ≤ length (a .args .into .now) = room-for ts is (b .loop .k) (a .args .n) (omega arith) (omega arith) (a .args .at) (length (a .args .into .now)) (a .pre .2) in
+    let room : a .args .at + (length xs + (length ys + 1)) ≤ length (a .args .into .now) =
+    room-for ts is (b .loop .k) (a .args .n) (omega arith) (omega arith) (a .args .at) (length (a .args .into .now)) (a .pre .2) in
     let same = same-room (a .args .at) xs (a .args .into .now) (b .loop .into) (b .loop .to) (b .loop .inv .1) (b .loop .inv .2) ys room in
     omega arith
 
@@ -64,7 +66,8 @@ add-to c =
     let xs = nameList ts (take (b .loop .k) is) in
     let ys = nodeAt ts (getD is (b .loop .k) 0) .name in
     let long : length (c .before .before .before .before .name .result .now) ≡ length ys = ap length (c .before .before .before .before .name .ensures) in
-    let room : a .args .at + (length xs + (length ys + 1)) ≤ length (a .args .into .now) = room-for ts is (b .loop .k) (a .args .n) (omega arith) (omega arith) (a .args .at) (length (a .args .into .now)) (a .pre .2) in
+    let room : a .args .at + (length xs + (length ys + 1)) ≤ length (a .args .into .now) =
+    room-for ts is (b .loop .k) (a .args .n) (omega arith) (omega arith) (a .args .at) (length (a .args .into .now)) (a .pre .2) in
     let same = same-room (a .args .at) xs (a .args .into .now) (b .loop .into) (b .loop .to) (b .loop .inv .1) (b .loop .inv .2) ys room in
     omega arith
 
@@ -78,10 +81,13 @@ slice-write-into c =
     let xs = nameList ts (take (b .loop .k) is) in
     let ys = nodeAt ts (getD is (b .loop .k) 0) .name in
     let long : length (c .before .before .before .before .name .result .now) ≡ length ys = ap length (c .before .before .before .before .name .ensures) in
-    let room : a .args .at + (length xs + (length ys + 1)) ≤ length (a .args .into .now) = room-for ts is (b .loop .k) (a .args .n) (omega arith) (omega arith) (a .args .at) (length (a .args .into .now)) (a .pre .2) in
+    let room : a .args .at + (length xs + (length ys + 1)) ≤ length (a .args .into .now) =
+    room-for ts is (b .loop .k) (a .args .n) (omega arith) (omega arith) (a .args .at) (length (a .args .into .now)) (a .pre .2) in
     let same = same-room (a .args .at) xs (a .args .into .now) (b .loop .into) (b .loop .to) (b .loop .inv .1) (b .loop .inv .2) ys room in
-    let copied : c .before .before .copy .last .0 ≡ paste (b .loop .to) ys (b .loop .into) = c .before .before .copy .ensures ∙ ap (λ (l : Octets). paste (b .loop .to) l (b .loop .into)) (c .before .before .before .before .name .ensures) in
-    let after = room-after (a .args .at) xs (a .args .into .now) (b .loop .into) (b .loop .to) (b .loop .inv .1) (b .loop .inv .2) ys room (c .before .before .copy .last .0) copied in
+    let copied : c .before .before .copy .last .0 ≡ paste (b .loop .to) ys (b .loop .into) = c .before .before .copy .ensures
+    ∙ ap (λ (l : Octets). paste (b .loop .to) l (b .loop .into)) (c .before .before .before .before .name .ensures) in
+    let after = room-after (a .args .at) xs (a .args .into .now) (b .loop .into) (b .loop .to) (b .loop .inv .1) (b .loop .inv .2) ys room
+    (c .before .before .copy .last .0) copied in
     omega arith
 
 add-to-2 : tie.Need-add-to-2 Inv-loop μ-loop
@@ -94,7 +100,8 @@ add-to-2 c =
     let xs = nameList ts (take (b .loop .k) is) in
     let ys = nodeAt ts (getD is (b .loop .k) 0) .name in
     let long : length (c .before .before .before .before .name .result .now) ≡ length ys = ap length (c .before .before .before .before .name .ensures) in
-    let room : a .args .at + (length xs + (length ys + 1)) ≤ length (a .args .into .now) = room-for ts is (b .loop .k) (a .args .n) (omega arith) (omega arith) (a .args .at) (length (a .args .into .now)) (a .pre .2) in
+    let room : a .args .at + (length xs + (length ys + 1)) ≤ length (a .args .into .now) =
+    room-for ts is (b .loop .k) (a .args .n) (omega arith) (omega arith) (a .args .at) (length (a .args .into .now)) (a .pre .2) in
     let same = same-room (a .args .at) xs (a .args .into .now) (b .loop .into) (b .loop .to) (b .loop .inv .1) (b .loop .inv .2) ys room in
     omega arith
 
@@ -114,14 +121,18 @@ loop-again c =
     let xs = nameList ts (take (b .loop .k) is) in
     let ys = nodeAt ts (getD is (b .loop .k) 0) .name in
     let long : length (c .before .before .before .before .name .result .now) ≡ length ys = ap length (c .before .before .before .before .name .ensures) in
-    let room : a .args .at + (length xs + (length ys + 1)) ≤ length (a .args .into .now) = room-for ts is (b .loop .k) (a .args .n) (omega arith) (omega arith) (a .args .at) (length (a .args .into .now)) (a .pre .2) in
+    let room : a .args .at + (length xs + (length ys + 1)) ≤ length (a .args .into .now) =
+    room-for ts is (b .loop .k) (a .args .n) (omega arith) (omega arith) (a .args .at) (length (a .args .into .now)) (a .pre .2) in
     let same = same-room (a .args .at) xs (a .args .into .now) (b .loop .into) (b .loop .to) (b .loop .inv .1) (b .loop .inv .2) ys room in
-    let copied : c .before .before .copy .last .0 ≡ paste (b .loop .to) ys (b .loop .into) = c .before .before .copy .ensures ∙ ap (λ (l : Octets). paste (b .loop .to) l (b .loop .into)) (c .before .before .before .before .name .ensures) in
-    let after = room-after (a .args .at) xs (a .args .into .now) (b .loop .into) (b .loop .to) (b .loop .inv .1) (b .loop .inv .2) ys room (c .before .before .copy .last .0) copied in
+    let copied : c .before .before .copy .last .0 ≡ paste (b .loop .to) ys (b .loop .into) = c .before .before .copy .ensures
+    ∙ ap (λ (l : Octets). paste (b .loop .to) l (b .loop .into)) (c .before .before .before .before .name .ensures) in
+    let after = room-after (a .args .at) xs (a .args .into .now) (b .loop .into) (b .loop .to) (b .loop .inv .1) (b .loop .inv .2) ys room
+    (c .before .before .copy .last .0) copied in
     let e = names-next ts is (b .loop .k) (omega arith) in (
       omega arith,
       ap (λ (i : ℕ). set (c .before .before .copy .last .0) (b .loop .to + i) 0) long
-          ∙ nul-behind (a .args .at) xs (a .args .into .now) (b .loop .into) (b .loop .to) (b .loop .inv .1) (b .loop .inv .2) ys room (c .before .before .copy .last .0) copied
+          ∙ nul-behind (a .args .at) xs (a .args .into .now) (b .loop .into) (b .loop .to) (b .loop .inv .1) (b .loop .inv .2) ys room
+          (c .before .before .copy .last .0) copied
           ∙ ap (λ (l : Octets). paste (a .args .at) l (a .args .into .now)) (sym e),
       omega (arith, ap length e, length-append xs (ys ++ nul), length-append ys nul),
     )

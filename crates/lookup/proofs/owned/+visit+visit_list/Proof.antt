@@ -1,5 +1,5 @@
 use mathlib.Core.Path.{_≡_, refl, sym, ap, _∙_}
-use Prim.Native.Nat.{ℕ, _<_, _≤_, _+_, _*_, _-_, _%_}
+use Prim.Native.Nat.{ℕ, _<_, _+_, _*_, _-_, _%_}
 use native.Mathlib.Omega.{arith}
 use borrow.Author.Needs.{needs}
 use mathlib.Core.List.{[], _∷_}
@@ -9,7 +9,9 @@ use Rattle.rules.specs.Layout.{tableOf}
 use Rattle.slots.proofs.Canonical.{sound-canonical}
 use Rattle.lookup.proofs.ChildrenLaws.{listed}
 use Rattle.lookup.specs.Walk.{ownedAmong}
-use Rattle.lookup.proofs.WalkLaws.{below-none, below-own, below-others, among-over, among-next, among-length, entered-none, entered-one, entered-as, entered-join}
+use Rattle.lookup.proofs.WalkLaws.{
+  below-none, below-own, below-others, among-over, among-next, among-length, entered-none, entered-one, entered-as, entered-join,
+}
 use borrow.Fn.Kinds.{In}
 use borrow.Fn.PlainCycle.{Measures, is, falls, and}
 use Rattle.lookup.proofs.owned.visit.Reads as visit
@@ -55,15 +57,20 @@ visit-own : (t : ℕ) (c : visit-lts.Then2 (visit-calls t) (visit-at t) visit.Po
     let a = c .before .before .before .before .before .before .args in ownedBelow (a .depth) (tableOf (a .t .now)) (a .domain) (a .i) ≡ a .i ∷ []
 visit-own t c =
     let s = c .before .before .before .before .before .before in
-    below-own (s .args .t .now) (s .args .domain) (s .args .i) (s .args .depth) (s .pre .1 .0) (c .before .before .before .if1 .left) _ (c .before .before .entry-at .ensures .1) (c .if2 .taken)
+    below-own (s .args .t .now) (s .args .domain) (s .args .i) (s .args .depth) (s .pre .1 .0) (c .before .before .before .if1 .left) _
+    (c .before .before .entry-at .ensures .1) (c .if2 .taken)
 
 visit-others : (t : ℕ) (c : visit-lts.After-visit-list-arg (visit-calls t) (visit-at t) visit.Post) →
     let a = c .before .before .before .before .before .before .before .before .before .before .before .args in
     ownedBelow (a .depth) (tableOf (a .t .now)) (a .domain) (a .i)
-    ≡ ownedAmong (a .depth - 1) (tableOf (a .t .now)) (a .domain) (take (c .before .before .before .children .result) (c .before .before .before .children .last .1 .1 .0))
+    ≡ ownedAmong (a .depth - 1) (tableOf (a .t .now)) (a .domain) (take (c .before .before .before .children .result)
+    (c .before .before .before .children .last .1 .1 .0))
 visit-others t c =
     let s = c .before .before .before .before .before .before .before .before .before .before .before in
-    below-others (s .args .t .now) (s .args .domain) (s .args .i) (s .args .depth) (s .pre .1 .0) (c .before .before .before .before .before .before .before .before .if1 .left) _ (c .before .before .before .before .before .before .before .entry-at .ensures .1) (c .before .before .before .before .before .if2 .left) _ _ (c .before .before .before .children .ensures)
+    below-others (s .args .t .now) (s .args .domain) (s .args .i) (s .args .depth) (s .pre .1 .0)
+    (c .before .before .before .before .before .before .before .before .if1 .left) _
+    (c .before .before .before .before .before .before .before .entry-at .ensures .1) (c .before .before .before .before .before .if2 .left) _ _
+    (c .before .before .before .children .ensures)
 
 visit-returns : (t : ℕ) → visit-lts.Need-returns (visit-calls t) (visit-at t) visit.Post
 visit-returns t c =
@@ -95,7 +102,8 @@ visit-returns-2 : (t : ℕ) → visit-lts.Need-returns-2 (visit-calls t) (visit-
 visit-returns-2 t c =
     let s = c .before .before .before .before .before .before in
     let own = visit-own t c in
-    entered-one (s .args .out .now) (s .args .n) (s .args .i % 256) (s .args .i) _ (omega (arith, s .pre .1 .1, ap length own)) (omega (arith, s .pre .1 .0 .below)) own
+    entered-one (s .args .out .now) (s .args .n) (s .args .i % 256) (s .args .i) _ (omega (arith, s .pre .1 .1, ap length own))
+    (omega (arith, s .pre .1 .0 .below)) own
 
 visit-slice-aggregate-children : (t : ℕ) → visit-lts.Need-slice-aggregate-children (visit-calls t) (visit-at t) visit.Post
 visit-slice-aggregate-children t c = refl
@@ -128,7 +136,8 @@ visit-returns-3 t c =
 visit-list-returns : (t : ℕ) → visit-list-lts.Need-returns (visit-list-calls t) (visit-list-at t) visit-list.Post
 visit-list-returns t c =
     let s = c .before .before .before .before in
-    entered-none (s .args .out .now) (s .args .n) _ (among-over (s .args .depth) (tableOf (s .args .t .now)) (s .args .domain) (s .args .list .now) (s .args .count) (s .args .k) (s .pre .1 .0) (c .if1 .taken))
+    entered-none (s .args .out .now) (s .args .n) _ (among-over (s .args .depth) (tableOf (s .args .t .now)) (s .args .domain) (s .args .list .now)
+    (s .args .count) (s .args .k) (s .pre .1 .0) (c .if1 .taken))
 
 visit-list-shared-slice-read-visit : (t : ℕ) → visit-list-lts.Need-shared-slice-read-visit (visit-list-calls t) (visit-list-at t) visit-list.Post
 visit-list-shared-slice-read-visit t c = omega arith
@@ -140,26 +149,34 @@ visit-list-visit-requires : (t : ℕ) → visit-list-lts.Need-visit-requires (vi
 visit-list-visit-requires t c κs =
     let s = c .before .before .before .before .before .before in (
       omega (arith, s .pre .0, c .before .before .if1 .left),
-      (listed (s .args .t .now) (s .args .list .now) (s .args .count) (s .args .k) (s .pre .1 .1) (c .before .before .if1 .left) (s .pre .1 .0), omega (arith, s .pre .1 .2, among-length (s .args .depth) (tableOf (s .args .t .now)) (s .args .domain) (s .args .list .now) (s .args .count) (s .args .k) (s .pre .1 .0) (c .before .before .if1 .left))),
+      (listed (s .args .t .now) (s .args .list .now) (s .args .count) (s .args .k) (s .pre .1 .1) (c .before .before .if1 .left) (s .pre .1 .0),
+      omega (arith, s .pre .1 .2, among-length (s .args .depth) (tableOf (s .args .t .now)) (s .args .domain) (s .args .list .now) (s .args .count) (s .args .k)
+      (s .pre .1 .0) (c .before .before .if1 .left))),
     )
 
 visit-list-add-visit-list : (t : ℕ) → visit-list-lts.Need-add-visit-list (visit-list-calls t) (visit-list-at t) visit-list.Post
-visit-list-add-visit-list t c = omega (arith, c .before .before .before .before .before .before .before .before .before .pre .1 .0, c .before .before .before .before .before .before .before .before .before .good)
+visit-list-add-visit-list t c = omega (arith, c .before .before .before .before .before .before .before .before .before .pre .1 .0,
+    c .before .before .before .before .before .before .before .before .before .good)
 
 visit-list-visit-list-requires : (t : ℕ) → visit-list-lts.Need-visit-list-requires (visit-list-calls t) (visit-list-at t) visit-list.Post
 visit-list-visit-list-requires t c κs =
     let s = c .before .before .before .before .before .before .before .before .before .before in (
       omega (arith, s .pre .0, c .before .before .before .before .before .before .if1 .left),
-      (s .pre .1 .0, s .pre .1 .1, omega (arith, s .pre .1 .2, among-length (s .args .depth) (tableOf (s .args .t .now)) (s .args .domain) (s .args .list .now) (s .args .count) (s .args .k) (s .pre .1 .0) (c .before .before .before .before .before .before .if1 .left), c .before .before .before .visit .ensures .count, c .before .before .before .visit .kept .1 .1 .1 .1 .0)),
+      (s .pre .1 .0, s .pre .1 .1, omega (arith, s .pre .1 .2, among-length (s .args .depth) (tableOf (s .args .t .now)) (s .args .domain) (s .args .list .now)
+      (s .args .count) (s .args .k) (s .pre .1 .0) (c .before .before .before .before .before .before .if1 .left),
+      c .before .before .before .visit .ensures .count, c .before .before .before .visit .kept .1 .1 .1 .1 .0)),
     )
 
 visit-list-same-length : (t : ℕ) → visit-list-lts.Need-same-length (visit-list-calls t) (visit-list-at t) visit-list.Post
-visit-list-same-length t c = c .before .before .visit-list .kept .1 .1 .1 .1 .1 .1 .0 ∙ c .before .before .before .before .before .before .visit .kept .1 .1 .1 .1 .0
+visit-list-same-length t c = c .before .before .visit-list .kept .1 .1 .1 .1 .1 .1 .0
+    ∙ c .before .before .before .before .before .before .visit .kept .1 .1 .1 .1 .0
 
 visit-list-returns-2 : (t : ℕ) → visit-list-lts.Need-returns-2 (visit-list-calls t) (visit-list-at t) visit-list.Post
 visit-list-returns-2 t c =
     let s = c .before .before .before .before .before .before .before .before .before .before .before .before .before in
-    entered-join (s .args .out .now) (s .args .n) _ _ _ _ _ _ _ (c .before .before .before .before .before .before .visit .ensures) (c .before .before .visit-list .ensures) (among-next (s .args .depth) (tableOf (s .args .t .now)) (s .args .domain) (s .args .list .now) (s .args .count) (s .args .k) (s .pre .1 .0) (c .before .before .before .before .before .before .before .before .before .if1 .left))
+    entered-join (s .args .out .now) (s .args .n) _ _ _ _ _ _ _ (c .before .before .before .before .before .before .visit .ensures)
+    (c .before .before .visit-list .ensures) (among-next (s .args .depth) (tableOf (s .args .t .now)) (s .args .domain) (s .args .list .now) (s .args .count)
+    (s .args .k) (s .pre .1 .0) (c .before .before .before .before .before .before .before .before .before .if1 .left))
 
 pub +visit+visit-list-spec : {M : Type 1} → statement M
 +visit+visit-list-spec = close μ-visit μ-visit-list (λ t. visit-lts.spec (visit-calls t)

@@ -1,13 +1,10 @@
-use mathlib.Core.Path.{_≡_, _∙_}
+use mathlib.Core.Path.{_∙_}
 use native.Mathlib.Omega.{arith}
 use borrow.Author.Needs.{needs}
 use Rattle.rules.specs.Node.{ownedBy}
 use Rattle.lookup.proofs.WalkLaws.{root-asked, owned-room, owned-done}
 use Rattle.lookup.proofs.owned.owned.Statement.{statement}
 use Rattle.lookup.proofs.owned.owned.Tie as tie
-use Rattle.lookup.proofs.owned.owned.Reads as reads
-use Rattle.lookup.proofs.owned.owned.Lts as lts
-use Rattle.lookup.proofs.owned.visit.Reads as visit-reads
 
 -- src/owned.rt:53:5
 visit-requires : tie.Need-visit-requires

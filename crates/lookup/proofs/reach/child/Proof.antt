@@ -28,7 +28,8 @@ returns : tie.Need-returns Inv-loop μ-loop
 returns c =
     let b = c .before .before .before in
     let a = b .before .before .before .args in
-    sym (b .loop .inv .1 ∙ child-here (a .p) (a .n .now) (tableOf (a .t .now)) (b .loop .i) (rw (length-tableOf (a .t .now)) (c .before .before .loop-test .taken)) (sym (c .before .is-child .ensures) ∙ c .if1 .taken))
+    sym (b .loop .inv .1 ∙ child-here (a .p) (a .n .now) (tableOf (a .t .now)) (b .loop .i)
+    (rw (length-tableOf (a .t .now)) (c .before .before .loop-test .taken)) (sym (c .before .is-child .ensures) ∙ c .if1 .taken))
 
 add-i : tie.Need-add-i Inv-loop μ-loop
 add-i c = omega arith
@@ -41,7 +42,8 @@ loop-again c =
     let b = c .before .before .before in
     let a = b .before .before .before .args in (
       omega arith,
-      b .loop .inv .1 ∙ child-further (a .p) (a .n .now) (tableOf (a .t .now)) (b .loop .i) (rw (length-tableOf (a .t .now)) (c .before .before .loop-test .taken)) (sym (c .before .is-child .ensures) ∙ c .if1 .left),
+      b .loop .inv .1 ∙ child-further (a .p) (a .n .now) (tableOf (a .t .now)) (b .loop .i)
+      (rw (length-tableOf (a .t .now)) (c .before .before .loop-test .taken)) (sym (c .before .is-child .ensures) ∙ c .if1 .left),
     )
 
 returns-2 : tie.Need-returns-2 Inv-loop μ-loop

@@ -40,7 +40,8 @@ returns-3 c =
     let u = sym (c .before .before .before .before .before .used .ensures) ∙ not-false _ (c .before .before .before .before .if1 .left) in
     c .same .ensures
     ∙ ap (λ (m : Octets). same m (b .args .n .now)) (c .before .name .ensures)
-    ∙ sym (same-parent (tableOf (b .args .t .now)) (b .args .i) (b .args .p) (b .args .n .now) u (sym (c .before .before .before .parent .ensures .1) ∙ c .before .before .if2 .left))
+    ∙ sym (same-parent (tableOf (b .args .t .now)) (b .args .i) (b .args .p) (b .args .n .now) u
+    (sym (c .before .before .before .parent .ensures .1) ∙ c .before .before .if2 .left))
 
 pub is-child-spec : {M : Type 1} → statement M
 is-child-spec =

@@ -24,7 +24,8 @@ use Rattle.lookup.proofs.reach.reach.Tie as tie
 
 abbrev Inv-loop : tie.InvT-loop
 Inv-loop t path slot₀ at₀ slot at =
-    (slot < slots) × (isUsed (slotAt t slot) ≡ true) × (allNames (leftAt path at) ≡ true) × (reach (tableOf t) (namesIn path) ≡ reachFrom (leftAt path at) (tableOf t) slot)
+    (slot < slots) × (isUsed (slotAt t slot) ≡ true) × (allNames (leftAt path at) ≡ true)
+    × (reach (tableOf t) (namesIn path) ≡ reachFrom (leftAt path at) (tableOf t) slot)
 
 abbrev μ-loop : tie.MeasureT-loop
 μ-loop t path slot₀ at₀ slot at = length path - at
@@ -81,9 +82,12 @@ loop-again c =
     let p = a .args .path .now in
     let b = c .before .before .before .before .before .before .before in
     let i = c .before .i .given .0 .0 in
-    let e : nameEnd p (b .loop .at) ≡ c .before .before .before .before .before .name-end .result = sym (c .before .before .before .before .before .name-end .ensures) in
-    let f : child (tableOf (a .args .t .now)) (b .loop .slot) (take (c .before .before .before .before .before .name-end .result - b .loop .at) (drop (b .loop .at) p)) ≡ some i = sym (c .before .before .before .child .ensures) ∙ ap foundMeant (c .before .i .given .1) in
-    turned (a .args .t .now) p (b .loop .slot) (b .loop .at) (omega arith) (b .loop .inv .2) (b .loop .inv .3) (c .before .before .before .before .before .name-end .result) e i f
+    let e : nameEnd p (b .loop .at) ≡ c .before .before .before .before .before .name-end .result =
+    sym (c .before .before .before .before .before .name-end .ensures) in
+    let f : child (tableOf (a .args .t .now)) (b .loop .slot) (take (c .before .before .before .before .before .name-end .result - b .loop .at)
+    (drop (b .loop .at) p)) ≡ some i = sym (c .before .before .before .child .ensures) ∙ ap foundMeant (c .before .i .given .1) in
+    turned (a .args .t .now) p (b .loop .slot) (b .loop .at) (omega arith) (b .loop .inv .2) (b .loop .inv .3)
+    (c .before .before .before .before .before .name-end .result) e i f
 
 enum-told : tie.Need-enum-told Inv-loop μ-loop
 enum-told c = c .match .keys2
@@ -94,8 +98,10 @@ returns c =
     let p = a .args .path .now in
     let b = c .before .before .before .before .before .before in
     let e : nameEnd p (b .loop .at) ≡ c .before .before .before .before .name-end .result = sym (c .before .before .before .before .name-end .ensures) in
-    let f : child (tableOf (a .args .t .now)) (b .loop .slot) (take (c .before .before .before .before .name-end .result - b .loop .at) (drop (b .loop .at) p)) ≡ none = sym (c .before .before .child .ensures) ∙ ap foundMeant (c .enum-told .given .1) in
-    let r = stopped (a .args .t .now) p (b .loop .slot) (b .loop .at) (omega arith) (b .loop .inv .2) (b .loop .inv .3) (c .before .before .before .before .name-end .result) e f in
+    let f : child (tableOf (a .args .t .now)) (b .loop .slot) (take (c .before .before .before .before .name-end .result - b .loop .at) (drop (b .loop .at) p))
+    ≡ none = sym (c .before .before .child .ensures) ∙ ap foundMeant (c .enum-told .given .1) in
+    let r = stopped (a .args .t .now) p (b .loop .slot) (b .loop .at) (omega arith) (b .loop .inv .2) (b .loop .inv .3)
+    (c .before .before .before .before .name-end .result) e f in
     record { below = b .loop .inv .0; used = b .loop .inv .1; there = ap (λ (x : Reached). x .slot) (sym r); left = ap (λ (x : Reached). x .left) (sym r) }
 
 returns-2 : tie.Need-returns-2 Inv-loop μ-loop
@@ -104,7 +110,8 @@ returns-2 c =
     let p = a .args .path .now in
     let b = c .before in
     let l = left-over p (b .loop .at) (omega arith) in
-    let r : reach (tableOf (a .args .t .now)) (namesIn p) ≡ record { slot = b .loop .slot; left = [] } = b .loop .inv .3 ∙ ap (λ (ns : Names). reachFrom ns (tableOf (a .args .t .now)) (b .loop .slot)) l ∙ reach-end (tableOf (a .args .t .now)) (b .loop .slot) in
+    let r : reach (tableOf (a .args .t .now)) (namesIn p) ≡ record { slot = b .loop .slot; left = [] } = b .loop .inv .3
+    ∙ ap (λ (ns : Names). reachFrom ns (tableOf (a .args .t .now)) (b .loop .slot)) l ∙ reach-end (tableOf (a .args .t .now)) (b .loop .slot) in
     record { below = b .loop .inv .0; used = b .loop .inv .1; there = ap (λ (x : Reached). x .slot) (sym r); left = l ∙ ap (λ (x : Reached). x .left) (sym r) }
 
 pub reach-spec : {M : Type 1} → statement M

@@ -24,7 +24,8 @@ returns-2 c =
     let test = c .before .before .before in
     let a = test .before .before .before in
     let o = owner-is (a .args .t .now) (a .args .i) (a .pre) in
-    sym (by-owner _ _ (sym (test .before .is-control .ensures) ∙ test .if1 .left) (c .if2 .taken ∙ c .before .before .entry-at .ensures .1 ∙ ap (λ (e : Entry). e .domain) o))
+    sym (by-owner _ _ (sym (test .before .is-control .ensures) ∙ test .if1 .left)
+    (c .if2 .taken ∙ c .before .before .entry-at .ensures .1 ∙ ap (λ (e : Entry). e .domain) o))
 
 named-requires : tie.Need-named-requires
 named-requires c κs = search needs

@@ -38,7 +38,8 @@ returns c =
     let a = c .before .before .before .before .before .before .before in
     let b = c .before .before .before .before in
     let e = c .before .before .entry-at in
-    sym (b .loop .inv .3 ∙ named-by (a .args .t .now) (a .args .i) (a .pre) (a .args .domain) (a .args .first) (b .loop .k) (b .loop .inv .0) (omega arith) (e .result .access) (e .result .domain) (e .ensures .0) (e .ensures .1) (c .if1 .taken))
+    sym (b .loop .inv .3 ∙ named-by (a .args .t .now) (a .args .i) (a .pre) (a .args .domain) (a .args .first) (b .loop .k) (b .loop .inv .0) (omega arith)
+    (e .result .access) (e .result .domain) (e .ensures .0) (e .ensures .1) (c .if1 .taken))
 
 add-k : tie.Need-add-k Inv-loop μ-loop
 add-k c = omega arith
@@ -54,14 +55,16 @@ loop-again c =
       omega arith,
       omega arith,
       b .loop .inv .2,
-      b .loop .inv .3 ∙ not-named-by (a .args .t .now) (a .args .i) (a .pre) (a .args .domain) (a .args .first) (b .loop .k) (b .loop .inv .0) (omega arith) (e .result .domain) (e .ensures .1) (c .if1 .left),
+      b .loop .inv .3 ∙ not-named-by (a .args .t .now) (a .args .i) (a .pre) (a .args .domain) (a .args .first) (b .loop .k) (b .loop .inv .0) (omega arith)
+      (e .result .domain) (e .ensures .1) (c .if1 .left),
     )
 
 returns-2 : tie.Need-returns-2 Inv-loop μ-loop
 returns-2 c =
     let a = c .before .before .before .before in
     let b = c .before in
-    sym (b .loop .inv .3 ∙ named-none (a .args .domain) (a .args .first) (nodeAt (tableOf (a .args .t .now)) (a .args .i) .others) (b .loop .k) (b .loop .inv .0) (omega arith))
+    sym (b .loop .inv .3 ∙ named-none (a .args .domain) (a .args .first) (nodeAt (tableOf (a .args .t .now)) (a .args .i) .others) (b .loop .k)
+    (b .loop .inv .0) (omega arith))
 
 pub named-spec : {M : Type 1} → statement M
 named-spec =

@@ -5,7 +5,7 @@ use Rattle.slots.proofs.Canonical.{sound-canonical}
 use borrow.Author.Tests.{not-true, not-false}
 use Rattle.nodes.proofs.Outcomes.{refused-so, changed-so}
 use Rattle.nodes.proofs.ChangingLaws.{perms-absent, perms-denied, perms-many, perms-done}
-use Rattle.nodes.proofs.PermittingLaws.{many-meant}
+use Rattle.payload.proofs.Kept.{length-others}
 use borrow.Author.Needs.{needs}
 use Rattle.nodes.proofs.permitting.set_perms.Statement.{statement}
 use Rattle.nodes.proofs.permitting.set_perms.Tie as tie
@@ -61,7 +61,7 @@ returns-3 c =
     refused-so (a .args .domain) _ (a .args .t .now) (sound-canonical _ (a .pre .0 .standing .sound)) _ (a .args .reply .now) _ _ (c .refusal3 .ensures)
     (perms-many _ _ _ _ _ (there .before .before .reach .ensures) (there .if1 .left) _ _
     (sym (may .may-set .ensures _ _ refl) ∙ not-false _ (c .before .before .before .if2 .left))
-    (omega (arith, many-meant (a .args .entries) (a .pre .1 .some-entry), c .before .if3 .taken)))
+    (omega (arith, length-others (a .args .entries) (a .pre .1 .some-entry), c .before .if3 .taken)))
 
 permit-requires : tie.Need-permit-requires
 permit-requires c κs = search needs
@@ -85,7 +85,7 @@ returns-4 c =
     changed-so (a .args .domain) _ _ _ (a .args .reply .now) _ _ _ _ _ _ (c .before .before .success .ensures) refl
     (perms-done _ _ _ _ _ (there .before .before .reach .ensures) (there .if1 .left) _ _
     (sym (may .may-set .ensures _ _ refl) ∙ not-false _ (few .before .before .if2 .left))
-    (omega (arith, many-meant (a .args .entries) (a .pre .1 .some-entry), few .if3 .left)))
+    (omega (arith, length-others (a .args .entries) (a .pre .1 .some-entry), few .if3 .left)))
     (put .permit .ensures)
 
 pub set-perms-spec : {M : Type 1} → statement M

@@ -5,7 +5,6 @@ use Rattle.rules.proofs.Compare.{begins-same, begins-short}
 use borrow.Author.Needs.{needs}
 use Rattle.octets.proofs.compare.begins.Statement.{statement}
 use Rattle.octets.proofs.compare.begins.Tie as tie
-use Rattle.octets.proofs.compare.same.Reads as same-reads
 
 returns : tie.Need-returns
 returns c = sym (begins-short _ _ (c .if1 .taken))

@@ -54,7 +54,8 @@ returns-2 : tie.Need-returns-2
 returns-2 c =
     let a = c .before .before .before .before .before .args in
     let late = c .before .all-zero2 .ensures ∙ ap allZero (behind (a .s .now) (a .at) (a .size) (a .size / 2) (omega arith)) in
-    sym (late-fault (drop (a .at) (a .s .now)) (a .n) (a .size / 2) (a .size) (c .before .before .before .if1 .left) (omega arith) (sym late ∙ not-true _ (c .if2 .taken)))
+    sym (late-fault (drop (a .at) (a .s .now)) (a .n) (a .size / 2) (a .size) (c .before .before .before .if1 .left) (omega arith)
+    (sym late ∙ not-true _ (c .if2 .taken)))
 
 add-all-zero-5 : tie.Need-add-all-zero-5
 add-all-zero-5 c = search needs
@@ -83,7 +84,8 @@ returns-3 c =
     let late = c .before .before .before .all-zero2 .ensures ∙ ap allZero (behind (a .s .now) (a .at) (a .size) (a .size / 2) (omega arith)) in
     c .all-zero3 .ensures
     ∙ ap allZero (piece (a .s .now) (a .at) (a .n) (a .size / 2))
-    ∙ first-decides (drop (a .at) (a .s .now)) (a .n) (a .size / 2) (a .size) (c .before .before .before .before .before .if1 .left) (omega arith) (sym late ∙ not-false _ (c .before .before .if2 .left))
+    ∙ first-decides (drop (a .at) (a .s .now)) (a .n) (a .size / 2) (a .size) (c .before .before .before .before .before .if1 .left) (omega arith)
+    (sym late ∙ not-false _ (c .before .before .if2 .left))
 
 pub rest-zero-spec : {M : Type 1} → statement M
 rest-zero-spec =

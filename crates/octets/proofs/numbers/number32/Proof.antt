@@ -44,7 +44,8 @@ cast-d c = omega (arith, c .shared-slice-known4 .given (c .before .before .befor
 -- the four bytes
 four : (c : tie.After-shared-slice-known4) →
     let p = c .before .before .before .before .args in
-    (getD (p .s .now) (p .at) 0 < 256) × (getD (p .s .now) (p .at + 1) 0 < 256) × (getD (p .s .now) (p .at + 2) 0 < 256) × (getD (p .s .now) (p .at + 3) 0 < 256)
+    (getD (p .s .now) (p .at) 0 < 256) × (getD (p .s .now) (p .at + 1) 0 < 256) × (getD (p .s .now) (p .at + 2) 0 < 256)
+    × (getD (p .s .now) (p .at + 3) 0 < 256)
 four c =
     let at = c .before .before .before .before .args .at in
     let byte = c .shared-slice-known4 .given in

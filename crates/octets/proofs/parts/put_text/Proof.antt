@@ -25,7 +25,8 @@ returns : tie.Need-returns
 unfolding padded
 returns c =
     let b = c .before .before .before .before .before .before .before .before .before .before in
-    c .before .before .copy .ensures ∙ ap (paste (b .args .at) (b .args .text .now)) (c .before .before .before .before .before .before .clear .ensures) ∙ sym (paste-append (b .args .at) (b .args .text .now) _ (b .args .into .now) (omega arith))
+    c .before .before .copy .ensures ∙ ap (paste (b .args .at) (b .args .text .now)) (c .before .before .before .before .before .before .clear .ensures)
+    ∙ sym (paste-append (b .args .at) (b .args .text .now) _ (b .args .into .now) (omega arith))
 
 pub put-text-spec : {M : Type 1} → statement M
 put-text-spec =

@@ -51,7 +51,8 @@ returns c =
     let p = c .before .before in
     let q = p .before .before .before .before in
     let start = q .before .before .before .before .before .before .before .before .before in
-    full-put (start .args .domain) _ _ _ _ _ _ (start .pre) (q .before .before .before .before .copy .ensures) (q .put-decimal .ensures) (slice-write-into (p .before .before)) (p .copy2 .ensures)
+    full-put (start .args .domain) _ _ _ _ _ _ (start .pre) (q .before .before .before .before .copy .ensures) (q .put-decimal .ensures)
+    (slice-write-into (p .before .before)) (p .copy2 .ensures)
 
 pub full-spec : {M : Type 1} → statement M
 full-spec =

@@ -21,10 +21,12 @@ same-requires-2 : tie.Need-same-requires-2
 same-requires-2 c κs = search needs
 
 returns-2 : tie.Need-returns-2
-returns-2 c = end-drop _ (sym (c .before .before .before .before .same .ensures) ∙ c .before .before .before .if1 .left) (sym (c .before .same2 .ensures) ∙ c .if2 .taken)
+returns-2 c = end-drop _ (sym (c .before .before .before .before .same .ensures) ∙ c .before .before .before .if1 .left)
+    (sym (c .before .same2 .ensures) ∙ c .if2 .taken)
 
 returns-3 : tie.Need-returns-3
-returns-3 c = end-not _ (sym (c .before .before .before .before .same .ensures) ∙ c .before .before .before .if1 .left) (sym (c .before .same2 .ensures) ∙ c .if2 .left)
+returns-3 c = end-not _ (sym (c .before .before .before .before .same .ensures) ∙ c .before .before .before .if1 .left)
+    (sym (c .before .same2 .ensures) ∙ c .if2 .left)
 
 pub end-spec : {M : Type 1} → statement M
 end-spec =

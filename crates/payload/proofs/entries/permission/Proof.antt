@@ -24,7 +24,8 @@ enum-told : tie.Need-enum-told
 enum-told c = search needs
 
 returns-2 : tie.Need-returns-2
-returns-2 c = entry-told _ _ none (c .before .before .before .before .if1 .left) (sym (c .before .before .letter .ensures) ∙ ap smallMeant (c .enum-told .given .1)) (inr refl)
+returns-2 c = entry-told _ _ none (c .before .before .before .before .if1 .left)
+    (sym (c .before .before .letter .ensures) ∙ ap smallMeant (c .enum-told .given .1)) (inr refl)
 
 sub-small : tie.Need-sub-small
 sub-small c = search needs
@@ -46,12 +47,16 @@ enum-told-2 c = search needs
 
 returns-3 : tie.Need-returns-3
 returns-3 c =
-    entry-told _ _ _ (c .before .before .before .before .before .before .before .before .before .if1 .left) (sym (c .before .before .before .before .before .before .before .letter .ensures) ∙ ap smallMeant (c .before .before .before .before .before .access .given .1))
+    entry-told _ _ _ (c .before .before .before .before .before .before .before .before .before .if1 .left)
+    (sym (c .before .before .before .before .before .before .before .letter .ensures)
+    ∙ ap smallMeant (c .before .before .before .before .before .access .given .1))
     (inl (sym (ap smallMeant (c .enum-told2 .given .1)) ∙ c .before .before .small .ensures))
 
 returns-4 : tie.Need-returns-4
 returns-4 c =
-    entry-told _ _ _ (c .before .before .before .before .before .before .before .before .before .before .if1 .left) (sym (c .before .before .before .before .before .before .before .before .letter .ensures) ∙ ap smallMeant (c .before .before .before .before .before .before .access .given .1))
+    entry-told _ _ _ (c .before .before .before .before .before .before .before .before .before .before .if1 .left)
+    (sym (c .before .before .before .before .before .before .before .before .letter .ensures)
+    ∙ ap smallMeant (c .before .before .before .before .before .before .access .given .1))
     (inl (sym (ap smallMeant (c .before .domain .given .1)) ∙ c .before .before .before .small .ensures))
 
 pub permission-spec : {M : Type 1} → statement M

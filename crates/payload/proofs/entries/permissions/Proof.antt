@@ -49,7 +49,8 @@ enum-known-start : tie.Need-enum-known-start Inv-loop μ-loop
 enum-known-start c = search needs
 
 told : (c : tie.After-start Inv-loop μ-loop) →
-    Told (c .before .before .before .before .before .before .args .s .now) (c .before .before .before .loop .cursor .at) (c .start .given .0 .0) (c .start .given .0 .1 .0) (c .start .given .0 .1 .1 .0)
+    Told (c .before .before .before .before .before .before .args .s .now) (c .before .before .before .loop .cursor .at) (c .start .given .0 .0)
+    (c .start .given .0 .1 .0) (c .start .given .0 .1 .1 .0)
 told c = string-told _ _ _ _ _ (sym (c .before .before .next .ensures) ∙ c .start .given .1)
 
 sub-permission : tie.Need-sub-permission Inv-loop μ-loop
@@ -79,7 +80,8 @@ enum-known-e : tie.Need-enum-known-e Inv-loop μ-loop
 enum-known-e c = search needs
 
 with-requires : tie.Need-with-requires Inv-loop μ-loop
-with-requires c κs = let i = c .before .before .before .before .before .before .before .before .before .loop .inv in omega (arith, c .before .before .before .before .before .before .before .before .before .before .before .before .good)
+with-requires c κs = let i = c .before .before .before .before .before .before .before .before .before .loop .inv in omega
+    (arith, c .before .before .before .before .before .before .before .before .before .before .before .before .good)
 
 loop-less : tie.Need-loop-less Inv-loop μ-loop
 loop-less c = let t = told (c .before .before .before .before .before .before .before) in omega arith

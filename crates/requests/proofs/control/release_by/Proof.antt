@@ -21,7 +21,8 @@ returns c =
     let denied = sym (c .before .before .is-control .ensures) ∙ not-true _ (c .before .if1 .taken) in
     λ w l e.
     refused-so w _ _ _ _ _ _ (control-denied w (start .args .sender) (start .pre .0) _ denied) (c .with-events .ensures)
-    (same-tables (nodes-alone w _ (on .sound) (l .nodes)) refl (watches-alone w _ (on .watching) (l .watches)) (transactions-alone w _ (on .kept) (l .transactions))
+    (same-tables (nodes-alone w _ (on .sound) (l .nodes)) refl (watches-alone w _ (on .watching) (l .watches))
+    (transactions-alone w _ (on .kept) (l .transactions))
     (domains-alone w _ (on .known) (l .domains)))
 
 release-requires : tie.Need-release-requires

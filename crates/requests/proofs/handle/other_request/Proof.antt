@@ -1,5 +1,5 @@
 -- Each kind is its handler's; a table that the handler is not lent stays as it is.
-use mathlib.Core.Path.{refl, _∙_}
+use mathlib.Core.Path.{refl}
 use Rattle.rules.specs.World as W
 use Rattle.rules.specs.Call.{outcomeOf}
 use Rattle.payload.specs.Meaning.{meant}
@@ -194,7 +194,8 @@ returns-4 c =
     λ w l e.
     handled-so (read-as kind w _ _ _ _)
     (same-tables (nodes-left _ _ _ _ _ v w (l .nodes)) refl (watches-left _ _ _ _ _ v w (l .watches)) refl (domains-left _ _ _ _ _ v w (l .domains)))
-    (done .start .ensures w (record { nodes = l .nodes; copies = l .copies; watches = tt; transactions = l .transactions; domains = tt }) (start .args .events .now))
+    (done .start .ensures w (record { nodes = l .nodes; copies = l .copies; watches = tt; transactions = l .transactions; domains = tt })
+    (start .args .events .now))
 
 same-length-10 : tie.Need-same-length-10
 same-length-10 c = search needs

@@ -68,7 +68,8 @@ in-transaction-requires c κs =
     let p = start .pre .1 in
     let a = start .args in
     let held = c .before .before .before .before in
-    let h = it-holds (a .transactions .now) (a .sender .connection) (a .tx) (held .is-held .result) (held .is-held .ensures) (c .before .before .before .if2 .left) in
+    let h = it-holds (a .transactions .now) (a .sender .connection) (a .tx) (held .is-held .result) (held .is-held .ensures)
+    (c .before .before .before .if2 .left) in
     (record { whole = p .whole; place = h .place; sound = p .copy _ (h .place); long = p .long }, start .pre .2)
 
 same-length-6 : tie.Need-same-length-6

@@ -47,7 +47,8 @@ returns c =
     let start = done .before .before .before .before .before .before .before .before .before .before .before .before .before .before .before .before in
     let a = start .args in
     let p = start .pre in
-    let own = absolute-names (a .s .now) (a .path) (a .sender .domain) (p .2 .path) (done .before .before .before .before .before .before .before .enum-told .given .1) in
+    let own = absolute-names (a .s .now) (a .path) (a .sender .domain) (p .2 .path)
+    (done .before .before .before .before .before .before .before .enum-told .given .1) in
     λ w l e. handled-as (asked-names _ _ (a .path) (p .2) _ _ (sym own) w _ _) (done .asked .ensures w l e)
 
 same-length-6 : tie.Need-same-length-6

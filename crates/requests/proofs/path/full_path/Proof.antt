@@ -50,7 +50,8 @@ same-length c = search needs
 returns : tie.Need-returns
 returns c =
     let b = c .before .before .before .before .before .before .before .before .before in
-    absolute-put _ (b .args .path) (b .args .domain) (b .pre .0) (c .before .before .before .before .before .enum-told .given .1) _ _ (c .before .before .copy .ensures)
+    absolute-put _ (b .args .path) (b .args .domain) (b .pre .0) (c .before .before .before .before .before .enum-told .given .1) _ _
+    (c .before .before .copy .ensures)
 
 same-length-2 : tie.Need-same-length-2
 same-length-2 c = search needs
@@ -58,7 +59,8 @@ same-length-2 c = search needs
 returns-2 : tie.Need-returns-2
 returns-2 c =
     let b = c .before .before .before .before .before .before .before .before .before in
-    relative-put _ (b .args .path) (b .args .domain) (b .pre .0) (c .before .before .before .before .before .enum-told2 .given .1) _ _ _ (c .before .before .full .ensures)
+    relative-put _ (b .args .path) (b .args .domain) (b .pre .0) (c .before .before .before .before .before .enum-told2 .given .1) _ _ _
+    (c .before .before .full .ensures)
 
 same-length-3 : tie.Need-same-length-3
 same-length-3 c = search needs
@@ -66,7 +68,8 @@ same-length-3 c = search needs
 returns-3 : tie.Need-returns-3
 returns-3 c =
     let b = c .before .before .before .before .before .before .before .before in
-    special-root _ (b .args .path) (b .args .domain) (b .pre .0) (c .before .before .before .before .enum-told3 .given .1) _ _ _ (c .before .before .root .ensures)
+    special-root _ (b .args .path) (b .args .domain) (b .pre .0) (c .before .before .before .before .enum-told3 .given .1) _ _ _
+    (c .before .before .root .ensures)
 
 same-length-4 : tie.Need-same-length-4
 same-length-4 c = search needs
@@ -74,7 +77,8 @@ same-length-4 c = search needs
 returns-4 : tie.Need-returns-4
 returns-4 c =
     let b = c .before .before .before .before .before .before .before .before in
-    malformed-root _ (b .args .path) (b .args .domain) (b .pre .0) (c .before .before .before .before .enum-told4 .given .1) _ _ _ (c .before .before .root2 .ensures)
+    malformed-root _ (b .args .path) (b .args .domain) (b .pre .0) (c .before .before .before .before .enum-told4 .given .1) _ _ _
+    (c .before .before .root2 .ensures)
 
 pub full-path-spec : {M : Type 1} → statement M
 full-path-spec =

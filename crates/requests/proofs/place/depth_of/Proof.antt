@@ -19,7 +19,8 @@ enum-told c = search needs
 
 returns : tie.Need-returns
 unfolding entryOr
-returns c = let k = c .before .depth .given .0 .0 in let b = subst DepthSound (c .before .depth .given .1) (c .before .before .before .pre) in let e : k % 256 ≡ k = omega (arith, b) in (ap some e ∙ sym (ap depthMeant (c .before .depth .given .1)), omega arith)
+returns c = let k = c .before .depth .given .0 .0 in let b = subst DepthSound (c .before .depth .given .1) (c .before .before .before .pre) in let e : k % 256
+    ≡ k = omega (arith, b) in (ap some e ∙ sym (ap depthMeant (c .before .depth .given .1)), omega arith)
 
 returns-2 : tie.Need-returns-2
 unfolding entryOr

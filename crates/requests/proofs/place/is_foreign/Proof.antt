@@ -1,5 +1,5 @@
 -- The name of an event, and no control domain.
-use mathlib.Core.Path.{refl, ap, _∙_}
+use mathlib.Core.Path.{ap}
 use mathlib.Core.Bool.{not}
 use borrow.Author.Needs.{needs}
 use Rattle.requests.proofs.place.is_foreign.Statement.{statement}

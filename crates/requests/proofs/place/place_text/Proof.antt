@@ -27,7 +27,8 @@ same-length c = search needs
 returns : tie.Need-returns
 returns c =
     let b = c .before .before .before .before .before .before .before .before .before in
-    special-put _ (b .args .path) (b .args .domain) (b .pre .0) (sym (c .before .before .before .before .before .before .is-special .ensures) ∙ c .before .before .before .before .before .if1 .taken) _ _ (c .before .before .copy .ensures)
+    special-put _ (b .args .path) (b .args .domain) (b .pre .0) (sym (c .before .before .before .before .before .before .is-special .ensures)
+    ∙ c .before .before .before .before .before .if1 .taken) _ _ (c .before .before .copy .ensures)
 
 full-path-requires : tie.Need-full-path-requires
 full-path-requires c κs = search needs

@@ -17,7 +17,8 @@ cast-result : tie.Need-cast-result
 cast-result c = search needs
 
 returns : tie.Need-returns
-returns c = entry-count-byte (c .before .args .t .now) (bytes-known (c .before .args .t .now) (c .shared-slice-known .given)) (c .before .pre .1) _ (c .before .pre .0)
+returns c = entry-count-byte (c .before .args .t .now) (bytes-known (c .before .args .t .now) (c .shared-slice-known .given)) (c .before .pre .1) _
+    (c .before .pre .0)
 
 pub entry-count-spec : {M : Type 1} → statement M
 entry-count-spec =

@@ -20,7 +20,8 @@ cast-result : tie.Need-cast-result
 cast-result c = omega (arith, c .shared-slice-known .given (c .before .args .i * slotSize + 1))
 
 returns : tie.Need-returns
-returns c = name-length-byte (c .before .args .t .now) (bytes-known (c .before .args .t .now) (c .shared-slice-known .given)) (c .before .pre .1) _ (c .before .pre .0)
+returns c = name-length-byte (c .before .args .t .now) (bytes-known (c .before .args .t .now) (c .shared-slice-known .given)) (c .before .pre .1) _
+    (c .before .pre .0)
 
 pub name-length-spec : {M : Type 1} → statement M
 name-length-spec =

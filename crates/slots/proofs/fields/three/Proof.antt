@@ -32,16 +32,20 @@ cast-low : tie.Need-cast-low
 cast-low c = omega (arith, c .shared-slice-known3 .given (c .before .before .before .args .at + 2))
 
 mul-result : tie.Need-mul-result
-mul-result c = omega (arith, c .shared-slice-known3 .given (c .before .before .before .args .at), c .shared-slice-known3 .given (c .before .before .before .args .at + 1), c .shared-slice-known3 .given (c .before .before .before .args .at + 2))
+mul-result c = omega (arith, c .shared-slice-known3 .given (c .before .before .before .args .at),
+    c .shared-slice-known3 .given (c .before .before .before .args .at + 1), c .shared-slice-known3 .given (c .before .before .before .args .at + 2))
 
 mul-result-2 : tie.Need-mul-result-2
-mul-result-2 c = omega (arith, c .shared-slice-known3 .given (c .before .before .before .args .at), c .shared-slice-known3 .given (c .before .before .before .args .at + 1), c .shared-slice-known3 .given (c .before .before .before .args .at + 2))
+mul-result-2 c = omega (arith, c .shared-slice-known3 .given (c .before .before .before .args .at),
+    c .shared-slice-known3 .given (c .before .before .before .args .at + 1), c .shared-slice-known3 .given (c .before .before .before .args .at + 2))
 
 add-result : tie.Need-add-result
-add-result c = omega (arith, c .shared-slice-known3 .given (c .before .before .before .args .at), c .shared-slice-known3 .given (c .before .before .before .args .at + 1), c .shared-slice-known3 .given (c .before .before .before .args .at + 2))
+add-result c = omega (arith, c .shared-slice-known3 .given (c .before .before .before .args .at),
+    c .shared-slice-known3 .given (c .before .before .before .args .at + 1), c .shared-slice-known3 .given (c .before .before .before .args .at + 2))
 
 add-result-2 : tie.Need-add-result-2
-add-result-2 c = omega (arith, c .shared-slice-known3 .given (c .before .before .before .args .at), c .shared-slice-known3 .given (c .before .before .before .args .at + 1), c .shared-slice-known3 .given (c .before .before .before .args .at + 2))
+add-result-2 c = omega (arith, c .shared-slice-known3 .given (c .before .before .before .args .at),
+    c .shared-slice-known3 .given (c .before .before .before .args .at + 1), c .shared-slice-known3 .given (c .before .before .before .args .at + 2))
 
 returns : tie.Need-returns
 returns c =

@@ -38,7 +38,8 @@ add-result : tie.Need-add-result
 add-result c = omega (arith, c .shared-slice-known2 .given (c .before .before .args .i * slotSize + 2))
 
 returns : tie.Need-returns
-returns c = value-length-bytes (c .before .before .args .t .now) (bytes-known (c .before .before .args .t .now) (c .shared-slice-known2 .given)) (c .before .before .pre .1) _ (c .before .before .pre .0)
+returns c = value-length-bytes (c .before .before .args .t .now) (bytes-known (c .before .before .args .t .now) (c .shared-slice-known2 .given))
+    (c .before .before .pre .1) _ (c .before .before .pre .0)
 
 pub value-length-spec : {M : Type 1} → statement M
 value-length-spec =

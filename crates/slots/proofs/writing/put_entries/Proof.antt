@@ -40,7 +40,9 @@ returns c =
     let many = others-many _ _ _ g in
     let one = g .least in
     let few = g .few in
-    entries-put _ (b .pre .1) (b .args .i) (b .pre .0) (b .pre .2) _ _ (owner-fits _ _ _ g) (others-fit _ _ _ g) (omega arith) _ _ _ _ (p .before .before .before .before .before .before .parent .ensures .1) (p .before .before .before .before .name-length .ensures) (p .before .before .value-length .ensures) (omega arith) (p .put-given .ensures) (c .before .before .put-fields .ensures)
+    entries-put _ (b .pre .1) (b .args .i) (b .pre .0) (b .pre .2) _ _ (owner-fits _ _ _ g) (others-fit _ _ _ g) (omega arith) _ _ _ _
+    (p .before .before .before .before .before .before .parent .ensures .1) (p .before .before .before .before .name-length .ensures)
+    (p .before .before .value-length .ensures) (omega arith) (p .put-given .ensures) (c .before .before .put-fields .ensures)
 
 pub put-entries-spec : {M : Type 1} → statement M
 put-entries-spec =

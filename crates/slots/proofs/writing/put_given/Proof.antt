@@ -27,7 +27,8 @@ returns c =
     let b = c .before .before .before .before .before .before .before .before .before .before .before in
     let p = c .before .before .before .before in
     let few = b .pre .1 .few in
-    entries-at (b .args .at) _ _ _ (omega (arith, others-many _ _ _ (b .pre .1))) (p .before .before .before .given-number .ensures .0) (p .before .before .given-number2 .ensures .0) (p .before .given-number3 .ensures .0) (p .given-number4 .ensures .0) (c .before .before .put-four .ensures)
+    entries-at (b .args .at) _ _ _ (omega (arith, others-many _ _ _ (b .pre .1))) (p .before .before .before .given-number .ensures .0)
+    (p .before .before .given-number2 .ensures .0) (p .before .given-number3 .ensures .0) (p .given-number4 .ensures .0) (c .before .before .put-four .ensures)
 
 pub put-given-spec : {M : Type 1} → statement M
 put-given-spec =

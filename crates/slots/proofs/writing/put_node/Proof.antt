@@ -39,7 +39,9 @@ returns c =
     let b = c .before .before .before .before .before .before .before .before .before .before .before .before .before .before .before .before .before .before .before .before .before in
     let p = c .before .before .before .before .before .before .before .before .before .before in
     let room = b .pre .4 in
-    new-put _ (b .pre .2) (b .args .i) (b .pre .0) (b .args .parent) _ _ (b .args .domain) _ (b .pre .1) (b .pre .3) (room .name) (room .value) (room .domain) (p .before .before .before .before .before .before .entry-count .ensures) (p .before .before .before .before .put-heirs .ensures) (p .put-text .ensures) (c .before .before .before .before .before .before .put-text2 .ensures) (c .before .before .put-fields .ensures)
+    new-put _ (b .pre .2) (b .args .i) (b .pre .0) (b .args .parent) _ _ (b .args .domain) _ (b .pre .1) (b .pre .3) (room .name) (room .value) (room .domain)
+    (p .before .before .before .before .before .before .entry-count .ensures) (p .before .before .before .before .put-heirs .ensures) (p .put-text .ensures)
+    (c .before .before .before .before .before .before .put-text2 .ensures) (c .before .before .put-fields .ensures)
 
 pub put-node-spec : {M : Type 1} → statement M
 put-node-spec =

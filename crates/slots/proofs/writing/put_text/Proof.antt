@@ -21,7 +21,8 @@ same-length c = search needs
 returns : tie.Need-returns
 returns c =
     let b = c .before .before .before .before .before .before .before .before .before .before in
-    text-put (b .args .at) (b .args .room) _ _ (b .pre .0) (b .pre .1) (c .before .before .before .before .before .before .clear .ensures) (c .before .before .copy .ensures)
+    text-put (b .args .at) (b .args .room) _ _ (b .pre .0) (b .pre .1) (c .before .before .before .before .before .before .clear .ensures)
+    (c .before .before .copy .ensures)
 
 pub put-text-spec : {M : Type 1} → statement M
 put-text-spec =

@@ -34,7 +34,9 @@ returns : tie.Need-returns
 returns c =
     let b = c .before .before .before .before .before .before .before .before .before .before .before .before .before .before .before .before in
     let p = c .before .before .before .before .before .before in
-    value-put _ (b .pre .1) (b .args .i) (b .pre .0) (b .pre .2) _ (b .pre .3) _ _ _ (p .before .before .before .before .before .before .parent .ensures .1) (p .before .before .before .before .name-length .ensures) (p .before .before .entry-count .ensures) (p .put-text .ensures) (c .before .before .put-fields .ensures)
+    value-put _ (b .pre .1) (b .args .i) (b .pre .0) (b .pre .2) _ (b .pre .3) _ _ _ (p .before .before .before .before .before .before .parent .ensures .1)
+    (p .before .before .before .before .name-length .ensures) (p .before .before .entry-count .ensures) (p .put-text .ensures)
+    (c .before .before .put-fields .ensures)
 
 pub put-value-spec : {M : Type 1} → statement M
 put-value-spec =

@@ -5,7 +5,9 @@ use borrow.Author.Needs.{needs}
 use borrow.Author.Tests.{not-true, not-false}
 use lib.ListN.{length, length-set}
 use Rattle.rules.specs.Size.{longestName, longestPath, deepest}
-use Rattle.soundness.proofs.WalkLaws.{walked-root, walked-none, walked-unused, walked-far, walked-near, walked-lost, walked-count, walked-bare, walked-place, walked-up, name-short, Step}
+use Rattle.soundness.proofs.WalkLaws.{
+  walked-root, walked-none, walked-unused, walked-far, walked-near, walked-lost, walked-count, walked-bare, walked-place, walked-up, name-short, Step,
+}
 use Prim.Native.Nat.{ℕ, _+_, _≤_, _<_}
 use borrow.Fn.Kinds.{In}
 use borrow.Fn.PlainCycle.{Measures, is, falls, and}
@@ -58,7 +60,8 @@ walk-returns-2 : (t : ℕ) → walk-lts.Need-returns-2 (
   walk-up-below t,
   walk-up.Post,
 ) (walk-at t) walk.Post
-walk-returns-2 t c = walked-none _ _ (c .before .before .before .before .args .steps) (c .before .before .before .before .args .i) (c .before .if1 .left) (c .if2 .taken)
+walk-returns-2 t c = walked-none _ _ (c .before .before .before .before .args .steps) (c .before .before .before .before .args .i) (c .before .if1 .left)
+    (c .if2 .taken)
 
 walk-used-requires : (t : ℕ) → walk-lts.Need-used-requires (
   used-reads.Asked,
@@ -78,7 +81,9 @@ walk-returns-3 : (t : ℕ) → walk-lts.Need-returns-3 (
   walk-up-below t,
   walk-up.Post,
 ) (walk-at t) walk.Post
-walk-returns-3 t c = walked-unused _ _ (c .before .before .before .before .before .before .args .steps) (c .before .before .before .before .before .before .args .i) (c .before .before .before .if1 .left) (sym (c .before .used .ensures) ∙ not-true _ (c .if3 .taken))
+walk-returns-3 t c = walked-unused _ _ (c .before .before .before .before .before .before .args .steps)
+    (c .before .before .before .before .before .before .args .i) (c .before .before .before .if1 .left)
+    (sym (c .before .used .ensures) ∙ not-true _ (c .if3 .taken))
 
 walk-parent-requires : (t : ℕ) → walk-lts.Need-parent-requires (
   used-reads.Asked,
@@ -88,7 +93,8 @@ walk-parent-requires : (t : ℕ) → walk-lts.Need-parent-requires (
   walk-up-below t,
   walk-up.Post,
 ) (walk-at t) walk.Post
-walk-parent-requires t c κs = (c .before .before .before .before .before .before .pre .1 .0, c .before .before .before .before .before .before .pre .1 .2 .table .whole, sym (c .before .used .ensures) ∙ not-false _ (c .if3 .left))
+walk-parent-requires t c κs = (c .before .before .before .before .before .before .pre .1 .0,
+    c .before .before .before .before .before .before .pre .1 .2 .table .whole, sym (c .before .used .ensures) ∙ not-false _ (c .if3 .left))
 
 walk-element-copy-out-above : (t : ℕ) → walk-lts.Need-element-copy-out-above (
   used-reads.Asked,
@@ -160,7 +166,8 @@ walk-returns-5 : (t : ℕ) → walk-lts.Need-returns-5 (
 ) (walk-at t) walk.Post
 walk-returns-5 t c =
     let b = c .before .before .before .before .before .before .before .before .before .before in
-    walked-far _ _ (b .args .steps) (b .args .i) _ (walk-step t (c .before .before .before)) (b .pre .1 .1) _ (b .pre .1 .2) (c .before .if4 .left) (omega (arith, b .pre .1 .1, c .if5 .taken))
+    walked-far _ _ (b .args .steps) (b .args .i) _ (walk-step t (c .before .before .before)) (b .pre .1 .1) _ (b .pre .1 .2) (c .before .if4 .left)
+    (omega (arith, b .pre .1 .1, c .if5 .taken))
 
 walk-returns-6 : (t : ℕ) → walk-lts.Need-returns-6 (
   used-reads.Asked,
@@ -172,7 +179,8 @@ walk-returns-6 : (t : ℕ) → walk-lts.Need-returns-6 (
 ) (walk-at t) walk.Post
 walk-returns-6 t c =
     let b = c .before .before .before .before .before .before .before .before .before .before in
-    walked-near _ _ (b .args .steps) (b .args .i) _ (walk-step t (c .before .before .before)) (b .pre .1 .1) _ (b .pre .1 .2) (c .before .if4 .left) (omega (arith, c .if5 .left))
+    walked-near _ _ (b .args .steps) (b .args .i) _ (walk-step t (c .before .before .before)) (b .pre .1 .1) _ (b .pre .1 .2) (c .before .if4 .left)
+    (omega (arith, c .if5 .left))
 
 walk-up-parent-requires : (t : ℕ) → walk-up-lts.Need-parent-requires (
   parent-reads.Asked,
@@ -291,7 +299,8 @@ walk-up-count : (t : ℕ) (c : walk-up-lts.After-up (
 walk-up-count t c =
     let w = c .before .before .before .before in
     let b = w .before .before .before .before .before in
-    omega (arith, b .pre .1 .4, walked-count _ _ (b .args .steps) (b .args .i) _ (walk-up-step t (w .before .before)) _ _ (w .walk .ensures) _ _ (c .up .given .1))
+    omega (arith, b .pre .1 .4, walked-count _ _ (b .args .steps) (b .args .i) _ (walk-up-step t (w .before .before)) _ _ (w .walk .ensures) _ _
+    (c .up .given .1))
 
 walk-up-add-t15 : (t : ℕ) → walk-up-lts.Need-add-t15 (
   parent-reads.Asked,
@@ -330,7 +339,8 @@ walk-up-returns-2 : (t : ℕ) → walk-up-lts.Need-returns-2 (
 walk-up-returns-2 t c =
     let w = c .before .before .before .before .before .before in
     let b = w .before .before .before .before .before in
-    walked-bare _ _ (b .args .steps) (b .args .i) _ (walk-up-step t (w .before .before)) _ _ (w .walk .ensures) _ _ (c .before .before .up .given .1) (sym (w .walk .kept .1 .1 .1 .1 .0) ∙ c .if1 .taken)
+    walked-bare _ _ (b .args .steps) (b .args .i) _ (walk-up-step t (w .before .before)) _ _ (w .walk .ensures) _ _ (c .before .before .up .given .1)
+    (sym (w .walk .kept .1 .1 .1 .1 .0) ∙ c .if1 .taken)
 
 walk-up-filled : (t : ℕ) (c : walk-up-lts.Else1 (
   parent-reads.Asked,
@@ -354,12 +364,14 @@ walk-up-room : (t : ℕ) (c : walk-up-lts.Else1 (
   copy-reads.Asked,
   copy-reads.Learnt,
 ) (walk-up-at t) walk-up.Post)
-    → (c .before .before .up .given .0 .1 .0 + 1 + longestName ≤ longestPath) × (longestPath ≤ length (c .before .before .before .before .before .before .walk .last .1 .1 .1 .1 .0))
+    → (c .before .before .up .given .0 .1 .0 + 1 + longestName ≤ longestPath)
+    × (longestPath ≤ length (c .before .before .before .before .before .before .walk .last .1 .1 .1 .1 .0))
 walk-up-room t c =
     let w = c .before .before .before .before .before .before in
     let b = w .before .before .before .before .before in
     let n = walk-up-filled t c in (
-      walked-place _ _ (b .args .steps) (b .args .i) _ (walk-up-step t (w .before .before)) _ _ (w .walk .ensures) _ _ (c .before .before .up .given .1) n (b .pre .1 .4),
+      walked-place _ _ (b .args .steps) (b .args .i) _ (walk-up-step t (w .before .before)) _ _ (w .walk .ensures) _ _ (c .before .before .up .given .1) n
+      (b .pre .1 .4),
       omega (arith, w .walk .kept .1 .1 .1 .1 .0, b .pre .1 .5 .room n),
     )
 
@@ -451,7 +463,8 @@ walk-up-add-t21 : (t : ℕ) → walk-up-lts.Need-add-t21 (
 ) (walk-up-at t) walk-up.Post
 walk-up-add-t21 t c =
     let b = c .before .before .before .before .before .before .before .before .before .before .before .before .before .before .before .before in
-    record { fits = omega (arith, walk-up-room t (c .before .before .before .before .before) .0, ap length (c .before .before .before .before .name .ensures), name-short (b .args .t .now) (b .args .i)) }
+    record { fits = omega (arith, walk-up-room t (c .before .before .before .before .before) .0, ap length (c .before .before .before .before .name .ensures),
+        name-short (b .args .t .now) (b .args .i)) }
 
 walk-up-same-length-3 : (t : ℕ) → walk-up-lts.Need-same-length-3 (
   parent-reads.Asked,
@@ -483,7 +496,8 @@ walk-up-returns-3 t c =
     let w = e .before .before .before .before .before .before in
     let b = w .before .before .before .before .before in
     let len = w .walk .kept .1 .1 .1 .1 .0 in
-    walked-up _ _ (b .args .steps) (b .args .i) _ (walk-up-step t (w .before .before)) _ _ (w .walk .ensures) _ _ (e .before .before .up .given .1) (walk-up-filled t e) len (omega (arith, walk-up-room t e, len)) _ (c .before .before .before .before .name .ensures) _ (c .before .before .copy .ensures)
+    walked-up _ _ (b .args .steps) (b .args .i) _ (walk-up-step t (w .before .before)) _ _ (w .walk .ensures) _ _ (e .before .before .up .given .1)
+    (walk-up-filled t e) len (omega (arith, walk-up-room t e, len)) _ (c .before .before .before .before .name .ensures) _ (c .before .before .copy .ensures)
 
 pub +walk+walk-up-spec : {M : Type 1} → statement M
 +walk+walk-up-spec = close μ-walk μ-walk-up (λ t. walk-lts.spec (

@@ -6,7 +6,10 @@ use borrow.Author.Needs.{needs}
 use Rattle.rules.specs.Size.{slots}
 use Rattle.soundness.specs.Parts.{every}
 use Rattle.soundness.specs.Walks.{chained}
-use Rattle.soundness.proofs.TableLaws.{every-further, every-stop, every-ended, lost-chained, root-chained, root-level, root-count, unused-chained, Levels, levels-set, levels-lent, none-levelled}
+use Rattle.soundness.proofs.TableLaws.{
+  every-further, every-stop, every-ended, lost-chained, root-chained, root-level, root-count, unused-chained, Levels, levels-set, levels-lent,
+  none-levelled,
+}
 use Rattle.soundness.proofs.chain.all_chained.Statement.{statement}
 use Rattle.soundness.proofs.chain.all_chained.Tie as tie
 
@@ -44,7 +47,8 @@ returns c =
     let l = c .before .before .before .before .before .before .before .before .before in
     let u = c .before .before .before .before .before .before .before in
     every-stop (chained _) slots (l .loop .i) (u .before .loop-test .taken)
-    (lost-chained _ _ _ _ _ (c .before .before .before .walk .ensures) (sym (u .used .ensures) ∙ c .before .before .before .before .before .before .if1 .taken) (c .enum-told .given .1))
+    (lost-chained _ _ _ _ _ (c .before .before .before .walk .ensures) (sym (u .used .ensures) ∙ c .before .before .before .before .before .before .if1 .taken)
+    (c .enum-told .given .1))
     ∙ sym (l .loop .inv .1)
 
 add-known : tie.Need-add-known Inv-loop μ-loop
@@ -71,7 +75,8 @@ loop-again c =
           (⊎-elim (λ w. root-chained t i _ _ _ (w .3 .ensures) _ _ (w .6 .given .1) (sym (c .before .used .ensures) ∙ w .0 .taken))
           (λ w. unused-chained t i (sym (c .before .used .ensures) ∙ w .0 .left))
           (c .if1 .came)),
-      ⊎-elim (λ w. rw (w .8) (levels-set t (l .loop .known) i _ h (root-level t i _ _ _ (w .3 .ensures) _ _ (w .6 .given .1)) (l .loop .inv .2))) (λ w. rw (w .1) (l .loop .inv .2)) (c .if1 .came),
+      ⊎-elim (λ w. rw (w .8) (levels-set t (l .loop .known) i _ h (root-level t i _ _ _ (w .3 .ensures) _ _ (w .6 .given .1)) (l .loop .inv .2)))
+      (λ w. rw (w .1) (l .loop .inv .2)) (c .if1 .came),
     )
 
 returns-2 : tie.Need-returns-2 Inv-loop μ-loop

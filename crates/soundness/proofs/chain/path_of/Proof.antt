@@ -40,7 +40,8 @@ returns-2 : tie.Need-returns-2
 returns-2 c =
     let w = c .before .before .before .before in
     let b = w .before .before .before .before .before .before in
-    absurd (never-lost (b .args .t .now) (b .args .into .now) _ (b .args .i) (w .before .before .before .if1 .left) (used-reaches (b .args .t .now) (b .pre .0) (b .args .i) (b .pre .1)) (b .pre .2) _ (w .walk-up .ensures) (c .enum-told .given .1))
+    absurd (never-lost (b .args .t .now) (b .args .into .now) _ (b .args .i) (w .before .before .before .if1 .left)
+    (used-reaches (b .args .t .now) (b .pre .0) (b .args .i) (b .pre .1)) (b .pre .2) _ (w .walk-up .ensures) (c .enum-told .given .1))
 
 same-length-3 : tie.Need-same-length-3
 same-length-3 c = search needs
@@ -49,7 +50,8 @@ returns-3 : tie.Need-returns-3
 returns-3 c =
     let w = c .before .before .before .before .before in
     let b = w .before .before .before .before .before .before in
-    path-put (b .args .t .now) (b .args .into .now) _ (b .args .i) (w .before .before .before .if1 .left) (used-reaches (b .args .t .now) (b .pre .0) (b .args .i) (b .pre .1)) (b .pre .2) _ (w .walk-up .ensures) _ _ (c .before .way .given .1)
+    path-put (b .args .t .now) (b .args .into .now) _ (b .args .i) (w .before .before .before .if1 .left)
+    (used-reaches (b .args .t .now) (b .pre .0) (b .args .i) (b .pre .1)) (b .pre .2) _ (w .walk-up .ensures) _ _ (c .before .way .given .1)
 
 pub path-of-spec : {M : Type 1} → statement M
 path-of-spec =

@@ -27,7 +27,8 @@ returns c =
     let b = c .before .before .before .before in
     let t = b .args .t .now in
     c .lone-entry .ensures
-    ∙ sym (entries-by t (bytes-known t (c .before .before .before .shared-slice-known .given)) (b .pre .0 .whole) (b .args .i) (b .pre .0 .below) (b .pre .0 .used) (b .pre .1) _ _ 1 refl refl (sym (c .before .if1 .taken) ∙ c .before .before .entry-count .ensures))
+    ∙ sym (entries-by t (bytes-known t (c .before .before .before .shared-slice-known .given)) (b .pre .0 .whole) (b .args .i) (b .pre .0 .below)
+    (b .pre .0 .used) (b .pre .1) _ _ 1 refl refl (sym (c .before .if1 .taken) ∙ c .before .before .entry-count .ensures))
 
 two-entries-requires : tie.Need-two-entries-requires
 two-entries-requires c κs = search needs
@@ -37,7 +38,8 @@ returns-2 c =
     let b = c .before .before .before .before .before in
     let t = b .args .t .now in
     c .two-entries .ensures
-    ∙ sym (entries-by t (bytes-known t (c .before .before .before .before .shared-slice-known .given)) (b .pre .0 .whole) (b .args .i) (b .pre .0 .below) (b .pre .0 .used) (b .pre .1) _ _ 2 refl refl (sym (c .before .if2 .taken) ∙ c .before .before .before .entry-count .ensures))
+    ∙ sym (entries-by t (bytes-known t (c .before .before .before .before .shared-slice-known .given)) (b .pre .0 .whole) (b .args .i) (b .pre .0 .below)
+    (b .pre .0 .used) (b .pre .1) _ _ 2 refl refl (sym (c .before .if2 .taken) ∙ c .before .before .before .entry-count .ensures))
 
 shared-slice-read-first : tie.Need-shared-slice-read-first
 shared-slice-read-first c = search needs
@@ -52,14 +54,16 @@ eight-requires : tie.Need-eight-requires
 eight-requires c κs = search needs
 
 low-domains-requires : tie.Need-low-domains-requires
-low-domains-requires c κs = omega (arith, c .before .shared-slice-known2 .given (c .before .before .before .before .before .before .args .i * slotSize + fieldsSize))
+low-domains-requires c κs = omega (arith, c .before .shared-slice-known2 .given
+    (c .before .before .before .before .before .before .args .i * slotSize + fieldsSize))
 
 returns-3 : tie.Need-returns-3
 returns-3 c =
     let b = c .before .before .before .before .before .before .before .before in
     let t = b .args .t .now in
     stop _ (sym (c .before .low-domains .ensures) ∙ not-true _ (c .if3 .taken))
-    ∙ sym (entries-by t (bytes-known t (c .before .before .before .shared-slice-known2 .given)) (b .pre .0 .whole) (b .args .i) (b .pre .0 .below) (b .pre .0 .used) (b .pre .1) _ _ _ refl (c .before .before .eight .ensures) refl)
+    ∙ sym (entries-by t (bytes-known t (c .before .before .before .shared-slice-known2 .given)) (b .pre .0 .whole) (b .args .i) (b .pre .0 .below)
+    (b .pre .0 .used) (b .pre .1) _ _ _ refl (c .before .before .eight .ensures) refl)
 
 zero-past-requires : tie.Need-zero-past-requires
 zero-past-requires c κs =
@@ -72,7 +76,9 @@ returns-4 c =
     let t = b .args .t .now in
     c .zero-past .ensures
     ∙ pass (sym (c .before .before .low-domains .ensures) ∙ not-false _ (c .before .if3 .left)) refl
-    ∙ sym (entries-by t (bytes-known t (c .before .before .before .before .shared-slice-known2 .given)) (b .pre .0 .whole) (b .args .i) (b .pre .0 .below) (b .pre .0 .used) (b .pre .1) _ _ _ refl (c .before .before .before .eight .ensures) (c .before .before .before .before .before .before .before .entry-count .ensures))
+    ∙ sym (entries-by t (bytes-known t (c .before .before .before .before .shared-slice-known2 .given)) (b .pre .0 .whole) (b .args .i) (b .pre .0 .below)
+    (b .pre .0 .used) (b .pre .1) _ _ _ refl (c .before .before .before .eight .ensures)
+    (c .before .before .before .before .before .before .before .entry-count .ensures))
 
 pub kept-entries-spec : {M : Type 1} → statement M
 kept-entries-spec =

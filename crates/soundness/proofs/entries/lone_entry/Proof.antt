@@ -40,10 +40,13 @@ mul-if1-2 : tie.Need-mul-if1-2
 mul-if1-2 c = omega (arith, c .shared-slice-known4 .given (c .before .before .before .before .args .at + 1))
 
 add-if1 : tie.Need-add-if1
-add-if1 c = omega (arith, c .shared-slice-known4 .given (c .before .before .before .before .args .at), c .shared-slice-known4 .given (c .before .before .before .before .args .at + 1))
+add-if1 c = omega (arith, c .shared-slice-known4 .given (c .before .before .before .before .args .at),
+    c .shared-slice-known4 .given (c .before .before .before .before .args .at + 1))
 
 add-if1-2 : tie.Need-add-if1-2
-add-if1-2 c = omega (arith, c .shared-slice-known4 .given (c .before .before .before .before .args .at), c .shared-slice-known4 .given (c .before .before .before .before .args .at + 1), c .shared-slice-known4 .given (c .before .before .before .before .args .at + 2))
+add-if1-2 c = omega (arith, c .shared-slice-known4 .given (c .before .before .before .before .args .at),
+    c .shared-slice-known4 .given (c .before .before .before .before .args .at + 1),
+    c .shared-slice-known4 .given (c .before .before .before .before .args .at + 2))
 
 returns : tie.Need-returns
 returns c =
@@ -68,7 +71,8 @@ returns-3 c =
     let b = c .before .before .before .before .before .before .before .before in
     let t = b .args .t .now in
     stop _ (ne-eqb _ 0 (c .if3 .taken))
-    ∙ entry-rest t (bytes-known t (c .before .before .before .before .shared-slice-known4 .given)) (b .args .at) (b .pre) _ (c .before .four .ensures .0) (c .before .before .before .if1 .left) (c .before .before .if2 .left)
+    ∙ entry-rest t (bytes-known t (c .before .before .before .before .shared-slice-known4 .given)) (b .args .at) (b .pre) _ (c .before .four .ensures .0)
+    (c .before .before .before .if1 .left) (c .before .before .if2 .left)
 
 add-result : tie.Need-add-result
 add-result c = search needs
@@ -92,7 +96,8 @@ cast-result-2 : tie.Need-cast-result-2
 cast-result-2 c = omega (arith, c .shared-slice-known6 .given (c .before .before .before .before .before .before .before .before .before .before .args .at + 8))
 
 add-result-3 : tie.Need-add-result-3
-add-result-3 c = omega (arith, c .shared-slice-known6 .given (c .before .before .before .before .before .before .before .before .before .before .args .at + 7), c .shared-slice-known6 .given (c .before .before .before .before .before .before .before .before .before .before .args .at + 8))
+add-result-3 c = omega (arith, c .shared-slice-known6 .given (c .before .before .before .before .before .before .before .before .before .before .args .at + 7),
+    c .shared-slice-known6 .given (c .before .before .before .before .before .before .before .before .before .before .args .at + 8))
 
 returns-4 : tie.Need-returns-4
 returns-4 c =
@@ -100,7 +105,8 @@ returns-4 c =
     let t = b .args .t .now in
     let f = c .before .before .before in
     pass (eq-eqb (f .four .result) 0 (c .before .before .if3 .left)) refl
-    ∙ entry-rest t (bytes-known t (c .shared-slice-known6 .given)) (b .args .at) (b .pre) _ (f .four .ensures .0) (f .before .before .if1 .left) (f .before .if2 .left)
+    ∙ entry-rest t (bytes-known t (c .shared-slice-known6 .given)) (b .args .at) (b .pre) _ (f .four .ensures .0) (f .before .before .if1 .left)
+    (f .before .if2 .left)
 
 pub lone-entry-spec : {M : Type 1} → statement M
 lone-entry-spec =

@@ -6,7 +6,9 @@ use mathlib.Core.Bool.{true}
 use mathlib.Core.Logic.{⊎-elim}
 use Prim.Native.Nat.{_≤_, _-_}
 use native.Mathlib.Omega.{arith}
-use Rattle.soundness.proofs.PairLaws.{row-whole, Taken, taken-next, met-key, Keyed, Apart, Row, keyed-next, apart-next, row-differ, row-names, row-new, all-apart, pair-found}
+use Rattle.soundness.proofs.PairLaws.{
+  row-whole, Taken, taken-next, met-key, Keyed, Apart, Row, keyed-next, apart-next, row-differ, row-names, row-new, all-apart, pair-found,
+}
 use Rattle.soundness.proofs.pairs.all_distinct.Statement.{statement}
 use Rattle.soundness.proofs.pairs.all_distinct.Tie as tie
 
@@ -23,7 +25,8 @@ abbrev μ-pairs : tie.MeasureT-pairs
 μ-pairs t keys₀ taken₀ apart₀ i₀ keys taken apart i = slots - i
 
 pairs-holds : tie.Need-pairs-holds Inv-loop μ-loop Inv-pairs μ-pairs
-pairs-holds c = (omega arith, refl, record { long = refl; each = λ j l. absurd (omega arith) }, λ a b n m l h p q. absurd (omega arith), record { long = refl; each = λ j l. absurd (omega arith) })
+pairs-holds c = (omega arith, refl, record { long = refl; each = λ j l. absurd (omega arith) }, λ a b n m l h p q. absurd (omega arith),
+    record { long = refl; each = λ j l. absurd (omega arith) })
 
 key-of-requires : tie.Need-key-of-requires Inv-loop μ-loop Inv-pairs μ-pairs
 key-of-requires c κs = (omega arith, c .before .before .before .pre)
@@ -74,7 +77,8 @@ loop-again c =
       l .loop .inv .1,
       ⊎-elim
           (λ w. row-names t (p .pairs .i) (l .loop .j) (sym (w .1 .ensures) ∙ w .2 .left) (l .loop .inv .2))
-          (λ w. row-differ t (p .pairs .keys) (p .pairs .i) (l .loop .j) (k .key-of .result) (p .pairs .inv .2) (k .key-of .ensures) (c .before .loop-test .taken) (w .left) (l .loop .inv .2))
+          (λ w. row-differ t (p .pairs .keys) (p .pairs .i) (l .loop .j) (k .key-of .result) (p .pairs .inv .2) (k .key-of .ensures)
+          (c .before .loop-test .taken) (w .left) (l .loop .inv .2))
           (c .if2 .came),
     )
 
@@ -105,9 +109,11 @@ pairs-again c =
       keyed-next t (p .pairs .keys) (p .pairs .i) (k .key-of .result) (k .before .pairs-test .taken) (k .key-of .ensures) (p .pairs .inv .2),
       apart-next t (p .pairs .i) (p .pairs .inv .3) (⊎-elim
           (λ w. row-whole t (p .pairs .i) (w .1 .j) (w .1 .inv .0) (w .2 .left) (w .1 .inv .2))
-          (λ w. row-new t (p .pairs .taken) (p .pairs .keys) (p .pairs .i) (k .key-of .result) (a .place-of .result) (k .before .pairs-test .taken) (p .pairs .inv .2) (p .pairs .inv .4) (k .key-of .ensures) (a .place-of .ensures .0) (sym (m .may-clash .ensures) ∙ w .0 .left))
+          (λ w. row-new t (p .pairs .taken) (p .pairs .keys) (p .pairs .i) (k .key-of .result) (a .place-of .result) (k .before .pairs-test .taken)
+          (p .pairs .inv .2) (p .pairs .inv .4) (k .key-of .ensures) (a .place-of .ensures .0) (sym (m .may-clash .ensures) ∙ w .0 .left))
           (c .if1 .came)),
-      taken-next t (p .pairs .taken) (p .pairs .i) (k .key-of .result) (a .place-of .result) (k .key-of .ensures) (a .place-of .ensures .0) (a .place-of .ensures .1) (p .pairs .inv .4),
+      taken-next t (p .pairs .taken) (p .pairs .i) (k .key-of .result) (a .place-of .result) (k .key-of .ensures) (a .place-of .ensures .0)
+      (a .place-of .ensures .1) (p .pairs .inv .4),
     )
 
 returns : tie.Need-returns Inv-loop μ-loop Inv-pairs μ-pairs

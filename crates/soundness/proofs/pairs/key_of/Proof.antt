@@ -15,7 +15,8 @@ returns : tie.Need-returns
 returns c = key-none _ (sym (c .before .used .ensures) ∙ not-true _ (c .if1 .taken))
 
 parent-requires : tie.Need-parent-requires
-parent-requires c κs = (c .before .before .before .pre .0, c .before .before .before .pre .1 .whole, sym (c .before .used .ensures) ∙ not-false _ (c .if1 .left))
+parent-requires c κs = (c .before .before .before .pre .0, c .before .before .before .pre .1 .whole, sym (c .before .used .ensures)
+    ∙ not-false _ (c .if1 .left))
 
 mul-result : tie.Need-mul-result
 mul-result c = search needs
@@ -43,7 +44,8 @@ cast-result c = search needs
 returns-2 : tie.Need-returns-2
 returns-2 c =
     let b = c .before .before .before .before .before .before in
-    key-some (b .args .t .now) (b .args .i) _ _ _ (sym (c .before .before .before .before .used .ensures) ∙ not-false _ (c .before .before .before .if1 .left)) (c .before .before .parent .ensures .1) (c .before .name .ensures) (c .digest .ensures .0)
+    key-some (b .args .t .now) (b .args .i) _ _ _ (sym (c .before .before .before .before .used .ensures) ∙ not-false _ (c .before .before .before .if1 .left))
+    (c .before .before .parent .ensures .1) (c .before .name .ensures) (c .digest .ensures .0)
 
 pub key-of-spec : {M : Type 1} → statement M
 key-of-spec =

@@ -22,12 +22,14 @@ kept-name-requires c κs =
 returns : tie.Need-returns
 returns c =
     let p = c .before .before .before .before .pre in
-    other-kept _ _ (p .0 .below) (p .0 .used) (sizes-of _ _ (p .1) .name) (c .before .before .name-length .ensures) (c .before .if1 .taken) (c .kept-name .ensures)
+    other-kept _ _ (p .0 .below) (p .0 .used) (sizes-of _ _ (p .1) .name) (c .before .before .name-length .ensures) (c .before .if1 .taken)
+    (c .kept-name .ensures)
 
 returns-2 : tie.Need-returns-2
 returns-2 c =
     let p = c .before .before .before .before .pre in
-    root-named _ _ (p .0 .below) (p .0 .used) (sizes-of _ _ (p .1) .name) (c .before .before .name-length .ensures) (c .before .if1 .left) (c .if2 .taken) (p .0 .whole)
+    root-named _ _ (p .0 .below) (p .0 .used) (sizes-of _ _ (p .1) .name) (c .before .before .name-length .ensures) (c .before .if1 .left) (c .if2 .taken)
+    (p .0 .whole)
 
 add-all-zero : tie.Need-add-all-zero
 add-all-zero c = search needs
@@ -47,7 +49,8 @@ all-zero-requires c κs = search needs
 returns-3 : tie.Need-returns-3
 returns-3 c =
     let p = c .before .before .before .before .before .before .pre in
-    root-kept _ _ (p .0 .below) (p .0 .used) (sizes-of _ _ (p .1) .name) (c .before .before .before .before .name-length .ensures) (c .before .before .before .if1 .left) (c .before .before .if2 .left) (c .all-zero .ensures)
+    root-kept _ _ (p .0 .below) (p .0 .used) (sizes-of _ _ (p .1) .name) (c .before .before .before .before .name-length .ensures)
+    (c .before .before .before .if1 .left) (c .before .before .if2 .left) (c .all-zero .ensures)
 
 pub good-name-spec : {M : Type 1} → statement M
 good-name-spec =

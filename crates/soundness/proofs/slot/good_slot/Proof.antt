@@ -9,7 +9,8 @@ used-requires : tie.Need-used-requires
 used-requires c κs = search needs
 
 good-used-requires : tie.Need-good-used-requires
-good-used-requires c κs = record { below = c .before .before .before .pre .0; whole = c .before .before .before .pre .1; used = sym (c .before .used .ensures) ∙ c .if1 .taken }
+good-used-requires c κs = record { below = c .before .before .before .pre .0; whole = c .before .before .before .pre .1; used = sym (c .before .used .ensures)
+    ∙ c .if1 .taken }
 
 returns : tie.Need-returns
 returns c = search needs
@@ -18,7 +19,8 @@ returns-2 : tie.Need-returns-2
 returns-2 c =
     let k = c .before .before .before in
     let b = k .before in
-    unused-root (b .args .t .now) (bytes-known (b .args .t .now) (k .shared-slice-known .given)) (b .pre .1) (b .args .i) (b .pre .0) (sym (c .before .before .used .ensures) ∙ c .before .if1 .left) (c .if2 .taken)
+    unused-root (b .args .t .now) (bytes-known (b .args .t .now) (k .shared-slice-known .given)) (b .pre .1) (b .args .i) (b .pre .0)
+    (sym (c .before .before .used .ensures) ∙ c .before .if1 .left) (c .if2 .taken)
 
 mul-from : tie.Need-mul-from
 mul-from c = search needs
@@ -42,7 +44,8 @@ returns-3 : tie.Need-returns-3
 returns-3 c =
     let k = c .before .before .before .before .before in
     let b = k .before in
-    unused-other (b .args .t .now) (bytes-known (b .args .t .now) (k .shared-slice-known .given)) (b .pre .1) (b .args .i) (b .pre .0) (sym (c .before .before .before .before .used .ensures) ∙ c .before .before .before .if1 .left) (c .before .before .if2 .left) (c .all-zero .ensures)
+    unused-other (b .args .t .now) (bytes-known (b .args .t .now) (k .shared-slice-known .given)) (b .pre .1) (b .args .i) (b .pre .0)
+    (sym (c .before .before .before .before .used .ensures) ∙ c .before .before .before .if1 .left) (c .before .before .if2 .left) (c .all-zero .ensures)
 
 pub good-slot-spec : {M : Type 1} → statement M
 good-slot-spec =

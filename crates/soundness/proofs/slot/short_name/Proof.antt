@@ -56,7 +56,8 @@ returns-3 : tie.Need-returns-3
 returns-3 c =
     let z = c .before .before .before .before in
     let b = z .before .before .before .before .before in
-    small-name (b .args .t .now) (b .args .at) (b .args .n) (b .pre .0) (sym (z .before .all-zero .ensures) ∙ not-false _ (z .if2 .left)) (z .before .before .before .if1 .left) (b .pre .1) (sym (c .before .small-letters .ensures) ∙ c .if3 .taken)
+    small-name (b .args .t .now) (b .args .at) (b .args .n) (b .pre .0) (sym (z .before .all-zero .ensures) ∙ not-false _ (z .if2 .left))
+    (z .before .before .before .if1 .left) (b .pre .1) (sym (c .before .small-letters .ensures) ∙ c .if3 .taken)
 
 add-all-zero-3 : tie.Need-add-all-zero-3
 add-all-zero-3 c = search needs
@@ -83,7 +84,8 @@ returns-4 : tie.Need-returns-4
 returns-4 c =
     let z = c .before .before .before .before .before .before .before in
     let b = z .before .before .before .before .before in
-    first-fault (b .args .t .now) (b .args .at) (b .args .n) (b .pre .0) (sym (z .before .all-zero .ensures) ∙ not-false _ (z .if2 .left)) (sym (c .before .all-zero2 .ensures) ∙ not-true _ (c .if4 .taken))
+    first-fault (b .args .t .now) (b .args .at) (b .args .n) (b .pre .0) (sym (z .before .all-zero .ensures) ∙ not-false _ (z .if2 .left))
+    (sym (c .before .all-zero2 .ensures) ∙ not-true _ (c .if4 .taken))
 
 add-is-name : tie.Need-add-is-name
 add-is-name c = search needs
@@ -105,7 +107,8 @@ returns-5 c =
     let f = c .before .before in
     let z = f .before .before .before .before .before .before .before in
     let b = z .before .before .before .before .before in
-    short-name (b .args .t .now) (b .args .at) (b .args .n) (b .pre .0) (sym (z .before .all-zero .ensures) ∙ not-false _ (z .if2 .left)) (sym (f .before .all-zero2 .ensures) ∙ not-false _ (f .if4 .left)) (c .is-name .ensures)
+    short-name (b .args .t .now) (b .args .at) (b .args .n) (b .pre .0) (sym (z .before .all-zero .ensures) ∙ not-false _ (z .if2 .left))
+    (sym (f .before .all-zero2 .ensures) ∙ not-false _ (f .if4 .left)) (c .is-name .ensures)
 
 pub short-name-spec : {M : Type 1} → statement M
 short-name-spec =

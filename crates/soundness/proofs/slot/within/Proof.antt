@@ -22,7 +22,8 @@ value-length-requires c κs = search needs
 
 returns-2 : tie.Need-returns-2
 unfolding sized
-returns-2 c = pass (under longestName (c .before .before .before .name-length .ensures) (c .before .before .if1 .left)) (stop _ (over longestValue (c .before .value-length .ensures) (c .if2 .taken)))
+returns-2 c = pass (under longestName (c .before .before .before .name-length .ensures) (c .before .before .if1 .left))
+    (stop _ (over longestValue (c .before .value-length .ensures) (c .if2 .taken)))
 
 entry-count-requires : tie.Need-entry-count-requires
 entry-count-requires c κs = search needs
@@ -40,7 +41,8 @@ returns-4 c =
     let b = c .before .before in
     pass (under longestName (b .before .before .before .name-length .ensures) (b .before .before .if1 .left))
     (pass (under longestValue (b .before .value-length .ensures) (b .if2 .left))
-    (pass (ap (leb 1) (sym (c .before .entry-count .ensures)) ∙ le-leb 1 (c .before .entry-count .result) (omega arith)) (ap (λ (n : ℕ). leb n 4) (c .before .entry-count .ensures))))
+    (pass (ap (leb 1) (sym (c .before .entry-count .ensures)) ∙ le-leb 1 (c .before .entry-count .result) (omega arith))
+    (ap (λ (n : ℕ). leb n 4) (c .before .entry-count .ensures))))
 
 pub within-spec : {M : Type 1} → statement M
 within-spec =

@@ -22,7 +22,8 @@ good-slot-requires : tie.Need-good-slot-requires Inv-loop μ-loop
 good-slot-requires c κs = (omega arith, c .before .before .before .pre)
 
 returns : tie.Need-returns Inv-loop μ-loop
-returns c = every-stop (goodSlot _) slots (c .before .before .before .loop .i) (c .before .before .loop-test .taken) (sym (c .before .good-slot .ensures) ∙ not-true _ (c .if1 .taken)) ∙ sym (c .before .before .before .loop .inv .1)
+returns c = every-stop (goodSlot _) slots (c .before .before .before .loop .i) (c .before .before .loop-test .taken)
+    (sym (c .before .good-slot .ensures) ∙ not-true _ (c .if1 .taken)) ∙ sym (c .before .before .before .loop .inv .1)
 
 add-i : tie.Need-add-i Inv-loop μ-loop
 add-i c = omega arith
@@ -31,7 +32,8 @@ loop-less : tie.Need-loop-less Inv-loop μ-loop
 loop-less c = omega arith
 
 loop-again : tie.Need-loop-again Inv-loop μ-loop
-loop-again c = (omega arith, c .before .before .before .loop .inv .1 ∙ every-further (goodSlot _) slots (c .before .before .before .loop .i) (c .before .before .loop-test .taken) (sym (c .before .good-slot .ensures) ∙ not-false _ (c .if1 .left)))
+loop-again c = (omega arith, c .before .before .before .loop .inv .1 ∙ every-further (goodSlot _) slots (c .before .before .before .loop .i)
+    (c .before .before .loop-test .taken) (sym (c .before .good-slot .ensures) ∙ not-false _ (c .if1 .left)))
 
 returns-2 : tie.Need-returns-2 Inv-loop μ-loop
 returns-2 c = every-ended (goodSlot _) slots (c .before .loop .i) (c .loop-test .left) ∙ sym (c .before .loop .inv .1)

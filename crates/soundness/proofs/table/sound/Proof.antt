@@ -17,22 +17,37 @@ returns-2 : tie.Need-returns-2
 returns-2 c = stop _ (sym (c .before .all-good .ensures) ∙ not-true _ (c .if2 .taken)) ∙ sym (sound-parts _ (c .before .before .if1 .left))
 
 all-chained-requires : tie.Need-all-chained-requires
-all-chained-requires c κs = good-short _ (c .before .before .if1 .left) (bytes-known (c .before .before .before .before .args .t .now) (c .before .before .before .shared-slice-known .given)) (sym (c .before .all-good .ensures) ∙ not-false _ (c .if2 .left))
+all-chained-requires c κs = good-short _ (c .before .before .if1 .left)
+    (bytes-known (c .before .before .before .before .args .t .now) (c .before .before .before .shared-slice-known .given))
+    (sym (c .before .all-good .ensures) ∙ not-false _ (c .if2 .left))
 
 returns-3 : tie.Need-returns-3
-returns-3 c = pass (sym (c .before .before .before .all-good .ensures) ∙ not-false _ (c .before .before .if2 .left)) (stop _ (sym (c .before .all-chained .ensures) ∙ not-true _ (c .if3 .taken))) ∙ sym (sound-parts _ (c .before .before .before .before .if1 .left))
+returns-3 c = pass (sym (c .before .before .before .all-good .ensures) ∙ not-false _ (c .before .before .if2 .left))
+    (stop _ (sym (c .before .all-chained .ensures) ∙ not-true _ (c .if3 .taken))) ∙ sym (sound-parts _ (c .before .before .before .before .if1 .left))
 
 good-root-requires : tie.Need-good-root-requires
-good-root-requires c κs = root-used _ (c .before .before .before .before .if1 .left) (bytes-known (c .before .before .before .before .before .before .args .t .now) (c .before .before .before .before .before .shared-slice-known .given)) (sym (c .before .before .before .all-good .ensures) ∙ not-false _ (c .before .before .if2 .left))
+good-root-requires c κs = root-used _ (c .before .before .before .before .if1 .left)
+    (bytes-known (c .before .before .before .before .before .before .args .t .now) (c .before .before .before .before .before .shared-slice-known .given))
+    (sym (c .before .before .before .all-good .ensures) ∙ not-false _ (c .before .before .if2 .left))
 
 returns-4 : tie.Need-returns-4
-returns-4 c = pass (sym (c .before .before .before .before .before .all-good .ensures) ∙ not-false _ (c .before .before .before .before .if2 .left)) (pass (sym (c .before .before .before .all-chained .ensures) ∙ not-false _ (c .before .before .if3 .left)) (stop _ (sym (c .before .good-root .ensures) ∙ not-true _ (c .if4 .taken)))) ∙ sym (sound-parts _ (c .before .before .before .before .before .before .if1 .left))
+returns-4 c = pass (sym (c .before .before .before .before .before .all-good .ensures) ∙ not-false _ (c .before .before .before .before .if2 .left))
+    (pass (sym (c .before .before .before .all-chained .ensures) ∙ not-false _ (c .before .before .if3 .left))
+    (stop _ (sym (c .before .good-root .ensures) ∙ not-true _ (c .if4 .taken))))
+    ∙ sym (sound-parts _ (c .before .before .before .before .before .before .if1 .left))
 
 all-distinct-requires : tie.Need-all-distinct-requires
-all-distinct-requires c κs = good-short _ (c .before .before .before .before .before .before .if1 .left) (bytes-known (c .before .before .before .before .before .before .before .before .args .t .now) (c .before .before .before .before .before .before .before .shared-slice-known .given)) (sym (c .before .before .before .before .before .all-good .ensures) ∙ not-false _ (c .before .before .before .before .if2 .left))
+all-distinct-requires c κs = good-short _ (c .before .before .before .before .before .before .if1 .left)
+    (bytes-known (c .before .before .before .before .before .before .before .before .args .t .now)
+    (c .before .before .before .before .before .before .before .shared-slice-known .given))
+    (sym (c .before .before .before .before .before .all-good .ensures) ∙ not-false _ (c .before .before .before .before .if2 .left))
 
 returns-5 : tie.Need-returns-5
-returns-5 c = pass (sym (c .before .before .before .before .before .before .all-good .ensures) ∙ not-false _ (c .before .before .before .before .before .if2 .left)) (pass (sym (c .before .before .before .before .all-chained .ensures) ∙ not-false _ (c .before .before .before .if3 .left)) (pass (sym (c .before .before .good-root .ensures) ∙ not-false _ (c .before .if4 .left)) (c .all-distinct .ensures))) ∙ sym (sound-parts _ (c .before .before .before .before .before .before .before .if1 .left))
+returns-5 c = pass (sym (c .before .before .before .before .before .before .all-good .ensures)
+    ∙ not-false _ (c .before .before .before .before .before .if2 .left))
+    (pass (sym (c .before .before .before .before .all-chained .ensures) ∙ not-false _ (c .before .before .before .if3 .left))
+    (pass (sym (c .before .before .good-root .ensures) ∙ not-false _ (c .before .if4 .left)) (c .all-distinct .ensures)))
+    ∙ sym (sound-parts _ (c .before .before .before .before .before .before .before .if1 .left))
 
 pub sound-spec : {M : Type 1} → statement M
 sound-spec =
