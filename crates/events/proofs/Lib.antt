@@ -5,3 +5,7 @@ pub mod RecordLaws
 pub mod Fronts
 pub mod SlotPaths
 pub mod ChangeLaws
+pub mod WatchLaws
+pub mod ReportLaws
+pub mod PutLaws
+pub mod DueLaws

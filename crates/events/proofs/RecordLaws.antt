@@ -1,25 +1,28 @@
--- Event records as bytes, one behind the other.
+-- Event records as bytes: one record as it is put and as it is read, and records one behind the other.
 use mathlib.Core.Path.{_≡_, refl, sym, ap, ap₂, _∙_}
 use mathlib.Core.Bool.{Bool}
 use mathlib.Core.List.{List, [], _∷_, _++_, flatMap, append-nil}
-use Prim.Native.Nat.{ℕ, _+_, _*_, _-_, _/_, _%_, _≤_}
+use Prim.Native.Nat.{ℕ, _+_, _*_, _-_, _/_, _%_, _^_, _≤_, _<_}
 use native.Mathlib.Nat.{add-zero}
 use native.Mathlib.Omega.{arith}
-use lib.ListN.{length, set, replicate, length-append}
-use Rattle.rules.specs.Size.{longestPath, recordPathAt, recordSize}
-use Rattle.rules.specs.Octets.{Octets, _bits_, pack, packFrom, bigEndian, padded, paste}
+use lib.ListN.{length, set, replicate, take, drop, length-append}
+use lib.Dec.{eqb, lit≤}
+use Rattle.rules.specs.Size.{longestPath, maskSize, recordPathAt, recordSize, mostRecords, eventsSize}
+use Rattle.rules.specs.Octets.{Octets, _bits_, pack, packFrom, bigEndian, padded, paste, field, bitsAt}
 use Rattle.rules.specs.Event.{Record, kept}
 use Rattle.rules.specs.Layout.{maskBits, recordBytes}
+use Rattle.rules.specs.Message.{recordAt, maskBit, pathLength, pathIn}
+use Rattle.rules.proofs.Fields.{field-part, field-two}
 use Rattle.rules.proofs.Paste.{paste-four, paste-append, paste-nil, length-paste}
 use Rattle.rules.proofs.Joined.{paste-behind}
 use Rattle.rules.proofs.Slots.{length-padded}
 use Rattle.rules.proofs.Tables.{flat-append}
+use Rattle.octets.specs.Two.{Two}
+use Rattle.domains.proofs.Rows.{text-part}
 use Rattle.events.specs.Records.{recordOf, Recorded, Room, Mask}
 use Rattle.events.proofs.MaskLaws.{pack-append, empty-mask, some-mask}
 
--- ── lists of lists ──
-
--- ── one record ──
+-- ── one record, as it is put ──
 
 -- the four bytes of its fields: mask, path length
 abbrev pub fourOf : ℕ → ℕ → Octets
@@ -44,6 +47,31 @@ module _ (m : List Bool) (p : Octets) (short : length p ≤ longestPath) where
 
   pub record-wide : (mask : ℕ) → Mask m mask → length (recordBytes (recordOf m p)) ≡ recordSize
   record-wide mask f = ap length (record-parts mask f) ∙ length-append (fourOf mask (length p)) (padded longestPath p) ∙ ap (λ (n : ℕ). recordPathAt + n) (length-padded longestPath p short)
+
+-- ── one record, as it is read from the bytes of all ──
+
+module _ (s : Octets) (i : ℕ) (below : i < mostRecords) (whole : length s ≡ eventsSize) where
+  two-read : (at r : ℕ) → at + 2 ≤ recordPathAt → Two s (i * recordSize + at) r → field (recordAt s i) at 2 ≡ r
+  unfolding recordAt
+  two-read at r h t =
+      let inside : i * recordSize + at + 1 < length s = omega (arith, whole, below) in
+      field-part s (i * recordSize) recordSize at 2 (omega arith) ∙ field-two s (i * recordSize + at) inside ∙ sym (t .value)
+
+  pub mask-read : (k r : ℕ) → Two s (i * recordSize) r → eqb (r / 2 ^ (15 - k) % 2) 1 ≡ maskBit (recordAt s i) k
+  unfolding maskBit bitsAt
+  mask-read k r t = ap (λ (n : ℕ). eqb (n / 2 ^ (15 - k) % 2) 1) (sym (two-read 0 r (omega arith) (rw add-zero t)))
+
+  pub length-read : (r : ℕ) → Two s (i * recordSize + maskSize) r → r / 128 ≡ pathLength (recordAt s i)
+  unfolding pathLength bitsAt
+  length-read r t =
+      let high = t .bytes (i * recordSize + maskSize) in
+      let low = t .bytes (i * recordSize + maskSize + 1) in
+      rw (two-read maskSize r (omega arith) t) (omega (arith, t .value, high, low))
+
+pub path-read : (s : Octets) (i n : ℕ) → n ≡ pathLength (recordAt s i) → n ≤ longestPath
+    → take (i * recordSize + recordPathAt + n - (i * recordSize + recordPathAt)) (drop (i * recordSize + recordPathAt) s) ≡ pathIn (recordAt s i)
+unfolding recordAt pathIn
+path-read s i n e h = text-part s (i * recordSize) recordSize recordPathAt longestPath n h (lit≤ tt) ∙ rw e
 
 -- ── records behind others ──
 

@@ -16,7 +16,7 @@ ghost use Rattle.events.specs.Records.{Recorded, Room, Mask};
 ghost use Rattle.events.specs.Stores.{Store, Stores, removalOf};
 use crate::masks::in_store;
 use crate::masks::of_change_since;
-use crate::records::keep;
+use crate::record::keep;
 use octets::sizes::LONGEST_PATH;
 use soundness::chain::path_of;
 use transactions::places::path;
