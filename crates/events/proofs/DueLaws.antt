@@ -8,7 +8,7 @@ use native.Mathlib.Omega.{arith}
 use lib.Dec.{leb}
 use lib.ListN.{length, getD}
 use borrow.Author.Tests.{le-leb, lt-leb, le-ltb, lt-ltb, leb-true}
-use Rattle.rules.specs.Size.{mostWatches, mostRecords, longestPath}
+use Rattle.rules.specs.Size.{mostWatches, mostRecords, longestPath, recordPathAt}
 use Rattle.rules.specs.Octets.{Octets}
 use Rattle.rules.specs.Event.{Watch}
 use Rattle.rules.specs.Layout.{watchesOf}
@@ -74,7 +74,7 @@ module _ (s e : Octets) (i k : ℕ) where
 
     pub path-short : length (pathIn r) ≤ longestPath
     unfolding pathIn
-    path-short = omega (arith, text-few r 4 longestPath (pathLength r), due-short)
+    path-short = omega (arith, text-few r recordPathAt longestPath (pathLength r), due-short)
 
 -- ── the message ──
 
@@ -102,14 +102,19 @@ module _ (s e : Octets) (count i k : ℕ) where
     past-watches m = rw (lt-ltb i count h, lt-ltb i mostRecords l, le-ltb k mostWatches m)
 
     module _ (m : k < mostWatches) where
-      asked-is : asked ≡ cond (due s e i k) (some (eventMessage (reported (watchOf s k) (pathIn (recordAt e i))) (watchOf s k .token))) none
+      -- what the watch is told of the record
+      abbrev message : Octets
+      message = eventMessage (reported (watchOf s k) (pathIn (recordAt e i))) (watchOf s k .token)
+
+      asked-is : asked ≡ cond (due s e i k) (some message) none
       unfolding messageOf due
-      asked-is = rw (lt-ltb i count h, lt-ltb i mostRecords l, lt-ltb k mostWatches m) (message-for (recordAt e i) k (getD (watchesOf s) k none))
+      asked-is =
+          rw (lt-ltb i count h, lt-ltb i mostRecords l, lt-ltb k mostWatches m) (message-for (recordAt e i) k (getD (watchesOf s) k none))
 
       pub undue : due s e i k ≡ false → asked ≡ none
       undue d = asked-is ∙ rw d
 
-      pub message-due : due s e i k ≡ true → asked ≡ some (eventMessage (reported (watchOf s k) (pathIn (recordAt e i))) (watchOf s k .token))
+      pub message-due : due s e i k ≡ true → asked ≡ some message
       message-due d = asked-is ∙ rw d
 
 -- ── the answer ──
@@ -118,6 +123,7 @@ pub nothing-sent : (m : Octets) (o : Option Octets) → o ≡ none → sentAs No
 unfolding sent refusedWith
 nothing-sent m o e = rw e refl
 
-pub message-sent : (before after x : Octets) (o : Option Octets) (n : ℕ) → o ≡ some x → Put 0 x before after n → sentAs (Message n) after ≡ sentOver before o
+pub message-sent : (before after x : Octets) (o : Option Octets) (n : ℕ) → o ≡ some x → Put 0 x before after n
+    → sentAs (Message n) after ≡ sentOver before o
 unfolding sent
 message-sent before after x o n e p = rw (e, p .bytes, p .behind, zero-add) refl

@@ -1,3 +1,4 @@
+pub mod PlaceLaws
 pub mod HearingLaws
 pub mod MaskLaws
 pub mod EitherLaws

@@ -34,8 +34,8 @@ pub fn change_since(
     events: &mut [u8],
 ) -> usize
     requires { ⌜ Store (now after) (now watches) × (isFull (now changed) ≡ true) × (length (now changed) ≤ longestPath) × Room (now events) n 1 ⌝ }
-    ensures { λ r. ⌜ ((before : Table) → Mask (maskOf (hears before before (changeGiven removed (now (changed .entry)))) (watchesOf (now (watches .entry))))
-        heard →
+    ensures { λ r. ⌜ ((before : Table) →
+        Mask (maskOf (hears before before (changeGiven removed (now (changed .entry)))) (watchesOf (now (watches .entry)))) heard →
         Recorded n (heardChange before (tableOf (now (after .entry))) (watchesOf (now (watches .entry))) (changeGiven removed (now (changed .entry))))
         (now (events .entry)) (now (events .exit)) r) ⌝ }
 {

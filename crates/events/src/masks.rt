@@ -64,7 +64,10 @@ fn heard_or_hears(heard: u32, t: &[u8], watches: &[u8], changed: &[u8], removed:
     let mut rest = heard;
     let mut k = 0;
     while k < WATCHES {
-        mask = with_bit(mask, heard_or_hears_at(rest, t, watches, k, changed, removed));
+        mask = with_bit(
+            mask,
+            heard_or_hears_at(rest, t, watches, k, changed, removed),
+        );
         rest = rest % 32768 * 2;
         k += 1;
     }
@@ -89,8 +92,8 @@ pub fn of_change_since(
     removed: bool,
 ) -> u32
     requires { ⌜ Store (now after) (now watches) × (isFull (now changed) ≡ true) ⌝ }
-    ensures { λ r. ⌜ ((before : Table) → Mask (maskOf (hears before before (changeGiven removed (now (changed .entry)))) (watchesOf (now (watches .entry))))
-        heard →
+    ensures { λ r. ⌜ ((before : Table) →
+        Mask (maskOf (hears before before (changeGiven removed (now (changed .entry)))) (watchesOf (now (watches .entry)))) heard →
         Mask (maskOf (hears before (tableOf (now (after .entry))) (changeGiven removed (now (changed .entry)))) (watchesOf (now (watches .entry)))) r) ⌝ }
 {
     heard_or_hears(heard, after, watches, changed, removed)

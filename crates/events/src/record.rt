@@ -19,7 +19,8 @@ use octets::sizes::RECORD_SIZE;
 // Puts a mask and a path as record n, and gives the place behind it.
 pub fn put(events: &mut [u8], n: usize, mask: u32, path: &[u8]) -> usize
     requires { ⌜ Room (now events) n 1 × (length (now path) ≤ longestPath) ⌝ }
-    ensures { λ r. ⌜ ((m : List Bool) → Mask m mask → Recorded n (recordOf m (now (path .entry)) ∷ []) (now (events .entry)) (now (events .exit)) r) ⌝ }
+    ensures { λ r. ⌜ ((m : List Bool) → Mask m mask →
+        Recorded n (recordOf m (now (path .entry)) ∷ []) (now (events .entry)) (now (events .exit)) r) ⌝ }
 {
     let at = n * RECORD_SIZE;
     let size = path.len();
@@ -27,8 +28,8 @@ pub fn put(events: &mut [u8], n: usize, mask: u32, path: &[u8]) -> usize
     copy(events, at + RECORD_PATH_AT, path);
     events[at] = (mask / 256 % 256) as u8;
     events[at + 1] = (mask % 256) as u8;
-    events[at + 2] = (size / 2 % 256) as u8;
-    events[at + 3] = (size % 2 * 128) as u8;
+    events[at + MASK_SIZE] = (size / 2 % 256) as u8;
+    events[at + MASK_SIZE + 1] = (size % 2 * 128) as u8;
     n + 1
 }
 

@@ -1,3 +1,4 @@
+-- The path is as many bytes behind the fields as its length says, and these are all within the record.
 use native.Mathlib.Omega.{arith}
 use Rattle.events.proofs.RecordLaws.{path-read}
 use borrow.Author.Needs.{needs}
@@ -27,9 +28,10 @@ part-result-end c = search needs
 
 returns : tie.Need-returns
 returns c =
-    let b = c .before .before .before in
-    let e = c .before .path-length .ensures in
-    path-read (b .args .events .now) (b .args .i) (c .before .path-length .result) e (omega (arith, e, b .pre .2))
+    let at-length = c .before in
+    let start = at-length .before .before in
+    let e = at-length .path-length .ensures in
+    path-read (start .args .events .now) (start .args .i) (at-length .path-length .result) e (omega (arith, e, start .pre .2))
 
 pub path-spec : {M : Type 1} → statement M
 path-spec =

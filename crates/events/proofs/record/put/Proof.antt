@@ -1,3 +1,4 @@
+-- Zeros behind the path, the path, and the four bytes of the fields before it are the record's bytes.
 use mathlib.Core.Path.{ap, _∙_}
 use native.Mathlib.Omega.{arith}
 use lib.ListN.{length-set}
@@ -61,6 +62,9 @@ cast-events-4 c = search needs
 add-events-3 : tie.Need-add-events-3
 add-events-3 c = search needs
 
+add-events-4 : tie.Need-add-events-4
+add-events-4 c = search needs
+
 slice-write-events-4 : tie.Need-slice-write-events-4
 slice-write-events-4 c = simp length-set (omega arith)
 
@@ -71,9 +75,11 @@ same-length : tie.Need-same-length
 same-length c = simp length-set (omega arith)
 
 returns : tie.Need-returns
-returns c =
-    let b = c .before .before .before .before .before .before .before .before .before .before in
-    λ m f. put-record _ _ _ _ (b .pre .0) (b .pre .1) m f _ (c .before .before .copy .ensures ∙ ap (paste _ _) (c .before .before .before .before .before .before .clear .ensures))
+returns c = λ m f.
+    let at-copy = c .before .before in
+    let at-clear = at-copy .before .before .before .before in
+    let start = at-clear .before .before .before .before in
+    put-record _ _ _ _ (start .pre .0) (start .pre .1) m f _ (at-copy .copy .ensures ∙ ap (paste _ _) (at-clear .clear .ensures))
 
 pub put-spec : {M : Type 1} → statement M
 put-spec =
@@ -97,6 +103,7 @@ put-spec =
     mul-events
     cast-events-4
     add-events-3
+    add-events-4
     slice-write-events-4
     add-result
     same-length

@@ -7,7 +7,8 @@ use Rattle.rules.specs.Path.{isBelow}
 use Rattle.rules.specs.Event.{placeText}
 use Rattle.watches.specs.Watch.{watchOf}
 use Rattle.events.proofs.WatchLaws.{taken-watch, watch-fits}
-use Rattle.events.proofs.ReportLaws.{told, concern-same, concern-event, concern-below, concern-above}
+use Rattle.events.proofs.PlaceLaws.{told}
+use Rattle.events.proofs.ReportLaws.{concern-same, concern-event, concern-below, concern-above}
 use borrow.Author.Needs.{needs}
 use Rattle.events.proofs.report.concerns.Statement.{statement}
 use Rattle.events.proofs.report.concerns.Tie as tie

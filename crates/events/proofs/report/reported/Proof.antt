@@ -9,7 +9,8 @@ use Rattle.rules.specs.Sound.{goodPlace}
 use Rattle.rules.proofs.EntryLayouts.{PlaceFits}
 use Rattle.watches.specs.Watch.{depthMeant, watchOf, TakenWatch}
 use Rattle.events.proofs.WatchLaws.{taken-watch, watch-fits, good-place}
-use Rattle.events.proofs.ReportLaws.{told, cut-same, report-own, report-record, report-nearer, report-further, nearer-room, further-room}
+use Rattle.events.proofs.PlaceLaws.{told}
+use Rattle.events.proofs.ReportLaws.{cut-same, report-own, report-record, report-nearer, report-further, nearer-room, further-room}
 use borrow.Author.Needs.{needs}
 use Rattle.events.proofs.report.reported.Statement.{statement}
 use Rattle.events.proofs.report.reported.Tie as tie
