@@ -1,3 +1,4 @@
+-- The text is a slash and the domain's decimal, and the mask that of the watches on the event's name.
 use mathlib.Core.Path.{sym}
 use native.Mathlib.Omega.{arith}
 use borrow.Author.Needs.{needs}
@@ -18,23 +19,36 @@ of-event-requires : tie.Need-of-event-requires
 of-event-requires c κs = search needs
 
 array-share-prefix-text : tie.Need-array-share-prefix-text
-array-share-prefix-text c = front-within 1 _ _ _ _ (c .before .before .before .put-decimal .ensures) (omega (arith, length-decimal-le (c .before .before .before .before .before .before .before .args .d)))
+array-share-prefix-text c =
+    let at-decimal = c .before .before .before in
+    let start = at-decimal .before .before .before .before in
+    front-within 1 _ _ _ _ (at-decimal .put-decimal .ensures) (omega (arith, length-decimal-le (start .args .d)))
 
 slice-aggregate-keep : tie.Need-slice-aggregate-keep
-slice-aggregate-keep c = front-long 1 _ _ _ _ (c .before .before .before .before .put-decimal .ensures) (omega (arith, length-decimal-le (c .before .before .before .before .before .before .before .before .args .d)))
+slice-aggregate-keep c =
+    let at-decimal = c .before .before .before .before in
+    let start = at-decimal .before .before .before .before in
+    front-long 1 _ _ _ _ (at-decimal .put-decimal .ensures) (omega (arith, length-decimal-le (start .args .d)))
 
 keep-requires : tie.Need-keep-requires
 keep-requires c κs =
-    let b = c .before .before .before .before .before .before .before .before in
-    let l = length-decimal-le (b .args .d) in
-    (b .pre .2, front-short 1 _ _ _ _ (c .before .before .before .before .put-decimal .ensures) (omega arith) longestPath (omega arith))
+    let at-decimal = c .before .before .before .before in
+    let start = at-decimal .before .before .before .before in
+    let few = length-decimal-le (start .args .d) in
+    (start .pre .2, front-short 1 _ _ _ _ (at-decimal .put-decimal .ensures) (omega arith) longestPath (omega arith))
 
 same-length : tie.Need-same-length
 same-length c = search needs
 
 returns : tie.Need-returns
 unfolding heardOf
-returns c = rw (sym (front-is 1 _ _ _ _ (c .before .before .before .before .before .before .before .put-decimal .ensures) (omega (arith, length-decimal-le (c .before .before .before .before .before .before .before .before .before .before .before .args .d))))) (c .before .before .keep .ensures _ (c .before .before .before .before .of-event .ensures))
+returns c =
+    let at-keep = c .before .before in
+    let at-mask = at-keep .before .before in
+    let at-decimal = at-mask .before .before .before in
+    let start = at-decimal .before .before .before .before in
+    let text = front-is 1 _ _ _ _ (at-decimal .put-decimal .ensures) (omega (arith, length-decimal-le (start .args .d))) in
+    rw (sym text) (at-keep .keep .ensures _ (at-mask .of-event .ensures))
 
 pub of-domain-spec : {M : Type 1} → statement M
 of-domain-spec =

@@ -1,3 +1,4 @@
+-- The highest of 16 bits is set where the number is 32768 or more; where it is not, the store decides.
 use mathlib.Core.Path.{refl}
 use borrow.Author.Tests.{le-leb, lt-leb}
 use borrow.Author.Needs.{needs}

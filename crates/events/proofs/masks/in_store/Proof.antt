@@ -1,3 +1,4 @@
+-- Those that hear it in a store, beside nobody.
 use mathlib.Core.Bool.{false}
 use Rattle.events.proofs.EitherLaws.{mask-none}
 use borrow.Author.Needs.{needs}

@@ -1,3 +1,4 @@
+-- Who hears a change hears it in the store before it or in the store after it.
 use Rattle.events.proofs.EitherLaws.{mask-either}
 use borrow.Author.Needs.{needs}
 use Rattle.events.proofs.masks.of_change_since.Statement.{statement}

@@ -1,3 +1,4 @@
+-- After i turns the number has the first i bits of the mask.
 use Prim.Native.Nat.{_-_}
 use native.Mathlib.Omega.{arith}
 use Rattle.rules.specs.Layout.{watchesOf}
@@ -25,7 +26,10 @@ loop-less : tie.Need-loop-less Inv-loop μ-loop
 loop-less c = omega arith
 
 loop-again : tie.Need-loop-again Inv-loop μ-loop
-loop-again c = masked-next _ _ _ (c .before .before .loop .inv) (only-long _ _) (c .before .loop-test .taken) _ (only-at _ _ _ (c .before .loop-test .taken)) _ (c .with-bit .ensures)
+loop-again c =
+    let at-test = c .before in
+    let below = at-test .loop-test .taken in
+    masked-next _ _ _ (at-test .before .loop .inv) (only-long _ _) below _ (only-at _ _ _ below) _ (c .with-bit .ensures)
 
 returns : tie.Need-returns Inv-loop μ-loop
 returns c = masked-all _ _ _ (c .before .loop .inv) (only-long _ _) (c .loop-test .left)
