@@ -1,4 +1,4 @@
--- Those that hear it in a store, beside nobody.
+-- Where nobody heard it before, those that heard or hear are those that hear it in the store.
 use mathlib.Core.Bool.{false}
 use Rattle.events.proofs.EitherLaws.{mask-none}
 use borrow.Author.Needs.{needs}

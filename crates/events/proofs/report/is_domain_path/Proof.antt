@@ -1,3 +1,4 @@
+-- The text has a first byte, which is a slash, and a domain id behind it.
 use Rattle.rules.specs.Message.{isNumber}
 use Rattle.events.proofs.ReportLaws.{domain-empty, domain-other, domain-told}
 use borrow.Author.Needs.{needs}
@@ -33,11 +34,17 @@ enum-told-2 c = search needs
 
 returns-3 : tie.Need-returns-3
 unfolding isNumber
-returns-3 c = domain-told _ _ _ (c .before .before .before .before .before .before .if1 .left) (c .before .before .before .before .if2 .left) (c .before .before .number-in .ensures) (c .enum-told .given .1)
+returns-3 c =
+    let at-number = c .before .before in
+    let at-slash = at-number .before .before in
+    domain-told _ _ _ (at-slash .before .before .if1 .left) (at-slash .if2 .left) (at-number .number-in .ensures) (c .enum-told .given .1)
 
 returns-4 : tie.Need-returns-4
 unfolding isNumber
-returns-4 c = domain-told _ _ _ (c .before .before .before .before .before .before .if1 .left) (c .before .before .before .before .if2 .left) (c .before .before .number-in .ensures) (c .enum-told2 .given .1)
+returns-4 c =
+    let at-number = c .before .before in
+    let at-slash = at-number .before .before in
+    domain-told _ _ _ (at-slash .before .before .if1 .left) (at-slash .if2 .left) (at-number .number-in .ensures) (c .enum-told2 .given .1)
 
 pub is-domain-path-spec : {M : Type 1} → statement M
 is-domain-path-spec =

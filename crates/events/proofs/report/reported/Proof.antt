@@ -1,5 +1,6 @@
+-- A watch on an event reports by its depth; one on a path the nearer of the two paths, cut by its base, for which there is room.
 use mathlib.Core.Path.{_≡_, refl, sym, ap, _∙_}
-use mathlib.Core.Bool.{true, false}
+use mathlib.Core.Bool.{Bool, true, false}
 use mathlib.Core.List.{[], _∷_}
 use borrow.Author.Tests.{not-true, not-false}
 use Rattle.rules.specs.Octets.{begins}
@@ -16,7 +17,9 @@ use Rattle.events.proofs.report.reported.Statement.{statement}
 use Rattle.events.proofs.report.reported.Tie as tie
 
 path-requires : tie.Need-path-requires
-path-requires c κs = let b = c .before .before in taken-watch (b .args .watches .now) (b .args .k) (b .pre .0)
+path-requires c κs =
+    let start = c .before .before in
+    taken-watch (start .args .watches .now) (start .args .k) (start .pre .0)
 
 abbrev start : tie.After-path → tie.Start
 start c = c .before .before .before
@@ -34,10 +37,14 @@ good : (c : tie.After-path) → goodPlace (watch c .owner) (watch c .depth) (wat
 good c = let b = start c in good-place (b .args .watches .now) (b .args .k) (b .pre .0)
 
 unslashed : (c : tie.Then1) → begins (47 ∷ []) (placeText (watch (c .before .before .before) .place)) ≡ false
-unslashed c = told (begins (47 ∷ [])) (c .before .begins .ensures) (c .before .before .before .path .ensures) (not-true _ (c .if1 .taken))
+unslashed c =
+    let at-begins = c .before in
+    told (begins (47 ∷ [])) (at-begins .begins .ensures) (at-begins .before .before .path .ensures) (not-true _ (c .if1 .taken))
 
 slashed : (c : tie.Else1) → begins (47 ∷ []) (placeText (watch (c .before .before .before) .place)) ≡ true
-slashed c = told (begins (47 ∷ [])) (c .before .begins .ensures) (c .before .before .before .path .ensures) (not-false _ (c .if1 .left))
+slashed c =
+    let at-begins = c .before in
+    told (begins (47 ∷ [])) (at-begins .begins .ensures) (at-begins .before .before .path .ensures) (not-false _ (c .if1 .left))
 
 slice-aggregate-begins : tie.Need-slice-aggregate-begins
 slice-aggregate-begins c = search needs
@@ -52,13 +59,19 @@ enum-told : tie.Need-enum-told
 enum-told c = search needs
 
 returns : tie.Need-returns
-returns c = report-record _ _ _ (unslashed (c .before .before .before)) (sym (c .before .before .depth .ensures) ∙ ap depthMeant (c .enum-told .given .1))
+returns c =
+    let at-depth = c .before .before in
+    report-record _ _ _ (unslashed (at-depth .before)) (sym (at-depth .depth .ensures) ∙ ap depthMeant (c .enum-told .given .1))
 
 enum-told-2 : tie.Need-enum-told-2
 enum-told-2 c = search needs
 
 returns-2 : tie.Need-returns-2
-returns-2 c = c .before .before .before .before .before .before .path .ensures ∙ report-own _ _ (unslashed (c .before .before .before)) (sym (c .before .before .depth .ensures) ∙ ap depthMeant (c .enum-told2 .given .1))
+returns-2 c =
+    let at-depth = c .before .before in
+    let at-event = at-depth .before in
+    at-event .before .before .before .path .ensures
+    ∙ report-own _ _ (unslashed at-event) (sym (at-depth .depth .ensures) ∙ ap depthMeant (c .enum-told2 .given .1))
 
 relative-requires : tie.Need-relative-requires
 relative-requires c κs = used (c .before .before .before)
@@ -69,34 +82,44 @@ domain-requires c κs = used (c .before .before .before .before)
 is-below-requires : tie.Need-is-below-requires
 is-below-requires c κs = search needs
 
+abbrev at-path : tie.After-domain → tie.After-path
+at-path c = c .before .before .before .before .before
+
+-- whether the record's path is above the watch's own
+above : (c : tie.After-is-below) (b : Bool) → c .is-below .result ≡ b
+    → let p = at-path (c .before) in isBelow (start p .args .p .now) (placeText (watch p .place)) ≡ b
+above c b e = let p = at-path (c .before) in told (isBelow (start p .args .p .now)) (c .is-below .ensures) (p .path .ensures) e
+
 cut-requires : tie.Need-cut-requires
 cut-requires c κs =
-    let o = c .before .before in
-    let p = o .before .before .before .before .before in
-    nearer-room (watch p) (good p) (o .before .relative .ensures) (o .domain .ensures) (p .path .ensures)
+    let at-domain = c .before .before in
+    let p = at-path at-domain in
+    nearer-room (watch p) (good p) (at-domain .before .relative .ensures) (at-domain .domain .ensures) (p .path .ensures)
 
 returns-3 : tie.Need-returns-3
 returns-3 c =
-    let o = c .before .before .before in
-    let p = o .before .before .before .before .before in
+    let at-below = c .before .before in
+    let at-domain = at-below .before in
+    let p = at-path at-domain in
     c .cut .ensures
-    ∙ cut-same (o .before .relative .ensures) (o .domain .ensures) (p .path .ensures)
-    ∙ report-nearer _ _ (fits p) (slashed (o .before .before)) (told (isBelow (start p .args .p .now)) (c .before .before .is-below .ensures) (p .path .ensures) (c .before .if2 .taken))
+    ∙ cut-same (at-domain .before .relative .ensures) (at-domain .domain .ensures) (p .path .ensures)
+    ∙ report-nearer _ _ (fits p) (slashed (at-domain .before .before)) (above at-below true (c .before .if2 .taken))
 
 cut-requires-2 : tie.Need-cut-requires-2
 cut-requires-2 c κs =
-    let o = c .before .before in
-    let p = o .before .before .before .before .before in
-    further-room (watch p) (good p) (o .before .relative .ensures) (o .domain .ensures) _ (start p .pre .1)
-    (told (isBelow (start p .args .p .now)) (c .before .is-below .ensures) (p .path .ensures) (c .if2 .left))
+    let at-below = c .before in
+    let at-domain = at-below .before in
+    let p = at-path at-domain in
+    further-room (watch p) (good p) (at-domain .before .relative .ensures) (at-domain .domain .ensures) _ (start p .pre .1)
+    (above at-below false (c .if2 .left))
 
 returns-4 : tie.Need-returns-4
 returns-4 c =
-    let o = c .before .before .before in
-    let p = o .before .before .before .before .before in
+    let at-below = c .before .before in
+    let at-domain = at-below .before in
     c .cut2 .ensures
-    ∙ cut-same (o .before .relative .ensures) (o .domain .ensures) refl
-    ∙ report-further _ _ (fits p) (slashed (o .before .before)) (told (isBelow (start p .args .p .now)) (c .before .before .is-below .ensures) (p .path .ensures) (c .before .if2 .left))
+    ∙ cut-same (at-domain .before .relative .ensures) (at-domain .domain .ensures) refl
+    ∙ report-further _ _ (fits (at-path at-domain)) (slashed (at-domain .before .before)) (above at-below false (c .before .if2 .left))
 
 pub reported-spec : {M : Type 1} → statement M
 reported-spec =
