@@ -1,10 +1,7 @@
 -- A watch whose text begins with a slash is on a full path; any other hears no change of a node.
-use mathlib.Core.Path.{_≡_, sym, _∙_}
-use mathlib.Core.Bool.{true}
-use mathlib.Core.List.{[], _∷_}
+use mathlib.Core.Path.{sym, _∙_}
 use borrow.Author.Tests.{not-true, not-false}
 use borrow.Author.Needs.{needs}
-use Rattle.rules.specs.Octets.{begins}
 use Rattle.watches.specs.Watch.{TakenWatch}
 use Rattle.domains.proofs.Search.{passes-free}
 use Rattle.events.proofs.HearingLaws.{taken-here, OnPath, on-path, deaf, hears-so}

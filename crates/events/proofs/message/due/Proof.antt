@@ -1,3 +1,4 @@
+-- The tests are the rule's, in its order: the watch is used, its bit is set, the path has a length within the size and concerns it.
 use mathlib.Core.Path.{_≡_, sym, ap, _∙_}
 use mathlib.Core.Bool.{true}
 use mathlib.Core.Option.{none}
@@ -15,7 +16,10 @@ use Rattle.events.proofs.message.due.Statement.{statement}
 use Rattle.events.proofs.message.due.Tie as tie
 
 used-requires : tie.Need-used-requires
-used-requires c κs = let b = c .before .before in (b .pre .1, sound-kept (b .pre .2 .domains) (b .args .watches .now) (b .pre .2 .sound) .whole)
+used-requires c κs =
+    let start = c .before .before in
+    let sound = start .pre .2 in
+    (start .pre .1, sound-kept (sound .domains) (start .args .watches .now) (sound .sound) .whole)
 
 returns : tie.Need-returns
 returns c = due-free _ _ _ _ (sym (c .before .used .ensures) ∙ not-true _ (c .if1 .taken))
@@ -39,24 +43,40 @@ path-length-requires : tie.Need-path-length-requires
 path-length-requires c κs = search needs
 
 returns-3 : tie.Need-returns-3
-returns-3 c = due-empty _ _ _ _ (in-use (c .before .before .before .before)) (is-heard (c .before .before)) _ (c .before .path-length .ensures) (c .if3 .taken)
+returns-3 c =
+    let at-length = c .before in
+    let at-heard = at-length .before in
+    due-empty _ _ _ _ (in-use (at-heard .before .before)) (is-heard at-heard) _ (at-length .path-length .ensures) (c .if3 .taken)
 
 returns-4 : tie.Need-returns-4
-returns-4 c = due-long _ _ _ _ (in-use (c .before .before .before .before .before)) (is-heard (c .before .before .before)) _ (c .before .before .path-length .ensures) (c .before .if3 .left) (c .if4 .taken)
+returns-4 c =
+    let at-some = c .before in
+    let at-length = at-some .before in
+    let at-heard = at-length .before in
+    let length-is = at-length .path-length .ensures in
+    due-long _ _ _ _ (in-use (at-heard .before .before)) (is-heard at-heard) _ length-is (at-some .if3 .left) (c .if4 .taken)
 
 path-requires : tie.Need-path-requires
 path-requires c κs = search needs
 
 concerns-requires : tie.Need-concerns-requires
-concerns-requires c κs = let p = c .before .before .before .before .before .before in record { below = start p .pre .1; watches = start p .pre .2; used = in-use p }
+concerns-requires c κs =
+    let at-used = c .before .before .before .before .before .before in
+    record { below = start at-used .pre .1; watches = start at-used .pre .2; used = in-use at-used }
 
 returns-5 : tie.Need-returns-5
 returns-5 c =
-    let n = c .before .before .before .before in
-    let b = start (n .before .before .before) in
+    let at-path = c .before in
+    let at-short = at-path .before in
+    let at-some = at-short .before in
+    let at-length = at-some .before in
+    let at-heard = at-length .before in
+    let at-used = at-heard .before .before in
+    let args = start at-used .args in
+    let length-is = at-length .path-length .ensures in
     c .concerns .ensures
-    ∙ ap (λ (p : Octets). concerns p (watchOf (b .args .watches .now) (b .args .k) .place)) (c .before .path .ensures)
-    ∙ due-concerns _ _ _ _ (in-use (n .before .before .before)) (is-heard (n .before)) _ (n .path-length .ensures) (c .before .before .before .if3 .left) (c .before .before .if4 .left)
+    ∙ ap (λ (p : Octets). concerns p (watchOf (args .watches .now) (args .k) .place)) (at-path .path .ensures)
+    ∙ due-concerns _ _ _ _ (in-use at-used) (is-heard at-heard) _ length-is (at-some .if3 .left) (at-short .if4 .left)
 
 pub due-spec : {M : Type 1} → statement M
 due-spec =

@@ -1,3 +1,4 @@
+-- The four numbers stand one behind the other.
 use Rattle.events.proofs.PutLaws.{header-put}
 use borrow.Author.Needs.{needs}
 use Rattle.events.proofs.message.put_header.Statement.{statement}
@@ -20,11 +21,12 @@ same-length c = search needs
 
 returns : tie.Need-returns
 returns c =
-    let d = c .before .before in
-    let e = d .before .before .before .before in
-    let f = e .before .before .before .before in
-    let g = f .before .before .before .before in
-    header-put _ _ _ _ _ _ (g .put-number32 .ensures) (f .put-number322 .ensures) (e .put-number323 .ensures) (d .put-number324 .ensures)
+    let at-len = c .before .before in
+    let at-tx = at-len .before .before .before .before in
+    let at-req = at-tx .before .before .before .before in
+    let at-type = at-req .before .before .before .before in
+    header-put _ _ _ _ _ _ (at-type .put-number32 .ensures) (at-req .put-number322 .ensures) (at-tx .put-number323 .ensures)
+    (at-len .put-number324 .ensures)
 
 pub put-header-spec : {M : Type 1} → statement M
 put-header-spec =

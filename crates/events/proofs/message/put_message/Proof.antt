@@ -1,3 +1,4 @@
+-- A header, the path with its nul and the token with its nul, one behind the other, are the message.
 use mathlib.Core.List.{[]}
 use native.Mathlib.Omega.{arith}
 use Rattle.events.proofs.PutLaws.{string-behind, message-behind, message-put}
@@ -22,27 +23,38 @@ put-string-requires c κs = search needs
 
 put-string-requires-2 : tie.Need-put-string-requires-2
 put-string-requires-2 c κs =
-    let s = c .before .before .before in
-    let h = s .before .before .before .before in
-    let b = h .before .before .before .before .before in
-    omega (arith, b .pre, string-behind (b .args .path .now) (b .args .token .now) _ _ _ [] _ 0 (h .put-header .ensures) (s .put-string .ensures))
+    let at-path = c .before .before .before in
+    let at-header = at-path .before .before .before .before in
+    let start = at-header .before .before .before .before .before in
+    let path = start .args .path .now in
+    let token = start .args .token .now in
+    omega (arith, start .pre, string-behind path token _ _ _ [] _ 0 (at-header .put-header .ensures) (at-path .put-string .ensures))
 
 cast-result : tie.Need-cast-result
 cast-result c =
-    let s = c .before .before .before .before .before .before in
-    let h = s .before .before .before .before in
-    let b = h .before .before .before .before .before in
-    omega (arith, b .pre, message-behind (b .args .path .now) (b .args .token .now) _ _ _ _ _ _ (h .put-header .ensures) (s .put-string .ensures) (c .before .before .put-string2 .ensures))
+    let at-token = c .before .before in
+    let at-path = at-token .before .before .before .before in
+    let at-header = at-path .before .before .before .before in
+    let start = at-header .before .before .before .before .before in
+    let path-put = at-path .put-string .ensures in
+    let token-put = at-token .put-string2 .ensures in
+    omega (
+      arith,
+      start .pre,
+      message-behind (start .args .path .now) (start .args .token .now) _ _ _ _ _ _ (at-header .put-header .ensures) path-put token-put,
+    )
 
 same-length : tie.Need-same-length
 same-length c = search needs
 
 returns : tie.Need-returns
 returns c =
-    let s = c .before .before .before .before .before .before in
-    let h = s .before .before .before .before in
-    let b = h .before .before .before .before .before in
-    message-put (b .args .path .now) (b .args .token .now) _ _ _ _ _ _ (h .put-header .ensures) (s .put-string .ensures) (c .before .before .put-string2 .ensures)
+    let at-token = c .before .before in
+    let at-path = at-token .before .before .before .before in
+    let at-header = at-path .before .before .before .before in
+    let start = at-header .before .before .before .before .before in
+    message-put (start .args .path .now) (start .args .token .now) _ _ _ _ _ _ (at-header .put-header .ensures)
+    (at-path .put-string .ensures) (at-token .put-string2 .ensures)
 
 pub put-message-spec : {M : Type 1} → statement M
 put-message-spec =

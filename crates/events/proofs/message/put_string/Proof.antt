@@ -1,3 +1,4 @@
+-- The text is copied, and the nul stands behind it.
 use Rattle.events.proofs.PutLaws.{string-put}
 use borrow.Author.Needs.{needs}
 use Rattle.events.proofs.message.put_string.Statement.{statement}
@@ -22,7 +23,10 @@ same-length : tie.Need-same-length
 same-length c = search needs
 
 returns : tie.Need-returns
-returns c = let b = c .before .before .before .before .before .before in string-put (b .args .at) _ _ _ (b .pre) (c .before .before .copy .ensures)
+returns c =
+    let at-copy = c .before .before in
+    let start = at-copy .before .before .before .before in
+    string-put (start .args .at) _ _ _ (start .pre) (at-copy .copy .ensures)
 
 pub put-string-spec : {M : Type 1} → statement M
 put-string-spec =

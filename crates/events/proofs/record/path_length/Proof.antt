@@ -1,5 +1,4 @@
 -- The length is the nine high bits of the two bytes behind the mask.
-use native.Mathlib.Omega.{arith}
 use Rattle.events.proofs.RecordLaws.{length-read}
 use borrow.Author.Needs.{needs}
 use Rattle.events.proofs.record.path_length.Statement.{statement}
