@@ -13,6 +13,7 @@ use lib.ListN.{length, getD, drop, length-drop}
 use lib.Pow.{pow-add, pow-pos}
 use lib.Seq.{drop-cons}
 use borrow.Author.Tests.{le-leb, lt-leb}
+use Rattle.rules.specs.Size.{mostWatches}
 use Rattle.rules.specs.Octets.{Octets, pack, packFrom, bit}
 use Rattle.rules.specs.Domain.{Domain, domainOf}
 use Rattle.rules.specs.Path.{Names, beyond}
@@ -98,7 +99,7 @@ module _ (m : List Bool) where
   unfolding pack
   rest-all n h = record { value = h .value ∙ sym (mul-one _) }
 
-  module _ (k rest : ℕ) (long : length m ≡ 16) (h : k < 16) (f : Rest m k rest) where
+  module _ (k rest : ℕ) (long : length m ≡ mostWatches) (h : k < mostWatches) (f : Rest m k rest) where
     others : ℕ
     others = packFrom 0 (maskBits (drop (suc k) m)) * 2 ^ k
 
@@ -170,7 +171,7 @@ passes-either f g (some w) = refl
 
 -- the first k bits of who passes either test, and what is left of those that pass the first
 pub record Either (g : Watch → Bool) (s : Octets) (heard mask rest k : ℕ) : Type 0 where
-  pub within : k ≤ 16
+  pub within : k ≤ mostWatches
   pub small : mask < 2 ^ k
   pub bits : (f : Watch → Bool) → Mask (maskOf f (watchesOf s)) heard
       → Masked (maskOf (λ w. f w || g w) (watchesOf s)) k mask × Rest (maskOf f (watchesOf s)) k rest
@@ -183,7 +184,7 @@ module _ (g : Watch → Bool) (s : Octets) (heard : ℕ) where
     pub either-small : mask < 65536
     either-small = let p : 2 ^ k ≤ 2 ^ 16 = pow-le-pow-right (lit< tt) (h .within) in omega (arith, h .small)
 
-    pub either-next : k < 16 → (on : Bool) → on ≡ (leb 32768 rest || passes g (getD (watchesOf s) k none)) → (r : ℕ) → r ≡ mask * 2 + bit on
+    pub either-next : k < mostWatches → (on : Bool) → on ≡ (leb 32768 rest || passes g (getD (watchesOf s) k none)) → (r : ℕ) → r ≡ mask * 2 + bit on
         → Either g s heard r (rest % 32768 * 2) (k + 1)
     either-next l on e r q =
         record {
@@ -198,5 +199,5 @@ module _ (g : Watch → Bool) (s : Octets) (heard : ℕ) where
               (masked-next _ k mask (b .0) (mask-long _ s) l on here r q, rest-next _ k rest (mask-long f s) l (b .1));
         }
 
-    pub either-all : 16 ≤ k → (f : Watch → Bool) → Mask (maskOf f (watchesOf s)) heard → Mask (maskOf (λ w. f w || g w) (watchesOf s)) mask
+    pub either-all : mostWatches ≤ k → (f : Watch → Bool) → Mask (maskOf f (watchesOf s)) heard → Mask (maskOf (λ w. f w || g w) (watchesOf s)) mask
     either-all l f m = masked-all _ k mask (h .bits f m .0) (mask-long _ s) l

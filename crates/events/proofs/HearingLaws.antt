@@ -8,7 +8,7 @@ use native.Mathlib.Omega.{arith}
 use lib.ListN.{length, getD}
 use lib.Dec.{leb}
 use borrow.Author.Tests.{not-false}
-use Rattle.rules.specs.Size.{mostWatches, longestPath}
+use Rattle.rules.specs.Size.{mostWatches, longestPath, longestAbsolute}
 use Rattle.rules.specs.Octets.{Octets, same, begins, text}
 use Rattle.rules.specs.Entries.{isEmpty}
 use Rattle.rules.specs.Domain.{Domain, domainOf}
@@ -157,7 +157,7 @@ module _ (s : Octets) (k : ℕ) (h : TakenWatch s k) (own : Octets) (o : own ≡
       go : (p : Place) → w .place ≡ p → ((p ≡ event [] → ⊥) → PlaceFits p) → OnPath
       go (path r ns) e g =
           let q = g (λ z. let y : _≡_ {A = ℕ} 0 1 = cc in omega arith) in
-          let short : length (pathText ns) ≤ 3072 = omega (arith, q .1) in
+          let short : length (pathText ns) ≤ longestAbsolute = omega (arith, q .1) in
           let t : own ≡ pathText ns = o ∙ ap placeText e in
           record {
             relative = r;

@@ -1,6 +1,7 @@
 -- After k turns the number has the first k bits of those that heard or hear, and the rest has the bits that are left, highest first.
 use Prim.Native.Nat.{_-_}
 use native.Mathlib.Omega.{arith}
+use Rattle.rules.specs.Size.{mostWatches}
 use Rattle.rules.specs.Layout.{tableOf}
 use Rattle.rules.specs.Event.{hears}
 use Rattle.transactions.specs.Transaction.{changeGiven}
@@ -13,7 +14,7 @@ Inv-loop heard t watches changed removed mask₀ rest₀ k₀ mask rest k =
     Either (hears (tableOf t) (tableOf t) (changeGiven removed changed)) watches heard mask rest k
 
 abbrev μ-loop : tie.MeasureT-loop
-μ-loop heard t watches changed removed mask₀ rest₀ k₀ mask rest k = 16 - k
+μ-loop heard t watches changed removed mask₀ rest₀ k₀ mask rest k = mostWatches - k
 
 loop-holds : tie.Need-loop-holds Inv-loop μ-loop
 loop-holds c = either-none _ _ _

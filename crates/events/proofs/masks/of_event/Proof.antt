@@ -2,6 +2,7 @@
 use mathlib.Core.Path.{_∙_}
 use Prim.Native.Nat.{_-_}
 use native.Mathlib.Omega.{arith}
+use Rattle.rules.specs.Size.{mostWatches}
 use Rattle.rules.specs.Layout.{watchesOf}
 use Rattle.rules.specs.Event.{isEvent, maskOf}
 use Rattle.events.specs.Stores.{eventName}
@@ -13,7 +14,7 @@ abbrev Inv-loop : tie.InvT-loop
 Inv-loop watches released mask₀ k₀ mask k = Masked (maskOf (isEvent (eventName released)) (watchesOf watches)) k mask
 
 abbrev μ-loop : tie.MeasureT-loop
-μ-loop watches released mask₀ k₀ mask k = 16 - k
+μ-loop watches released mask₀ k₀ mask k = mostWatches - k
 
 loop-holds : tie.Need-loop-holds Inv-loop μ-loop
 loop-holds c = masked-none _

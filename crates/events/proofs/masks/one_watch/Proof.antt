@@ -1,6 +1,7 @@
 -- After i turns the number has the first i bits of the mask.
 use Prim.Native.Nat.{_-_}
 use native.Mathlib.Omega.{arith}
+use Rattle.rules.specs.Size.{mostWatches}
 use Rattle.rules.specs.Layout.{watchesOf}
 use Rattle.rules.specs.Event.{onlyFrom}
 use Rattle.events.proofs.MaskLaws.{Masked, masked-none, masked-small, masked-next, masked-all, only-long, only-at}
@@ -11,7 +12,7 @@ abbrev Inv-loop : tie.InvT-loop
 Inv-loop watches k mask₀ i₀ mask i = Masked (onlyFrom k 0 (watchesOf watches)) i mask
 
 abbrev μ-loop : tie.MeasureT-loop
-μ-loop watches k mask₀ i₀ mask i = 16 - i
+μ-loop watches k mask₀ i₀ mask i = mostWatches - i
 
 loop-holds : tie.Need-loop-holds Inv-loop μ-loop
 loop-holds c = masked-none _
