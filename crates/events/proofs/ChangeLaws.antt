@@ -7,7 +7,7 @@ use native.Mathlib.Numerals.{add-one}
 use native.Mathlib.Omega.{arith}
 use lib.ListN.{length, getD, take, length-append, length-map, List·getD-map}
 use lib.Seq.{take-suc, take-all, getD-take, length-take-le}
-use Rattle.rules.specs.Size.{eventsSize, longestPath}
+use Rattle.rules.specs.Size.{mostRecords, eventsSize, longestPath, longestAbsolute}
 use Rattle.rules.specs.Octets.{Octets}
 use Rattle.rules.specs.Path.{isFull, namesIn, pathText}
 use Rattle.rules.specs.Node.{Table, pathOf}
@@ -29,7 +29,8 @@ use Rattle.events.proofs.SlotPaths.{slot-text}
 
 module _ (b a : Table) (ws : Watches) where
   -- the record of a change has the text that was given
-  pub heard-given : (removed : Bool) (p : Octets) → isFull p ≡ true → heardChange b a ws (changeGiven removed p) ≡ kept (maskOf (hears b a (changeGiven removed p)) ws) p
+  pub heard-given : (removed : Bool) (p : Octets) → isFull p ≡ true
+      → heardChange b a ws (changeGiven removed p) ≡ kept (maskOf (hears b a (changeGiven removed p)) ws) p
   unfolding heardChange changeGiven
   heard-given removed p h = ap (kept (maskOf (hears b a (changeGiven removed p)) ws)) (sym (full p h .text))
 
@@ -43,7 +44,8 @@ module _ (b a : Table) (ws : Watches) where
   heard-few [] = omega arith
   heard-few (c ∷ cs) = rw (length-append (heardChange b a ws c) (flatMap (heardChange b a ws) cs)) (omega (arith, one-at-most c, heard-few cs))
 
-  heard-next : (cs : List Change) (j : ℕ) (d : Change) → j < length cs → heard b a ws (take (j + 1) cs) ≡ heard b a ws (take j cs) ++ heardChange b a ws (getD cs j d)
+  heard-next : (cs : List Change) (j : ℕ) (d : Change) → j < length cs
+      → heard b a ws (take (j + 1) cs) ≡ heard b a ws (take j cs) ++ heardChange b a ws (getD cs j d)
   unfolding heard flatMap
   heard-next cs j d h =
       ap (λ (l : List Change). flatMap (heardChange b a ws) l) (ap (λ (k : ℕ). take k cs) (add-one j) ∙ take-suc cs j d h)
@@ -64,10 +66,11 @@ module _ (b a : Table) (ws : Watches) where
     entered-none l = record { within = omega arith; few = omega arith; long = l; recorded = recorded-none 0 before }
 
     module _ (middle : Octets) (j n : ℕ) (f : Entered cs before middle j n) where
-      pub entered-room : j < 128 → Room middle n 1
+      pub entered-room : j < mostRecords → Room middle n 1
       entered-room h = record { whole = f .long; few = omega (arith, f .few) }
 
-      pub entered-next : j < length cs → j < 128 → (d x : Change) → x ≡ getD cs j d → (after : Octets) (r : ℕ) → Recorded n (heardChange b a ws x) middle after r → Entered cs before after (j + 1) r
+      pub entered-next : j < length cs → j < mostRecords → (d x : Change) → x ≡ getD cs j d → (after : Octets) (r : ℕ)
+          → Recorded n (heardChange b a ws x) middle after r → Entered cs before after (j + 1) r
       entered-next h k d x e after r g =
           let one = one-at-most x in
           let l : length after ≡ length middle = recorded-length n (heardChange b a ws x) middle after r (omega (arith, f .few, f .long)) g in
@@ -90,7 +93,7 @@ module _ (s : Octets) (k j : ℕ) (h : HasChange s k j) (p : Octets) (e : p ≡ 
   pub change-short : length p ≤ longestPath
   change-short = rw e (change-fits s k j h .short)
 
-  long-enough : length (pathText (changeOf s k j .names)) ≤ 3072
+  long-enough : length (pathText (changeOf s k j .names)) ≤ longestAbsolute
   long-enough = omega (arith, change-fits s k j h .short)
 
   pub change-full : isFull p ≡ true
@@ -102,7 +105,8 @@ module _ (s : Octets) (k j : ℕ) (h : HasChange s k j) (p : Octets) (e : p ≡ 
 
 -- ── removals ──
 
-pub removal-given : (t : Octets) (i : ℕ) → Asked t i → (p : Octets) → p ≡ pathText (pathOf (tableOf t) i) → changeGiven true p ≡ removalOf (tableOf t) i
+pub removal-given : (t : Octets) (i : ℕ) → Asked t i → (p : Octets) → p ≡ pathText (pathOf (tableOf t) i)
+    → changeGiven true p ≡ removalOf (tableOf t) i
 unfolding changeGiven removalOf
 removal-given t i a p e = ap (λ ns. record { removal = true; names = ns }) (ap namesIn e ∙ slot-text t i a)
 

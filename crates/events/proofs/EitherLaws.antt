@@ -4,7 +4,8 @@ use mathlib.Core.Bool.{Bool, true, false, _&&_, _||_, and-or-distrib-left}
 use mathlib.Core.List.{List, [], _∷_}
 use mathlib.Core.Option.{Option, none, some}
 use Prim.Native.Nat.{ℕ, suc, _+_, _*_, _%_, _^_, _≤_, _<_}
-use native.Mathlib.Nat.{zero-add, add-zero, add-assoc, add-mul, mul-one, mul-comm, mul-assoc, pow-suc, mul-lt-mul-of-pos-right, pow-le-pow-right, mul-add-mod-self-right, mod-eq-of-lt}
+use native.Mathlib.Nat.{zero-add, add-zero, add-assoc, add-mul, mul-one, mul-comm, mul-assoc, mul-lt-mul-of-pos-right}
+use native.Mathlib.Nat.{mul-add-mod-self-right, mod-eq-of-lt, pow-suc, pow-le-pow-right}
 use native.Mathlib.Numerals.{add-one}
 use native.Mathlib.Omega.{arith}
 use lib.Dec.{leb, lit<}
@@ -12,6 +13,7 @@ use lib.ListN.{length, getD, drop, length-drop}
 use lib.Pow.{pow-add, pow-pos}
 use lib.Seq.{drop-cons}
 use borrow.Author.Tests.{le-leb, lt-leb}
+use Rattle.rules.specs.Size.{mostWatches}
 use Rattle.rules.specs.Octets.{Octets, pack, packFrom, bit}
 use Rattle.rules.specs.Domain.{Domain, domainOf}
 use Rattle.rules.specs.Path.{Names, beyond}
@@ -75,8 +77,10 @@ unfolding packFrom maskBits
 pack-high n [] = sym (add-zero (n * 1) ∙ mul-one n)
 pack-high n (b ∷ bs) =
     let p = 2 ^ length bs in
-    let q : (n * 2 + bit b) * p ≡ n * (p * 2) + bit b * p = add-mul (n * 2) (bit b) p ∙ ap (λ (x : ℕ). x + bit b * p) (mul-assoc n 2 p ∙ ap (λ (x : ℕ). n * x) (mul-comm 2 p)) in
-    let first : packFrom (0 + bit b) (maskBits bs) ≡ bit b * p + packFrom 0 (maskBits bs) = ap (λ (x : ℕ). packFrom x (maskBits bs)) (zero-add (bit b)) ∙ pack-high (bit b) bs in
+    let double : n * 2 * p ≡ n * (p * 2) = mul-assoc n 2 p ∙ ap (λ (x : ℕ). n * x) (mul-comm 2 p) in
+    let q : (n * 2 + bit b) * p ≡ n * (p * 2) + bit b * p = add-mul (n * 2) (bit b) p ∙ ap (λ (x : ℕ). x + bit b * p) double in
+    let first : packFrom (0 + bit b) (maskBits bs) ≡ bit b * p + packFrom 0 (maskBits bs) =
+    ap (λ (x : ℕ). packFrom x (maskBits bs)) (zero-add (bit b)) ∙ pack-high (bit b) bs in
     pack-high (n * 2 + bit b) bs ∙ ap (λ (x : ℕ). x + packFrom 0 (maskBits bs)) q
     ∙ (add-assoc (n * (p * 2)) (bit b * p) _ ∙ ap₂ (λ (x y : ℕ). n * x + y) (sym (pow-suc 2 (length bs))) (sym first))
 
@@ -95,12 +99,14 @@ module _ (m : List Bool) where
   unfolding pack
   rest-all n h = record { value = h .value ∙ sym (mul-one _) }
 
-  module _ (k rest : ℕ) (long : length m ≡ 16) (h : k < 16) (f : Rest m k rest) where
+  module _ (k rest : ℕ) (long : length m ≡ mostWatches) (h : k < mostWatches) (f : Rest m k rest) where
     others : ℕ
     others = packFrom 0 (maskBits (drop (suc k) m)) * 2 ^ k
 
     width : 2 ^ length (drop (suc k) m) * 2 ^ k ≡ 32768
-    width = sym (pow-add 2 (length (drop (suc k) m)) k) ∙ ap (λ (n : ℕ). 2 ^ n) (let e : length (drop (suc k) m) + k ≡ 15 = rw length-drop (omega arith) in e)
+    width =
+        let e : length (drop (suc k) m) + k ≡ 15 = rw length-drop (omega arith) in
+        sym (pow-add 2 (length (drop (suc k) m)) k) ∙ ap (λ (n : ℕ). 2 ^ n) e
 
     others-small : others < 32768
     unfolding others
@@ -126,9 +132,14 @@ module _ (m : List Bool) where
     pub rest-next : Rest m (k + 1) (rest % 32768 * 2)
     unfolding others
     rest-next =
-        let low : rest % 32768 ≡ others = ap (λ (n : ℕ). n % 32768) split ∙ mul-add-mod-self-right (bit (getD m k false)) 32768 others ∙ mod-eq-of-lt others-small in
+        let low : rest % 32768 ≡ others =
+        ap (λ (n : ℕ). n % 32768) split ∙ mul-add-mod-self-right (bit (getD m k false)) 32768 others ∙ mod-eq-of-lt others-small in
+        let power : 2 ^ k * 2 ≡ 2 ^ (k + 1) = sym (ap (λ (n : ℕ). 2 ^ n) (add-one k) ∙ pow-suc 2 k) in
         record {
-          value = ap (λ (n : ℕ). n * 2) low ∙ mul-assoc _ (2 ^ k) 2 ∙ ap₂ (λ (i n : ℕ). packFrom 0 (maskBits (drop i m)) * n) (sym (add-one k)) (sym (ap (λ (n : ℕ). 2 ^ n) (add-one k) ∙ pow-suc 2 k));
+          value =
+              ap (λ (n : ℕ). n * 2) low
+              ∙ mul-assoc _ (2 ^ k) 2
+              ∙ ap₂ (λ (i n : ℕ). packFrom 0 (maskBits (drop i m)) * n) (sym (add-one k)) power;
         }
 
 -- ── two tests, one after the other ──
@@ -140,7 +151,8 @@ mask-same f g e (none ∷ ws) = ap (λ (m : List Bool). false ∷ m) (mask-same 
 mask-same f g e (some w ∷ ws) = ap₂ (λ (b : Bool) (m : List Bool). b ∷ m) (e w) (mask-same f g e ws)
 
 -- before and after
-pub mask-either : (b a : Table) (c : Change) (s : Octets) (n : ℕ) → Mask (maskOf (λ w. hears b b c w || hears a a c w) (watchesOf s)) n → Mask (maskOf (hears b a c) (watchesOf s)) n
+pub mask-either : (b a : Table) (c : Change) (s : Octets) (n : ℕ) → Mask (maskOf (λ w. hears b b c w || hears a a c w) (watchesOf s)) n
+    → Mask (maskOf (hears b a c) (watchesOf s)) n
 mask-either b a c s n m = subst (λ (l : List Bool). Mask l n) (mask-same _ _ (hears-either b a c) (watchesOf s)) m
 
 nobody : (ws : Watches) → pack (maskBits (maskOf (λ w. false) ws)) ≡ 0
@@ -152,37 +164,40 @@ nobody (some w ∷ ws) = nobody ws
 pub mask-none : (s : Octets) → Mask (maskOf (λ w. false) (watchesOf s)) 0
 mask-none s = record { long = mask-long _ s; value = sym (nobody (watchesOf s)) }
 
-passes-beside : (f g : Watch → Bool) (m : Option Watch) → (passes f m || passes g m) ≡ passes (λ w. f w || g w) m
+passes-either : (f g : Watch → Bool) (m : Option Watch) → (passes f m || passes g m) ≡ passes (λ w. f w || g w) m
 unfolding passes
-passes-beside f g none = refl
-passes-beside f g (some w) = refl
+passes-either f g none = refl
+passes-either f g (some w) = refl
 
 -- the first k bits of who passes either test, and what is left of those that pass the first
-pub record Beside (g : Watch → Bool) (s : Octets) (heard mask rest k : ℕ) : Type 0 where
-  pub within : k ≤ 16
+pub record Either (g : Watch → Bool) (s : Octets) (heard mask rest k : ℕ) : Type 0 where
+  pub within : k ≤ mostWatches
   pub small : mask < 2 ^ k
-  pub bits : (f : Watch → Bool) → Mask (maskOf f (watchesOf s)) heard → Masked (maskOf (λ w. f w || g w) (watchesOf s)) k mask × Rest (maskOf f (watchesOf s)) k rest
+  pub bits : (f : Watch → Bool) → Mask (maskOf f (watchesOf s)) heard
+      → Masked (maskOf (λ w. f w || g w) (watchesOf s)) k mask × Rest (maskOf f (watchesOf s)) k rest
 
 module _ (g : Watch → Bool) (s : Octets) (heard : ℕ) where
-  pub beside-none : Beside g s heard 0 heard 0
-  beside-none = record { within = omega arith; small = lit< tt; bits = λ f m. (masked-none _, rest-all _ heard m) }
+  pub either-none : Either g s heard 0 heard 0
+  either-none = record { within = omega arith; small = lit< tt; bits = λ f m. (masked-none _, rest-all _ heard m) }
 
-  module _ (mask rest k : ℕ) (h : Beside g s heard mask rest k) where
-    pub beside-small : mask < 65536
-    beside-small = let p : 2 ^ k ≤ 2 ^ 16 = pow-le-pow-right (lit< tt) (h .within) in omega (arith, h .small)
+  module _ (mask rest k : ℕ) (h : Either g s heard mask rest k) where
+    pub either-small : mask < 65536
+    either-small = let p : 2 ^ k ≤ 2 ^ 16 = pow-le-pow-right (lit< tt) (h .within) in omega (arith, h .small)
 
-    pub beside-next : k < 16 → (on : Bool) → on ≡ (leb 32768 rest || passes g (getD (watchesOf s) k none)) → (r : ℕ) → r ≡ mask * 2 + bit on → Beside g s heard r (rest % 32768 * 2) (k + 1)
-    beside-next l on e r q =
+    pub either-next : k < mostWatches → (on : Bool) → on ≡ (leb 32768 rest || passes g (getD (watchesOf s) k none)) → (r : ℕ) → r ≡ mask * 2 + bit on
+        → Either g s heard r (rest % 32768 * 2) (k + 1)
+    either-next l on e r q =
         record {
           within = omega arith;
           small = rw (add-one, pow-suc) (omega (arith, h .small, bit-small on));
           bits = λ f m.
               let b = h .bits f m in
-              let was : leb 32768 rest ≡ passes f (getD (watchesOf s) k none) = rest-bit _ k rest (mask-long f s) l (b .1) ∙ sym (mask-at f (watchesOf s) k) in
+              let this = getD (watchesOf s) k none in
+              let was : leb 32768 rest ≡ passes f this = rest-bit _ k rest (mask-long f s) l (b .1) ∙ sym (mask-at f (watchesOf s) k) in
               let here : on ≡ getD (maskOf (λ w. f w || g w) (watchesOf s)) k false =
-              e ∙ ap (λ (x : Bool). x || passes g (getD (watchesOf s) k none)) was ∙ passes-beside f g (getD (watchesOf s) k none) ∙ mask-at (λ w. f w || g w) (watchesOf s) k in
+              e ∙ ap (λ (x : Bool). x || passes g this) was ∙ passes-either f g this ∙ mask-at (λ w. f w || g w) (watchesOf s) k in
               (masked-next _ k mask (b .0) (mask-long _ s) l on here r q, rest-next _ k rest (mask-long f s) l (b .1));
         }
 
-    pub beside-all : 16 ≤ k → (f : Watch → Bool) → Mask (maskOf f (watchesOf s)) heard → Mask (maskOf (λ w. f w || g w) (watchesOf s)) mask
-    beside-all l f m = masked-all _ k mask (h .bits f m .0) (mask-long _ s) l
+    pub either-all : mostWatches ≤ k → (f : Watch → Bool) → Mask (maskOf f (watchesOf s)) heard → Mask (maskOf (λ w. f w || g w) (watchesOf s)) mask
+    either-all l f m = masked-all _ k mask (h .bits f m .0) (mask-long _ s) l

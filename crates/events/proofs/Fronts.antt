@@ -13,11 +13,15 @@ module _ (at : ℕ) (ys before after : Octets) (n : ℕ) (p : Put at ys before a
   pub front-is : take n after ≡ take at before ++ ys
   unfolding paste
   front-is =
-      let e : length (take at before ++ ys) ≡ n = length-append (take at before) ys ∙ ap (λ (k : ℕ). k + length ys) (length-take-le at before (omega arith)) ∙ sym (p .behind) in
-      ap (take n) (p .bytes ∙ sym (append-assoc (take at before) ys (drop (at + length ys) before))) ∙ take-at (take at before ++ ys) (drop (at + length ys) before) n e
+      let front = take at before in
+      let rest = drop (at + length ys) before in
+      let e : length (front ++ ys) ≡ n = omega (arith, length-append front ys, length-take-le at before (omega arith), p .behind) in
+      ap (take n) (p .bytes ∙ sym (append-assoc front ys rest)) ∙ take-at (front ++ ys) rest n e
 
   pub front-within : n ≤ length after
-  front-within = let e : length after ≡ length before = ap length (p .bytes) ∙ length-paste at ys before h in omega (arith, p .behind)
+  front-within =
+      let e : length after ≡ length before = ap length (p .bytes) ∙ length-paste at ys before h in
+      omega (arith, p .behind)
 
   pub front-long : n ≡ length (take n after)
   front-long = sym (length-take-le n after front-within)

@@ -1,6 +1,6 @@
 -- Who hears a change: the rule of the rule book, test by test.
 use mathlib.Core.Path.{_≡_, refl, sym, ap, ap₂, _∙_}
-use mathlib.Core.Bool.{Bool, true, false, not, _&&_, _||_, or-self}
+use mathlib.Core.Bool.{Bool, true, false, not, _&&_, true≢false, or-self}
 use mathlib.Core.List.{[], _∷_}
 use mathlib.Core.Option.{Option, none, some}
 use Prim.Native.Nat.{ℕ, _≤_, _<_}
@@ -8,19 +8,18 @@ use native.Mathlib.Omega.{arith}
 use lib.ListN.{length, getD}
 use lib.Dec.{leb}
 use borrow.Author.Tests.{not-false}
-use Rattle.rules.specs.Size.{mostWatches, longestPath}
-use Rattle.rules.specs.Octets.{Octets, same, text}
+use Rattle.rules.specs.Size.{mostWatches, longestPath, longestAbsolute}
+use Rattle.rules.specs.Octets.{Octets, same, begins, text}
 use Rattle.rules.specs.Entries.{isEmpty}
 use Rattle.rules.specs.Domain.{Domain, domainOf}
-use Rattle.rules.specs.Path.{Names, isFull, namesIn, slashed, pathText, beyond, special, given, introduceName, releaseName}
+use Rattle.rules.specs.Path.{Names, isFull, namesIn, slashed, pathText, beyond, introduceName, releaseName}
 use Rattle.rules.specs.Node.{Table, nodeAt}
 use Rattle.rules.specs.Rights.{mayRead, readable}
 use Rattle.rules.specs.Payload.{Place, path, event}
 use Rattle.rules.specs.Answer.{Change}
 use Rattle.rules.specs.Event.{Watch, placeText, deepEnough, mayHear, hearsAt, hears, isEvent}
 use Rattle.rules.specs.Layout.{tableOf, watchesOf}
-use Rattle.rules.proofs.Compare.{same-eq}
-use Rattle.rules.proofs.PathLaws.{given-event, text-names, text-full}
+use Rattle.rules.proofs.PathLaws.{text-names, text-full}
 use Rattle.rules.proofs.EntryLayouts.{PlaceFits}
 use Rattle.rules.proofs.DecodedEntries.{watch-decoded}
 use Rattle.paths.specs.Relation.{levelsOf}
@@ -31,11 +30,12 @@ use Rattle.lookup.proofs.ReachLaws.{left-first}
 use Rattle.watches.specs.declared.Depth.{Depth}
 use Rattle.watches.specs.declared.Depth.the-variants.{To, Any}
 use Rattle.domains.specs.Entry.{taken, passes}
-use Rattle.watches.specs.Watch.{KeptWatches, depthMeant, nobody, watchOf, TakenWatch, watchGiven}
+use Rattle.watches.specs.Watch.{KeptWatches, depthMeant, nobody, watchOf, TakenWatch}
 use Rattle.domains.proofs.Search.{passes-taken}
 use Rattle.watches.proofs.Laws.{is-read}
 use Rattle.watches.proofs.Bytes.{read-narrow}
 use Rattle.events.specs.Stores.{hearsAbove, eventName}
+use Rattle.events.proofs.PlaceLaws.{path-slash, event-slash}
 
 -- ── rights ──
 
@@ -75,10 +75,10 @@ unfolding levelsOf
 levelled none n e = let z : _≡_ {A = ℕ} 0 1 = cc in absurd (omega arith)
 levelled (some rest) n e = record { rest = rest; found = refl; levels = cc }
 
-beside-none : (m : Option Names) → levelsOf m ≡ Not → m ≡ none
+not-beyond : (m : Option Names) → levelsOf m ≡ Not → m ≡ none
 unfolding levelsOf
-beside-none none e = refl
-beside-none (some rest) e = let z : _≡_ {A = ℕ} 0 1 = cc in absurd (omega arith)
+not-beyond none e = refl
+not-beyond (some rest) e = let z : _≡_ {A = ℕ} 0 1 = cc in absurd (omega arith)
 
 module _ (b a : Table) (d : Domain) (own names : Names) (removed : Bool) where
   abbrev aboveBy : Option Names → Bool
@@ -98,7 +98,7 @@ module _ (b a : Table) (d : Domain) (own names : Names) (removed : Bool) where
 
   pub above-other : levelsOf (beyond names own) ≡ Not → false ≡ hearsAbove b a d own names removed
   unfolding hearsAbove
-  above-other l = sym (ap aboveBy (beside-none _ l))
+  above-other l = sym (ap aboveBy (not-beyond _ l))
 
 module _ (b a : Table) (w : Watch) (own : Names) (c : Change) {d : Domain} {m : Option ℕ} (o : d ≡ domainOf (w .owner)) (e : m ≡ w .depth) where
   abbrev atBy : Domain → Option ℕ → Option Names → Bool
@@ -119,22 +119,9 @@ module _ (b a : Table) (w : Watch) (own : Names) (c : Change) {d : Domain} {m : 
   within-depth n l k = let f = levelled _ n l in sym (at-is _ (f .found) ∙ rw (← f .levels, k))
 
   pub not-below : levelsOf (beyond own (c .names)) ≡ Not → hearsAbove b a d own (c .names) (c .removal) ≡ hearsAt b a w own c
-  not-below l = sym (at-is _ (beside-none _ l))
+  not-below l = sym (at-is _ (not-beyond _ l))
 
 -- ── a watch's place ──
-
-slash-first : (ns : Names) → (0 < length (pathText ns)) × (getD (pathText ns) 0 0 ≡ 47)
-unfolding pathText slashed
-slash-first [] = (omega arith, refl)
-slash-first (n ∷ ns) = (omega arith, refl)
-
-event-first : (e : Octets) → given e ≡ special e → getD e 0 0 ≡ 64
-unfolding introduceName releaseName text
-event-first e h = go (same e introduceName) refl (given-event e e h .named)
-  where
-    go : (x : Bool) → same e introduceName ≡ x → (x || same e releaseName) ≡ true → getD e 0 0 ≡ 64
-    go true p q = ap (λ (l : Octets). getD l 0 0) (same-eq e introduceName p)
-    go false p q = ap (λ (l : Octets). getD l 0 0) (same-eq e releaseName q)
 
 no-event : (x : Bool) (ns : Names) → same (eventName x) (pathText ns) ≡ false
 unfolding eventName releaseName introduceName text pathText slashed same
@@ -143,7 +130,8 @@ no-event true (n ∷ ns) = refl
 no-event false [] = refl
 no-event false (n ∷ ns) = refl
 
-pub taken-here : {s : Octets} {k : ℕ} → k < mostWatches → KeptWatches s → {u : Bool} → u ≡ taken (getD (watchesOf s) k none) → not u ≡ false → TakenWatch s k
+pub taken-here : {s : Octets} {k : ℕ} → k < mostWatches → KeptWatches s → {u : Bool} → u ≡ taken (getD (watchesOf s) k none) → not u ≡ false
+    → TakenWatch s k
 taken-here h w {u} e f = record { below = h; kept = w; used = sym e ∙ not-false u f }
 
 module _ (s : Octets) (k : ℕ) (h : TakenWatch s k) (own : Octets) (o : own ≡ placeText (watchOf s k .place)) where
@@ -162,21 +150,24 @@ module _ (s : Octets) (k : ℕ) (h : TakenWatch s k) (own : Octets) (o : own ≡
     pub full : isFull own ≡ true
     pub place : w .place ≡ path relative (namesIn own)
 
-  pub on-path : (length own ≡ 0 → ⊥) → getD own 0 0 ≡ 47 → OnPath
-  unfolding placeText
-  on-path l f = go (w .place) refl place-fits
+  pub on-path : begins (47 ∷ []) own ≡ true → OnPath
+  unfolding placeText begins
+  on-path f = go (w .place) refl place-fits
     where
       go : (p : Place) → w .place ≡ p → ((p ≡ event [] → ⊥) → PlaceFits p) → OnPath
       go (path r ns) e g =
           let q = g (λ z. let y : _≡_ {A = ℕ} 0 1 = cc in omega arith) in
-          let short : length (pathText ns) ≤ 3072 = omega (arith, q .1) in
+          let short : length (pathText ns) ≤ longestAbsolute = omega (arith, q .1) in
           let t : own ≡ pathText ns = o ∙ ap placeText e in
-          record { relative = r; full = rw t (text-full ns (q .0) short); place = e ∙ ap (path r) (sym (ap namesIn t ∙ text-names ns (q .0) short)) }
+          record {
+            relative = r;
+            full = rw t (text-full ns (q .0) short);
+            place = e ∙ ap (path r) (sym (ap namesIn t ∙ text-names ns (q .0) short));
+          }
       go (event x) e g =
-          let t : own ≡ x = o ∙ ap placeText e in
-          let q = g (λ z. l (ap length (o ∙ ap placeText (e ∙ z)))) in
-          let y = event-first x (q .0) in
-          absurd (omega (arith, y, rw t at f))
+          let first : begins (47 ∷ []) x ≡ true = sym (ap (begins (47 ∷ [])) (o ∙ ap placeText e)) ∙ f in
+          let q = g (λ z. true≢false (sym first ∙ ap (λ (p : Place). begins (47 ∷ []) (placeText p)) z)) in
+          absurd (true≢false (sym first ∙ event-slash x (q .0)))
 
   module _ (b a : Table) (c : Change) where
     abbrev hearsBy : Place → Bool
@@ -186,12 +177,12 @@ module _ (s : Octets) (k : ℕ) (h : TakenWatch s k) (own : Octets) (o : own ≡
     here = sym (passes-taken (hears b a c) nobody (getD (watchesOf s) k none) (h .used))
 
     -- an event's name begins with no slash
-    pub deaf : ((0 < length own) × (getD own 0 0 ≡ 47) → ⊥) → false ≡ passes (hears b a c) (getD (watchesOf s) k none)
+    pub deaf : begins (47 ∷ []) own ≡ false → false ≡ passes (hears b a c) (getD (watchesOf s) k none)
     unfolding hears placeText
     deaf f = go (w .place) refl ∙ here
       where
         go : (p : Place) → w .place ≡ p → false ≡ hearsBy p
-        go (path r ns) e = absurd (f (rw (o ∙ ap placeText e) (slash-first ns)))
+        go (path r ns) e = absurd (true≢false (sym (path-slash ns) ∙ sym (ap (begins (47 ∷ [])) (o ∙ ap placeText e)) ∙ f))
         go (event x) e = refl
 
     pub hears-so : OnPath → hearsAt b a w (namesIn own) c ≡ passes (hears b a c) (getD (watchesOf s) k none)
@@ -203,6 +194,7 @@ module _ (s : Octets) (k : ℕ) (h : TakenWatch s k) (own : Octets) (o : own ≡
   unfolding isEvent placeText
   event-hears released = go (w .place) refl ∙ sym (passes-taken (isEvent (eventName released)) nobody (getD (watchesOf s) k none) (h .used))
     where
-      go : (p : Place) → w .place ≡ p → same (eventName released) own ≡ (elim p as (λ p. Bool) [ path r ns ↦ false | event f ↦ same (eventName released) f ])
+      go : (p : Place) → w .place ≡ p
+          → same (eventName released) own ≡ (elim p as (λ p. Bool) [ path r ns ↦ false | event f ↦ same (eventName released) f ])
       go (path r ns) e = ap (same (eventName released)) (o ∙ ap placeText e) ∙ no-event released ns
       go (event x) e = ap (same (eventName released)) (o ∙ ap placeText e)

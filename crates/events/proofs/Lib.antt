@@ -1,3 +1,4 @@
+pub mod PlaceLaws
 pub mod HearingLaws
 pub mod MaskLaws
 pub mod EitherLaws
@@ -5,3 +6,7 @@ pub mod RecordLaws
 pub mod Fronts
 pub mod SlotPaths
 pub mod ChangeLaws
+pub mod WatchLaws
+pub mod ReportLaws
+pub mod PutLaws
+pub mod DueLaws

@@ -10,6 +10,7 @@ use native.Mathlib.Omega.{arith}
 use lib.Dec.{eqb, lit<}
 use lib.ListN.{length, getD, take}
 use lib.Seq.{take-suc, take-all}
+use Rattle.rules.specs.Size.{mostWatches}
 use Rattle.rules.specs.Octets.{Octets, Bits, _bits_, pack, packFrom, bit}
 use Rattle.rules.specs.Event.{Watch, Watches, maskOf, anyBit, onlyFrom}
 use Rattle.rules.specs.Layout.{maskBits, watchesOf}
@@ -36,7 +37,7 @@ number-next m b = ap (packFrom 0) (bits-append m (b ∷ [])) ∙ pack-append 0 (
 
 -- the first k bits of a mask make a number
 pub record Masked (m : List Bool) (k number : ℕ) : Type 0 where
-  pub within : k ≤ 16
+  pub within : k ≤ mostWatches
   pub small : number < 2 ^ k
   pub value : number ≡ pack (maskBits (take k m))
 
@@ -49,7 +50,7 @@ module _ (m : List Bool) where
     pub masked-small : n < 65536
     masked-small = let p : 2 ^ k ≤ 2 ^ 16 = pow-le-pow-right (lit< tt) (f .within) in omega (arith, f .small)
 
-    pub masked-next : length m ≡ 16 → k < 16 → (b : Bool) → b ≡ getD m k false → (r : ℕ) → r ≡ n * 2 + bit b → Masked m (k + 1) r
+    pub masked-next : length m ≡ mostWatches → k < mostWatches → (b : Bool) → b ≡ getD m k false → (r : ℕ) → r ≡ n * 2 + bit b → Masked m (k + 1) r
     masked-next l h b e r q =
         record {
           within = omega arith;
@@ -61,7 +62,7 @@ module _ (m : List Bool) where
               ∙ ap (λ (x : List Bool). pack (maskBits x)) (sym (ap (λ (j : ℕ). take j m) (add-one k) ∙ take-suc m k false (omega arith)));
         }
 
-    pub masked-all : length m ≡ 16 → 16 ≤ k → Mask m n
+    pub masked-all : length m ≡ mostWatches → mostWatches ≤ k → Mask m n
     masked-all l h = record { long = l; value = f .value ∙ ap (λ (x : List Bool). pack (maskBits x)) (take-all k m (omega arith)) }
 
 -- ── which bits there are ──
@@ -81,7 +82,7 @@ module _ (f : Watch → Bool) where
   mask-at (none ∷ ws) (suc k) = mask-at ws k
   mask-at (some w ∷ ws) (suc k) = mask-at ws k
 
-pub mask-long : (f : Watch → Bool) (s : Octets) → length (maskOf f (watchesOf s)) ≡ 16
+pub mask-long : (f : Watch → Bool) (s : Octets) → length (maskOf f (watchesOf s)) ≡ mostWatches
 mask-long f s = length-mask f (watchesOf s) ∙ length-watchesOf s
 
 length-only : (k i : ℕ) (ws : Watches) → length (onlyFrom k i ws) ≡ length ws
@@ -89,7 +90,7 @@ unfolding onlyFrom
 length-only k i [] = refl
 length-only k i (w ∷ ws) = ap suc (length-only k (suc i) ws)
 
-pub only-long : (k : ℕ) (s : Octets) → length (onlyFrom k 0 (watchesOf s)) ≡ 16
+pub only-long : (k : ℕ) (s : Octets) → length (onlyFrom k 0 (watchesOf s)) ≡ mostWatches
 only-long k s = length-only k 0 (watchesOf s) ∙ length-watchesOf s
 
 only-from : (k i : ℕ) (ws : Watches) (j : ℕ) → j < length ws → eqb k (i + j) ≡ getD (onlyFrom k i ws) j false
@@ -98,7 +99,7 @@ only-from k i [] j h = absurd (not-suc-le-zero h)
 only-from k i (w ∷ ws) zero h = ap (eqb k) (add-zero i)
 only-from k i (w ∷ ws) (suc j) h = ap (eqb k) (let e : i + suc j ≡ suc i + j = omega arith in e) ∙ only-from k (suc i) ws j (le-of-suc-le-suc h)
 
-pub only-at : (k : ℕ) (s : Octets) (j : ℕ) → j < 16 → eqb k j ≡ getD (onlyFrom k 0 (watchesOf s)) j false
+pub only-at : (k : ℕ) (s : Octets) (j : ℕ) → j < mostWatches → eqb k j ≡ getD (onlyFrom k 0 (watchesOf s)) j false
 only-at k s j h = ap (eqb k) (let e : j ≡ 0 + j = omega arith in e) ∙ only-from k 0 (watchesOf s) j (omega (arith, length-watchesOf s))
 
 -- ── whether there is a bit ──

@@ -16,7 +16,7 @@ ghost use Rattle.events.specs.Records.{Recorded, Room, Mask};
 ghost use Rattle.events.specs.Stores.{Store, Stores, removalOf};
 use crate::masks::in_store;
 use crate::masks::of_change_since;
-use crate::records::keep;
+use crate::record::keep;
 use octets::sizes::LONGEST_PATH;
 use soundness::chain::path_of;
 use transactions::places::path;
@@ -34,8 +34,8 @@ pub fn change_since(
     events: &mut [u8],
 ) -> usize
     requires { ⌜ Store (now after) (now watches) × (isFull (now changed) ≡ true) × (length (now changed) ≤ longestPath) × Room (now events) n 1 ⌝ }
-    ensures { λ r. ⌜ ((before : Table) → Mask (maskOf (hears before before (changeGiven removed (now (changed .entry)))) (watchesOf (now (watches .entry))))
-        heard →
+    ensures { λ r. ⌜ ((before : Table) →
+        Mask (maskOf (hears before before (changeGiven removed (now (changed .entry)))) (watchesOf (now (watches .entry)))) heard →
         Recorded n (heardChange before (tableOf (now (after .entry))) (watchesOf (now (watches .entry))) (changeGiven removed (now (changed .entry))))
         (now (events .entry)) (now (events .exit)) r) ⌝ }
 {

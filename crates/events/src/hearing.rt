@@ -17,6 +17,7 @@ ghost use Rattle.transactions.specs.Transaction.{changeGiven};
 ghost use Rattle.events.specs.Stores.{Store, hearsAbove};
 use lookup::reach::reach;
 use lookup::rights::may_read;
+use octets::compare::begins;
 use paths::answer::Beyond;
 use paths::relation::beyond;
 use watches::Depth;
@@ -88,10 +89,7 @@ pub fn hears(t: &[u8], watches: &[u8], k: usize, changed: &[u8], removed: bool) 
         return false;
     }
     let own = path(watches, k);
-    if own.len() == 0 {
-        return false;
-    }
-    if own[0] != b'/' {
+    if !begins(b"/", own) {
         return false;
     }
     hears_on(

@@ -34,7 +34,7 @@ fn with_bit(mask: u32, on: bool) -> u32
 }
 
 // Whether place k has a watch that heard a change already, by the highest of 16 bits, or hears it in a store.
-fn hears_beside(
+fn heard_or_hears_at(
     heard: u32,
     t: &[u8],
     watches: &[u8],
@@ -54,7 +54,7 @@ fn hears_beside(
 }
 
 // Those that heard a change of a full path already, and those that hear it in a store.
-fn beside(heard: u32, t: &[u8], watches: &[u8], changed: &[u8], removed: bool) -> u32
+fn heard_or_hears(heard: u32, t: &[u8], watches: &[u8], changed: &[u8], removed: bool) -> u32
     requires { ⌜ Store (now t) (now watches) × (isFull (now changed) ≡ true) ⌝ }
     ensures { λ r. ⌜ ((f : Watch → Bool) → Mask (maskOf f (watchesOf (now (watches .entry)))) heard →
         Mask (maskOf (λ w. f w || hears (tableOf (now (t .entry))) (tableOf (now (t .entry))) (changeGiven removed (now (changed .entry))) w)
@@ -64,7 +64,10 @@ fn beside(heard: u32, t: &[u8], watches: &[u8], changed: &[u8], removed: bool) -
     let mut rest = heard;
     let mut k = 0;
     while k < WATCHES {
-        mask = with_bit(mask, hears_beside(rest, t, watches, k, changed, removed));
+        mask = with_bit(
+            mask,
+            heard_or_hears_at(rest, t, watches, k, changed, removed),
+        );
         rest = rest % 32768 * 2;
         k += 1;
     }
@@ -77,7 +80,7 @@ pub fn in_store(t: &[u8], watches: &[u8], changed: &[u8], removed: bool) -> u32
     ensures { λ r. ⌜ Mask (maskOf (hears (tableOf (now (t .entry))) (tableOf (now (t .entry))) (changeGiven removed (now (changed .entry))))
         (watchesOf (now (watches .entry)))) r ⌝ }
 {
-    beside(0, t, watches, changed, removed)
+    heard_or_hears(0, t, watches, changed, removed)
 }
 
 // Those that hear a change of a full path, given those that hear it in the store as it was before.
@@ -89,11 +92,11 @@ pub fn of_change_since(
     removed: bool,
 ) -> u32
     requires { ⌜ Store (now after) (now watches) × (isFull (now changed) ≡ true) ⌝ }
-    ensures { λ r. ⌜ ((before : Table) → Mask (maskOf (hears before before (changeGiven removed (now (changed .entry)))) (watchesOf (now (watches .entry))))
-        heard →
+    ensures { λ r. ⌜ ((before : Table) →
+        Mask (maskOf (hears before before (changeGiven removed (now (changed .entry)))) (watchesOf (now (watches .entry)))) heard →
         Mask (maskOf (hears before (tableOf (now (after .entry))) (changeGiven removed (now (changed .entry)))) (watchesOf (now (watches .entry)))) r) ⌝ }
 {
-    beside(heard, after, watches, changed, removed)
+    heard_or_hears(heard, after, watches, changed, removed)
 }
 
 // Whether place k has a watch on the event of a release, or of an introduction.
@@ -126,7 +129,7 @@ pub fn of_event(watches: &[u8], released: bool) -> u32
 }
 
 // That in place k alone.
-pub fn only(watches: &[u8], k: usize) -> u32
+pub fn one_watch(watches: &[u8], k: usize) -> u32
     ensures { λ r. ⌜ Mask (onlyFrom k 0 (watchesOf (now (watches .entry)))) r ⌝ }
 {
     let mut mask: u32 = 0;

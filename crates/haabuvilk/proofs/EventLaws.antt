@@ -13,8 +13,8 @@ use Rattle.rules.specs.Sound.{soundDomains, soundWatches}
 use Rattle.rules.specs.Call.{callNumber}
 use Rattle.rules.specs.Message.{messageOf, refusedWith, sent, sizedMessage, eventCall}
 use Rattle.rules.proofs.Compare.{both-true}
-use Rattle.message.specs.Asked.{sentAs, sentOver}
-use Rattle.message.specs.declared.Sent.{Sent}
+use Rattle.events.specs.Messages.{sentAs, sentOver}
+use Rattle.events.specs.declared.Sent.{Sent}
 use Rattle.haabuvilk.specs.Lent.{messaged, MessageMeets}
 
 module _ (watches domains events message : Octets) where

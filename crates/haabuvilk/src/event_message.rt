@@ -2,7 +2,7 @@
 ghost use Rattle.haabuvilk.specs.Lent.{messaged, MessageMeets};
 use crate::sizes::sized_message;
 use domains::checks::sound_domains;
-use message::Sent;
+use events::Sent;
 use watches::checks::sound_watches;
 
 // Puts the event message to the front of the lent buffer, and answers 0; or 1, 2 or 6 with the buffer unaltered.
@@ -30,7 +30,7 @@ pub extern "C" fn haabuvilk_event_message<'a>(
     if !sound_watches(watches, domains) {
         return 2;
     }
-    match message::message::message(watches, events, event_count, record, watch, message) {
+    match events::message::message(watches, events, event_count, record, watch, message) {
         Sent::Message(n) => {
             *message_length = n;
             0

@@ -1,3 +1,4 @@
+-- The text that was put is the path of the slot, so the change that is recorded is the removal of its node.
 use mathlib.Core.Path.{sym, ap, _∙_}
 use borrow.Author.Needs.{needs}
 use Rattle.rules.specs.Size.{longestPath}
@@ -15,24 +16,36 @@ path-of-requires : tie.Need-path-of-requires
 path-of-requires c κs = search needs
 
 array-share-prefix-text : tie.Need-array-share-prefix-text
-array-share-prefix-text c = front-within 0 _ _ _ _ (c .before .path-of .ensures) (slot-within _ _ (c .before .before .before .before .before .before .before .pre .1))
+array-share-prefix-text c =
+    let at-path = c .before in
+    let start = at-path .before .before .before .before .before .before in
+    front-within 0 _ _ _ _ (at-path .path-of .ensures) (slot-within _ _ (start .pre .1))
 
 slice-aggregate-change : tie.Need-slice-aggregate-change
-slice-aggregate-change c = front-long 0 _ _ _ _ (c .before .before .path-of .ensures) (slot-within _ _ (c .before .before .before .before .before .before .before .before .pre .1))
+slice-aggregate-change c =
+    let at-path = c .before .before in
+    let start = at-path .before .before .before .before .before .before in
+    front-long 0 _ _ _ _ (at-path .path-of .ensures) (slot-within _ _ (start .pre .1))
 
 change-requires : tie.Need-change-requires
 change-requires c κs =
-    let b = c .before .before .before .before .before .before .before .before .before in
-    let w = slot-within _ _ (b .pre .1) in
-    (b .pre .0, ap isFull (front-is 0 _ _ _ _ (c .before .before .before .path-of .ensures) w) ∙ slot-full _ _ (b .pre .1), front-short 0 _ _ _ _ (c .before .before .before .path-of .ensures) w longestPath w, b .pre .2)
+    let at-path = c .before .before .before in
+    let start = at-path .before .before .before .before .before .before in
+    let put = at-path .path-of .ensures in
+    let within = slot-within _ _ (start .pre .1) in
+    let full = ap isFull (front-is 0 _ _ _ _ put within) ∙ slot-full _ _ (start .pre .1) in
+    (start .pre .0, full, front-short 0 _ _ _ _ put within longestPath within, start .pre .2)
 
 same-length : tie.Need-same-length
 same-length c = search needs
 
 returns : tie.Need-returns
 returns c =
-    let b = c .before .before .before .before .before .before .before .before .before .before .before .before in
-    rw (sym (removal-given _ _ (b .pre .1) _ (front-is 0 _ _ _ _ (c .before .before .before .before .before .before .path-of .ensures) (slot-within _ _ (b .pre .1))))) (c .before .before .change .ensures)
+    let at-change = c .before .before in
+    let at-path = at-change .before .before .before .before in
+    let start = at-path .before .before .before .before .before .before in
+    let text = front-is 0 _ _ _ _ (at-path .path-of .ensures) (slot-within _ _ (start .pre .1)) in
+    rw (sym (removal-given _ _ (start .pre .1) _ text)) (at-change .change .ensures)
 
 pub removal-spec : {M : Type 1} → statement M
 removal-spec =

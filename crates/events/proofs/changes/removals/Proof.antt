@@ -1,3 +1,4 @@
+-- After i turns the records are those of the first i removals; there are no more removals than places for records.
 use mathlib.Core.List.{map}
 use Prim.Native.Nat.{_-_}
 use native.Mathlib.Omega.{arith}
@@ -10,13 +11,14 @@ use Rattle.events.proofs.changes.removals.Statement.{statement}
 use Rattle.events.proofs.changes.removals.Tie as tie
 
 abbrev Inv-loop : tie.InvT-loop
-Inv-loop before after watches list count events₀ n₀ i₀ events n i = Entered (tableOf before) (tableOf after) (watchesOf watches) (map (removalOf (tableOf before)) (take count list)) events₀ events i n
+Inv-loop before after watches list count events₀ n₀ i₀ events n i =
+    Entered (tableOf before) (tableOf after) (watchesOf watches) (map (removalOf (tableOf before)) (take count list)) events₀ events i n
 
 abbrev μ-loop : tie.MeasureT-loop
 μ-loop before after watches list count events₀ n₀ i₀ events n i = count - i
 
 loop-holds : tie.Need-loop-holds Inv-loop μ-loop
-loop-holds c = entered-none _ _ _ _ _ (c .before .before .before .before .before .pre .4)
+loop-holds c = let start = c .before .before .before .before .before in entered-none _ _ _ _ _ (start .pre .4)
 
 shared-slice-read-removal : tie.Need-shared-slice-read-removal Inv-loop μ-loop
 shared-slice-read-removal c = omega arith
@@ -26,8 +28,11 @@ cast-removal c = omega (arith, c .shared-slice-known5 .given (c .before .before 
 
 removal-requires : tie.Need-removal-requires Inv-loop μ-loop
 removal-requires c κs =
-    let b = c .before .before .before .before .before .before .before .before .before in
-    (b .pre .0, listed _ _ _ _ (b .pre .3) (c .before .before .loop-test .taken) (b .pre .1), entered-room _ _ _ _ _ _ _ _ (c .before .before .before .loop .inv) (omega arith))
+    let at-test = c .before .before in
+    let at-loop = at-test .before in
+    let start = at-loop .before .before .before .before .before .before in
+    let asked = listed _ _ _ _ (start .pre .3) (at-test .loop-test .taken) (start .pre .1) in
+    (start .pre .0, asked, entered-room _ _ _ _ _ _ _ _ (at-loop .loop .inv) (omega arith))
 
 add-i : tie.Need-add-i Inv-loop μ-loop
 add-i c = omega arith
@@ -37,15 +42,26 @@ loop-less c = omega arith
 
 loop-again : tie.Need-loop-again Inv-loop μ-loop
 loop-again c =
-    let h = c .before .before .before .before .before .loop-test .taken in
-    let l = c .before .before .before .before .before .before .before .before .before .before .before .before .pre .1 in
-    entered-next _ _ _ _ _ _ _ _ (c .before .before .before .before .before .before .loop .inv) (rw (removals-length _ _ _ l) h) (omega arith) _ _ (removal-at _ _ _ l _ h) _ _ (c .before .before .removal .ensures)
+    let at-removal = c .before .before in
+    let at-test = at-removal .before .before .before in
+    let at-loop = at-test .before in
+    let start = at-loop .before .before .before .before .before .before in
+    let h = at-test .loop-test .taken in
+    let long = start .pre .1 in
+    entered-next _ _ _ _ _ _ _ _ (at-loop .loop .inv) (rw (removals-length _ _ _ long) h) (omega arith) _ _
+    (removal-at _ _ _ long _ h) _ _ (at-removal .removal .ensures)
 
 same-length : tie.Need-same-length Inv-loop μ-loop
-same-length c = omega (arith, c .before .loop .inv .long, c .before .before .before .before .before .before .before .pre .4)
+same-length c =
+    let at-loop = c .before in
+    let start = at-loop .before .before .before .before .before .before in
+    omega (arith, at-loop .loop .inv .long, start .pre .4)
 
 returns : tie.Need-returns Inv-loop μ-loop
-returns c = entered-all _ _ _ _ _ _ _ _ (c .before .loop .inv) (rw (removals-length _ _ _ (c .before .before .before .before .before .before .before .pre .1)) (c .loop-test .left))
+returns c =
+    let at-loop = c .before in
+    let start = at-loop .before .before .before .before .before .before in
+    entered-all _ _ _ _ _ _ _ _ (at-loop .loop .inv) (rw (removals-length _ _ _ (start .pre .1)) (c .loop-test .left))
 
 pub removals-spec : {M : Type 1} → statement M
 removals-spec =

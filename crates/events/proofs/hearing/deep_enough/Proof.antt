@@ -1,3 +1,4 @@
+-- The two cases of a depth are those of the rule.
 use borrow.Author.Needs.{needs}
 use Rattle.events.proofs.HearingLaws.{depth-to, depth-any}
 use Rattle.events.proofs.hearing.deep_enough.Statement.{statement}

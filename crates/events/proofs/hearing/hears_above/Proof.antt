@@ -1,3 +1,4 @@
+-- A removed path that is above the watch's own is heard if the owner may read the watch's own; any other is not.
 use mathlib.Core.Path.{sym, _∙_}
 use borrow.Author.Tests.{not-true, not-false}
 use borrow.Author.Needs.{needs}
@@ -21,7 +22,10 @@ enum-told-2 : tie.Need-enum-told-2
 enum-told-2 c = search needs
 
 returns-2 : tie.Need-returns-2
-returns-2 c = c .readable .ensures ∙ hear-once _ _ _ ∙ above-removed _ _ _ _ _ _ (not-false _ (c .before .before .before .before .if1 .left)) _ (sym (c .before .before .before .beyond .ensures) ∙ c .before .enum-told .given .1)
+returns-2 c =
+    let at-beyond = c .before .before .before in
+    let above = sym (at-beyond .beyond .ensures) ∙ c .before .enum-told .given .1 in
+    c .readable .ensures ∙ hear-once _ _ _ ∙ above-removed _ _ _ _ _ _ (not-false _ (at-beyond .before .if1 .left)) _ above
 
 returns-3 : tie.Need-returns-3
 returns-3 c = above-other _ _ _ _ _ _ (sym (c .before .before .beyond .ensures) ∙ c .enum-told2 .given .1)

@@ -1,13 +1,14 @@
+-- Who hears a change hears it in the store before it or in the store after it.
 use Rattle.events.proofs.EitherLaws.{mask-either}
 use borrow.Author.Needs.{needs}
 use Rattle.events.proofs.masks.of_change_since.Statement.{statement}
 use Rattle.events.proofs.masks.of_change_since.Tie as tie
 
-beside-requires : tie.Need-beside-requires
-beside-requires c κs = search needs
+heard-or-hears-requires : tie.Need-heard-or-hears-requires
+heard-or-hears-requires c κs = search needs
 
 returns : tie.Need-returns
-returns c = λ before m. mask-either before _ _ _ _ (c .beside .ensures _ m)
+returns c = λ before m. mask-either before _ _ _ _ (c .heard-or-hears .ensures _ m)
 
 pub of-change-since-spec : {M : Type 1} → statement M
-of-change-since-spec = tie.close (tie.spec beside-requires returns)
+of-change-since-spec = tie.close (tie.spec heard-or-hears-requires returns)

@@ -1,6 +1,8 @@
+-- After k turns the number has the first k bits of the mask.
 use mathlib.Core.Path.{_∙_}
 use Prim.Native.Nat.{_-_}
 use native.Mathlib.Omega.{arith}
+use Rattle.rules.specs.Size.{mostWatches}
 use Rattle.rules.specs.Layout.{watchesOf}
 use Rattle.rules.specs.Event.{isEvent, maskOf}
 use Rattle.events.specs.Stores.{eventName}
@@ -12,7 +14,7 @@ abbrev Inv-loop : tie.InvT-loop
 Inv-loop watches released mask₀ k₀ mask k = Masked (maskOf (isEvent (eventName released)) (watchesOf watches)) k mask
 
 abbrev μ-loop : tie.MeasureT-loop
-μ-loop watches released mask₀ k₀ mask k = 16 - k
+μ-loop watches released mask₀ k₀ mask k = mostWatches - k
 
 loop-holds : tie.Need-loop-holds Inv-loop μ-loop
 loop-holds c = masked-none _
@@ -30,7 +32,11 @@ loop-less : tie.Need-loop-less Inv-loop μ-loop
 loop-less c = omega arith
 
 loop-again : tie.Need-loop-again Inv-loop μ-loop
-loop-again c = masked-next _ _ _ (c .before .before .before .loop .inv) (mask-long _ _) (c .before .before .loop-test .taken) _ (c .before .is-event .ensures ∙ mask-at _ _ _) _ (c .with-bit .ensures)
+loop-again c =
+    let at-event = c .before in
+    let at-test = at-event .before in
+    masked-next _ _ _ (at-test .before .loop .inv) (mask-long _ _) (at-test .loop-test .taken) _ (at-event .is-event .ensures ∙ mask-at _ _ _) _
+    (c .with-bit .ensures)
 
 returns : tie.Need-returns Inv-loop μ-loop
 returns c = masked-all _ _ _ (c .before .loop .inv) (mask-long _ _) (c .loop-test .left)

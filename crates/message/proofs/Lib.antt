@@ -1,5 +1,0 @@
-pub mod RecordLaws
-pub mod WatchLaws
-pub mod ReportLaws
-pub mod PutLaws
-pub mod DueLaws
