@@ -15,7 +15,7 @@ use domains::changes::remove;
 use domains::places::introduced;
 use domains::places::lowest_free;
 use events::changes::removals;
-use events::others::of_domain;
+use events::domain_events::of_domain;
 use lookup::owned::owned;
 use making::removing::remove_all;
 use octets::parts::copy;

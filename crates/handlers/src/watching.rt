@@ -15,7 +15,7 @@ ghost use Rattle.transactions.specs.Transaction.{KeptTransactions};
 ghost use Rattle.replies.specs.Does.{lent, Does};
 ghost use Rattle.domains.specs.Entry.{entryOr};
 ghost use Rattle.handlers.specs.Watching.{PlacedAs, NamedSo};
-use events::others::first;
+use events::domain_events::first;
 use octets::sizes::LONGEST_TOKEN;
 use octets::sizes::WATCHES;
 use paths::names::fits;
