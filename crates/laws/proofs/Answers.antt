@@ -12,10 +12,9 @@ use Rattle.rules.specs.Path.{Domain, Names}
 use Rattle.rules.specs.Node.{Table, Reached, nodeAt, reach, children}
 use Rattle.rules.specs.Rights.{mayRead, mayWrite}
 use Rattle.rules.specs.Payload.{Ask, directory, read, getPerms, write, mkdir, rm, setPerms}
-use Rattle.rules.specs.Answer.{
-  EINVAL, EACCES, EEXIST, ENOENT, ENOSPC, E2BIG, EAGAIN, ENOSYS, Reply, done, refused, OK, Answer, permissions, nameList, listing, listed, unchanged,
-  changed, absent, looked, room, created, written, directoryMade, taken, maySet, permitted, answered, answer,
-}
+use Rattle.rules.specs.Answer.{EINVAL, EACCES, EEXIST, ENOENT, ENOSPC, E2BIG, EAGAIN, ENOSYS, Reply, done, refused, OK, Answer, permissions, nameList}
+use Rattle.rules.specs.Answer.{listing, listed, unchanged, changed, absent, looked, room, created, written, directoryMade, taken, maySet, permitted}
+use Rattle.rules.specs.Answer.{answered, answer}
 use Rattle.rules.proofs.Cases.{cond-case}
 use Rattle.laws.specs.History.{succeeds, isThere, alters}
 

@@ -9,9 +9,8 @@ use Rattle.rules.specs.Layout.{Transaction}
 use Rattle.rules.specs.Sound.{known}
 use Rattle.rules.specs.World.{World, Outcome}
 use Rattle.rules.specs.Call.{typeOf, txOf, payloadOf, isHandled, frameVerdict, outcomeOf, outcome}
-use Rattle.laws.specs.History.{
-  Call, History, requestOf, served, after, run, changedAs, changes, anyChange, alteredAs, altersCopy, anyAlteration, transactionAt, isOpen, staysOpen,
-}
+use Rattle.laws.specs.History.{Call, History, requestOf, served, after, run, changedAs, changes, anyChange, alteredAs, altersCopy}
+use Rattle.laws.specs.History.{anyAlteration, transactionAt, isOpen, staysOpen}
 use Rattle.rules.proofs.GoodRequests.{ParsedGood}
 use Rattle.rules.proofs.Parsing.{parse-good}
 use Rattle.rules.proofs.Places.{nothing, some-is}
@@ -44,8 +43,12 @@ request-good c = parse-good (c .sender) (typeOf (c .message)) (txOf (c .message)
 -- a call's effect on the open transactions: none where it is turned away
 abbrev pub effectOf : World → Call → Effect
 effectOf w c =
-    record { changes = changes w c; alters = λ k. altersCopy w k c; opens = elim (served w c)
-        [ none ↦ false | some o ↦ opensAs w (txOf (c .message)) (requestOf c) ] }
+    record {
+      changes = changes w c;
+      alters = λ k. altersCopy w k c;
+      opens = elim (served w c)
+          [ none ↦ false | some o ↦ opensAs w (txOf (c .message)) (requestOf c) ];
+    }
 
 -- a call as a step
 pub call-step : (w : World) (c : Call) (o : Outcome) → served w c ≡ some o →

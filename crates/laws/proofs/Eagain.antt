@@ -20,9 +20,8 @@ use Rattle.rules.specs.Layout.{Transaction, opened}
 use Rattle.rules.specs.World.{World, Outcome, freshWorld, left, to, transactionOf, starting, closing, committing, ending, handle, withCopy, withTransactions}
 use Rattle.rules.specs.Call.{txOf, outcomeOf}
 use Rattle.laws.specs.History.{Call, History, requestOf, served, after, run, changes, anyChange, transactionAt, isOpen, staysOpen}
-use Rattle.laws.specs.Eagain.{
-  Opens, Commits, EagainExactly, UndisturbedCommits, ChangedAndBackCounts, StartAnswersItsNumber, RecordedExactly, Started, OpenSinceStart,
-}
+use Rattle.laws.specs.Eagain.{Opens, Commits, EagainExactly, UndisturbedCommits, ChangedAndBackCounts, StartAnswersItsNumber, RecordedExactly}
+use Rattle.laws.specs.Eagain.{Started, OpenSinceStart}
 use Rattle.rules.proofs.Places.{some-is, none-at, at-set}
 use Rattle.rules.proofs.Cases.{cond-case}
 use Rattle.laws.proofs.Step.{recorded-is, opensAs, opens-start}
@@ -170,8 +169,14 @@ unfolding run staysOpen
 open-cases P w k [] e stayed begun = stayed e refl
 open-cases P w k (c ∷ cs) e stayed begun =
     open-cases P (after w c) k cs e (go (isOpen w k) refl)
-    (λ s. begun (record { before = c ∷ s .before; first = s .first; later = s .later; parts = ap (λ cs. c ∷ cs) (s .parts); opens = s .opens;
-    stays = s .stays }))
+    (λ s. begun (record {
+      before = c ∷ s .before;
+      first = s .first;
+      later = s .later;
+      parts = ap (λ cs. c ∷ cs) (s .parts);
+      opens = s .opens;
+      stays = s .stays;
+    }))
   where
     go : (b : Bool) → isOpen w k ≡ b → isOpen (after w c) k ≡ true → staysOpen (after w c) k cs ≡ true → P
     go true p o s = stayed p (and-eq-true-iff _ _ .1 (o, s))

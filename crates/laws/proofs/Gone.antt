@@ -242,8 +242,12 @@ told-of : (d : Domain) (ws : Watches) (i : ℕ) (v : Watch) (rs : List Record) �
 unfolding heardOf kept
 told-of d ws i v rs e h =
     let m = mask-at (isEvent releaseName) ws i v e (is-event v h) in
-    record { told = record { mask = maskOf (isEvent releaseName) ws; path = 47 ∷ decimal d };
-        among = Memᴰ·append-right rs (rw (any-bit _ i m) (List·Memᴰ·head refl)); path = refl; marked = m }
+    record {
+      told = record { mask = maskOf (isEvent releaseName) ws; path = 47 ∷ decimal d };
+      among = Memᴰ·append-right rs (rw (any-bit _ i m) (List·Memᴰ·head refl));
+      path = refl;
+      marked = m;
+    }
 
 -- ── a RELEASE ──
 

@@ -13,33 +13,27 @@ use Rattle.rules.specs.Octets.{Octets}
 use Rattle.rules.specs.Entries.{isEmpty, lowest}
 use Rattle.rules.specs.Path.{Domain, Connection, domainOf, Names, isControl}
 use Rattle.rules.specs.Node.{Table, ownedBy, withoutAll}
-use Rattle.rules.specs.Payload.{
-  Ask, Place, path, event, Request, ask, watch, unwatch, start, end, introduce, release, domainPath, isIntroduced, reset, Parsed, unknown, invalid,
-  request,
-}
+use Rattle.rules.specs.Payload.{Ask, Place, path, event, Request, ask, watch, unwatch, start, end, introduce, release, domainPath, isIntroduced}
+use Rattle.rules.specs.Payload.{reset, Parsed, unknown, invalid, request}
 use Rattle.rules.specs.Call.{txOf, outcomeOf}
 use Rattle.rules.specs.Answer.{EINVAL, ENOSYS, EACCES, EEXIST, ENOENT, ENOSPC, EAGAIN, Reply, refused, OK, Change, Answer, answer}
 use Rattle.rules.specs.Layout.{Transaction, tableOf, withChange}
 use Rattle.rules.specs.Sound.{introduced, watched}
 use Rattle.rules.specs.Event.{placeText}
-use Rattle.rules.specs.World.{
-  withCopy, withTransactions, World, Outcome, freshWorld, staledIf, withoutTransactions, left, to, onStore, transactionOf, inTransaction, copyOf, asked, placeFits, watching, unwatching,
-  starting, closing, committing, ending, introducing, removalOf, releasing, resetting, forControl, forPlace, handle,
-}
+use Rattle.rules.specs.World.{withCopy, withTransactions, World, Outcome, freshWorld, staledIf, withoutTransactions, left, to, onStore, transactionOf}
+use Rattle.rules.specs.World.{inTransaction, copyOf, asked, placeFits, watching, unwatching, starting, closing, committing, ending, introducing}
+use Rattle.rules.specs.World.{removalOf, releasing, resetting, forControl, forPlace, handle}
 use Rattle.rules.proofs.Cases.{cond-case, cond-known}
 use Rattle.rules.proofs.Fitting.{AskFits, decoded-fits, answer-fits, withoutAll-fits, fresh-fits}
 use Rattle.laws.specs.History.{Call, History, requestOf, served, after, run, succeeds}
-use Rattle.laws.specs.Order.{
-  Single, node, released, then, replay, Agrees, Logs, isNinth, addedBy, noted, loggedBy, addedAs, loggedAs, added, logged, orderFrom, order, OneOrder,
-}
+use Rattle.laws.specs.Order.{Single, node, released, then, replay, Agrees, Logs, isNinth, addedBy, noted, loggedBy, addedAs, loggedAs, added}
+use Rattle.laws.specs.Order.{logged, orderFrom, order, OneOrder}
 use Rattle.rules.proofs.Places.{nothing, at-below, none-at}
 use Rattle.laws.proofs.Calls.{served-is, served-known, request-good}
 use Rattle.rules.proofs.GoodRequests.{RequestGood, ParsedGood}
 use Rattle.rules.proofs.OpenTransactions.{named}
-use Rattle.laws.proofs.Ordered.{
-  Running, replay-append, agrees-append, keeps, extended, OrderedAt, Turn, fewer-all, fewer-without, fewer-closed, changed-to, with-log, with-copy,
-  with-domains, small-set, small-without, small-known,
-}
+use Rattle.laws.proofs.Ordered.{Running, replay-append, agrees-append, keeps, extended, OrderedAt, Turn, fewer-all, fewer-without}
+use Rattle.laws.proofs.Ordered.{fewer-closed, changed-to, with-log, with-copy, with-domains, small-set, small-without, small-known}
 
 -- ── requests on the world w ──
 
@@ -219,8 +213,11 @@ module _ (w : World) (ls : Logs) (o : OrderedAt w ls) where
   asked-turn c (suc k) a ns h f = rw eqb·suc-zero (go (transactionOf w c (suc k)) refl)
     where
       go : (m : Option Transaction) → transactionOf w c (suc k) ≡ m
-          → let y = elim m as (λ m. Outcome) [ none ↦ left w (refused ENOENT) | some x ↦ inTransaction w (suc k - 1) x
-          (answer (domainOf c) a ns (copyOf w (suc k - 1))) ] in
+          → let y = elim m as (λ m. Outcome) [
+            | none ↦ left w (refused ENOENT)
+            | some x ↦ inTransaction w (suc k - 1) x
+                (answer (domainOf c) a ns (copyOf w (suc k - 1)))
+          ] in
           Turn w [] (elim m [ none ↦ ls | some x ↦ noted w ls c (suc k) (y .reply) a ns x ]) y
       go none e = left-turn (refused ENOENT)
       go (some x) e = in-transaction-turn c (suc k) x a ns (named w (suc k) c x e .0) h f

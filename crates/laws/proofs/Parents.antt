@@ -22,8 +22,10 @@ unfolding reachFrom isEmpty
 above-there t [] below i h = refl
 above-there t (n ∷ ns) below i h = go (child t i n) h (above-there t ns below)
   where
-    go : (m : Option ℕ) → isEmpty ((elim m as (λ m. Reached) [ none ↦ record { slot = i; left = n ∷ (ns ++ below) } | some j ↦ reachFrom (ns ++ below) t j
-        ]) .left) ≡ true
+    go : (m : Option ℕ) → isEmpty ((elim m as (λ m. Reached) [
+      | none ↦ record { slot = i; left = n ∷ (ns ++ below) }
+      | some j ↦ reachFrom (ns ++ below) t j
+    ]) .left) ≡ true
         → ((j : ℕ) → isEmpty (reachFrom (ns ++ below) t j .left) ≡ true → isEmpty (reachFrom ns t j .left) ≡ true)
         → isEmpty ((elim m as (λ m. Reached) [ none ↦ record { slot = i; left = n ∷ ns } | some j ↦ reachFrom ns t j ]) .left) ≡ true
     go none q f = absurd (false≢true q)

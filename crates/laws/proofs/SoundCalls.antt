@@ -17,19 +17,15 @@ use Rattle.rules.specs.Node.{root, freshTable, nodeAt}
 use Rattle.rules.specs.Layout.{domainsOf}
 use Rattle.rules.specs.Sound.{goodEntries, reachesRoot, goodName, goodNode, goodNodes, goodRoot, distinct, goodTable, known}
 use Rattle.rules.specs.World.{World, Outcome, freshWorld}
-use Rattle.rules.specs.Call.{
-  Lendable, Verdict, wrongSize, unsound, stranger, callNumber, isHandled, Tables, sizedTables, sound, worldOf, tablesOf, Result, txOf, frameVerdict,
-  requestVerdict, outcome, turnedAway, delivered, requestBy, requestCall,
-}
+use Rattle.rules.specs.Call.{Lendable, Verdict, wrongSize, unsound, stranger, callNumber, isHandled, Tables, sizedTables, sound, worldOf, tablesOf}
+use Rattle.rules.specs.Call.{Result, txOf, frameVerdict, requestVerdict, outcome, turnedAway, delivered, requestBy, requestCall}
 use Rattle.rules.proofs.Cases.{cond-known}
 use Rattle.rules.proofs.Places.{nothing, none-at}
 use Rattle.rules.proofs.Fitting.{fresh-fits}
 use Rattle.rules.proofs.GoodTables.{good-of}
 use Rattle.laws.specs.History.{Call, History, requestOf, served, after, run}
-use Rattle.laws.specs.Soundness.{
-  FreshIsSound, CallsKeepSound, SoundBytesStay, CallsOnBytes, HistoriesAreSound, Misfit, Lent, lentTables, resultOn, leftBy, runBytes, fitting,
-  heeded, verdictOn, resultOf, resultBy, HistoriesOnBytes,
-}
+use Rattle.laws.specs.Soundness.{FreshIsSound, CallsKeepSound, SoundBytesStay, CallsOnBytes, HistoriesAreSound, Misfit, Lent, lentTables}
+use Rattle.laws.specs.Soundness.{resultOn, leftBy, runBytes, fitting, heeded, verdictOn, resultOf, resultBy, HistoriesOnBytes}
 use Rattle.laws.proofs.Calls.{served-is, served-known, request-good}
 use Rattle.rules.proofs.SoundWorld.{SoundWorld}
 use Rattle.laws.proofs.SoundRequests.{outcome-keeps}

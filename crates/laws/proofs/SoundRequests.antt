@@ -13,18 +13,15 @@ use Rattle.rules.specs.Octets.{Octets}
 use Rattle.rules.specs.Entries.{isEmpty, lowest}
 use Rattle.rules.specs.Path.{Domain, Connection, domainOf, Names, isControl}
 use Rattle.rules.specs.Node.{Table, ownedBy}
-use Rattle.rules.specs.Payload.{
-  Ask, Place, path, event, Request, ask, watch, unwatch, start, end, introduce, release, domainPath, isIntroduced, reset, Parsed, unknown, invalid,
-  request,
-}
+use Rattle.rules.specs.Payload.{Ask, Place, path, event, Request, ask, watch, unwatch, start, end, introduce, release, domainPath, isIntroduced}
+use Rattle.rules.specs.Payload.{reset, Parsed, unknown, invalid, request}
 use Rattle.rules.specs.Answer.{EINVAL, ENOSYS, EACCES, EEXIST, ENOENT, ENOSPC, EAGAIN, Reply, refused, OK, Change, Answer, answer}
 use Rattle.rules.specs.Event.{Watch, placeText}
 use Rattle.rules.specs.Layout.{Transaction, tableOf}
 use Rattle.rules.specs.Sound.{introduced, known, twin, watched}
-use Rattle.rules.specs.World.{
-  World, Outcome, staledIf, withoutTransactions, withoutWatches, speaksFor, left, to, onStore, transactionOf, inTransaction, copyOf, asked, placeFits,
-  watching, unwatching, starting, closing, committing, ending, introducing, removalOf, releasing, resetting, forControl, forPlace, handle,
-}
+use Rattle.rules.specs.World.{World, Outcome, staledIf, withoutTransactions, withoutWatches, speaksFor, left, to, onStore, transactionOf}
+use Rattle.rules.specs.World.{inTransaction, copyOf, asked, placeFits, watching, unwatching, starting, closing, committing, ending, introducing}
+use Rattle.rules.specs.World.{removalOf, releasing, resetting, forControl, forPlace, handle}
 use Rattle.rules.specs.Call.{outcomeOf}
 use Rattle.rules.proofs.Cases.{cond-case, cond-known}
 use Rattle.rules.proofs.Tables.{each-append}
@@ -33,13 +30,10 @@ use Rattle.rules.proofs.Fitting.{withoutAll-fits}
 use Rattle.rules.proofs.GoodAnswers.{change-good}
 use Rattle.rules.proofs.GoodNodes.{withoutAll-good}
 use Rattle.rules.proofs.GoodRequests.{AskedGood, WatchedGood, RequestGood, ParsedGood}
-use Rattle.rules.proofs.SoundWorld.{
-  TransactionSound, TableSound, SoundWorld, table-decoded, asked-sound, known-grown, known-shrunk, known-range, domains-grown, domains-shrunk,
-}
-use Rattle.rules.proofs.SoundEntries.{
-  watches-left, watches-grown, transactions-left, transactions-written, unstaled, transactions-staled, closed-before, owned-fine, Controlled,
-  depth-fits, place-good, place-fits, change-fits,
-}
+use Rattle.rules.proofs.SoundWorld.{TransactionSound, TableSound, SoundWorld, table-decoded, asked-sound, known-grown, known-shrunk, known-range}
+use Rattle.rules.proofs.SoundWorld.{domains-grown, domains-shrunk}
+use Rattle.rules.proofs.SoundEntries.{watches-left, watches-grown, transactions-left, transactions-written, unstaled, transactions-staled}
+use Rattle.rules.proofs.SoundEntries.{closed-before, owned-fine, Controlled, depth-fits, place-good, place-fits, change-fits}
 use Rattle.rules.proofs.OpenTransactions.{length-staledIf, named}
 
 -- ── requests on the sound world w ──

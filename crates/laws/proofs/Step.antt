@@ -13,28 +13,23 @@ use Rattle.rules.specs.Octets.{Octets}
 use Rattle.rules.specs.Entries.{isEmpty, lowest}
 use Rattle.rules.specs.Path.{Connection, domainOf, Names, isControl}
 use Rattle.rules.specs.Node.{Table, ownedBy}
-use Rattle.rules.specs.Payload.{
-  Ask, directory, read, getPerms, write, mkdir, rm, setPerms, Place, path, event, Request, ask, watch, unwatch, start, end, introduce, release,
-  domainPath, isIntroduced, reset, Parsed, unknown, invalid, request,
-}
-use Rattle.rules.specs.Answer.{
-  Errno, EINVAL, EACCES, EEXIST, ENOENT, ENOSPC, E2BIG, EAGAIN, ENOSYS, Reply, done, refused, OK, Change, Answer, unchanged, changed, answer,
-}
+use Rattle.rules.specs.Payload.{Ask, directory, read, getPerms, write, mkdir, rm, setPerms, Place, path, event, Request, ask, watch, unwatch, start}
+use Rattle.rules.specs.Payload.{end, introduce, release, domainPath, isIntroduced, reset, Parsed, unknown, invalid, request}
+use Rattle.rules.specs.Answer.{Errno, EINVAL, EACCES, EEXIST, ENOENT, ENOSPC, E2BIG, EAGAIN, ENOSYS, Reply, done, refused, OK, Change, Answer}
+use Rattle.rules.specs.Answer.{unchanged, changed, answer}
 use Rattle.rules.specs.Layout.{Transaction, withChange}
 use Rattle.rules.specs.Sound.{introduced, watched}
 use Rattle.rules.specs.Event.{placeText}
-use Rattle.rules.specs.World.{
-  World, Outcome, staledIf, withoutTransactions, left, to, onStore, transactionOf, inTransaction, copyOf, asked, placeFits, watching, unwatching, starting,
-  closing, committing, ending, introducing, removalOf, releasing, resetting, forControl, forPlace, handle,
-}
+use Rattle.rules.specs.World.{World, Outcome, staledIf, withoutTransactions, left, to, onStore, transactionOf, inTransaction, copyOf, asked}
+use Rattle.rules.specs.World.{placeFits, watching, unwatching, starting, closing, committing, ending, introducing, removalOf, releasing, resetting}
+use Rattle.rules.specs.World.{forControl, forPlace, handle}
 use Rattle.rules.specs.Call.{outcomeOf}
 use Rattle.rules.proofs.Cases.{cond-case}
 use Rattle.laws.specs.History.{succeeds, alters, recorded, changedBy, changedAs, alteredBy, alteredAs}
 use Rattle.rules.proofs.Places.{nothing, some-is, At}
 use Rattle.rules.proofs.OpenTransactions.{named, empty-mapped}
-use Rattle.laws.proofs.Kept.{
-  Effect, quiet, opening, changing, hasChange, Continues, Kept, kept-as, kept-all, kept-without, kept-set, kept-closed, kept-opened, kept-staledIf,
-}
+use Rattle.laws.proofs.Kept.{Effect, quiet, opening, changing, hasChange, Continues, Kept, kept-as, kept-all, kept-without, kept-set}
+use Rattle.laws.proofs.Kept.{kept-closed, kept-opened, kept-staledIf}
 use Rattle.laws.proofs.Answers.{isEAGAIN, Shape, stays, alters-to, answer-shape}
 
 -- what an outcome is by its reply: a refusal leaves the world, but EAGAIN closes the transaction
@@ -160,8 +155,11 @@ module _ (w : World) (tx : ℕ) where
   asked-step (suc j) c a ns = rw (eqb·suc-zero, asked) (there (transactionOf w c (suc j)) refl)
     where
       there : (m : Option Transaction) → transactionOf w c (suc j) ≡ m
-          → let o = elim m as (λ m. Outcome) [ none ↦ left w (refused ENOENT) | some x ↦ inTransaction w (suc j - 1) x
-          (answer (domainOf c) a ns (copyOf w (suc j - 1))) ] in
+          → let o = elim m as (λ m. Outcome) [
+            | none ↦ left w (refused ENOENT)
+            | some x ↦ inTransaction w (suc j - 1) x
+                (answer (domainOf c) a ns (copyOf w (suc j - 1)))
+          ] in
           Step (record { changes = false; alters = λ k. eqb (suc j) (suc k) && alters (copyOf w k) ns (o .reply) a; opens = false }) o
       there none e = step-as quiet _ _ refl (λ k. sym (rw (alters-refused (copyOf w k) ns ENOENT a) (and-false (eqb (suc j) (suc k))))) (λ o. refl)
           (left-step (refused ENOENT) refl)

@@ -9,10 +9,8 @@ use Rattle.rules.specs.Octets.{Octets}
 use Rattle.rules.specs.Entries.{isEmpty}
 use Rattle.rules.specs.Path.{Connection, domainOf, Names}
 use Rattle.rules.specs.Node.{Table, reach, ownedBy}
-use Rattle.rules.specs.Payload.{
-  Ask, directory, read, getPerms, write, mkdir, rm, setPerms, Request, ask, watch, unwatch, start, end, introduce, release, domainPath, isIntroduced,
-  reset, Parsed, unknown, invalid, request, parse,
-}
+use Rattle.rules.specs.Payload.{Ask, directory, read, getPerms, write, mkdir, rm, setPerms, Request, ask, watch, unwatch, start, end, introduce}
+use Rattle.rules.specs.Payload.{release, domainPath, isIntroduced, reset, Parsed, unknown, invalid, request, parse}
 use Rattle.rules.specs.Answer.{Reply, done, refused}
 use Rattle.rules.specs.Layout.{Transaction}
 use Rattle.rules.specs.Sound.{known}

@@ -10,9 +10,8 @@ use Rattle.rules.specs.Size.{mostTransactions, mostChanges}
 use Rattle.rules.specs.Entries.{lowest}
 use Rattle.rules.specs.Path.{Domain, Connection, domainOf, Names}
 use Rattle.rules.specs.Node.{Table, freshTable, ownedBy, withoutAll}
-use Rattle.rules.specs.Payload.{
-  Ask, Request, ask, watch, unwatch, start, end, introduce, release, domainPath, isIntroduced, reset, Parsed, unknown, invalid, request,
-}
+use Rattle.rules.specs.Payload.{Ask, Request, ask, watch, unwatch, start, end, introduce, release, domainPath, isIntroduced, reset, Parsed, unknown}
+use Rattle.rules.specs.Payload.{invalid, request}
 use Rattle.rules.specs.Answer.{Reply, Change, answer}
 use Rattle.rules.specs.Layout.{Transaction}
 use Rattle.rules.specs.World.{World, freshWorld, transactionOf, copyOf}

@@ -10,10 +10,8 @@ use Rattle.rules.specs.Octets.{Octets}
 use Rattle.rules.specs.Path.{Connection, domainOf}
 use Rattle.rules.specs.Sound.{known}
 use Rattle.rules.specs.World.{World, Outcome, freshWorld}
-use Rattle.rules.specs.Call.{
-  Verdict, wrongSize, stranger, callNumber, Tables, sizedTables, Lendable, worldOf, tablesOf, Result, frameVerdict, turnedAway, delivered,
-  requestCall,
-}
+use Rattle.rules.specs.Call.{Verdict, wrongSize, stranger, callNumber, Tables, sizedTables, Lendable, worldOf, tablesOf, Result, frameVerdict}
+use Rattle.rules.specs.Call.{turnedAway, delivered, requestCall}
 use Rattle.laws.specs.History.{Call, History, served, after, run}
 
 -- The fresh store is sound.
@@ -98,4 +96,4 @@ resultBy w l =
 abbrev pub HistoriesOnBytes : Type 0
 HistoriesOnBytes =
     (ls : List Lent) (l : Lent) → let t = runBytes (tablesOf freshWorld) ls in let w = run freshWorld (heeded ls) in (t ≡ tablesOf w)
-        × (resultOn t l ≡ resultBy w l)
+    × (resultOn t l ≡ resultBy w l)

@@ -13,24 +13,8 @@ use Rattle.rules.specs.Node.{Entry, Table, nodeAt, reach, made, withValue, with
 use Rattle.rules.specs.Rights.{mayRead, mayWrite}
 use Rattle.rules.specs.Payload as P
 use Rattle.rules.specs.Answer as A
-use Rattle.rules.specs.Answer.{
-  refused,
-  OK,
-  EACCES,
-  ENOSPC,
-  unchanged,
-  changed,
-  absent,
-  room,
-  created,
-  written,
-  directoryMade,
-  taken,
-  maySet,
-  permitted,
-  answer,
-  answered,
-}
+use Rattle.rules.specs.Answer.{refused, OK, EACCES, ENOSPC, unchanged, changed, absent, room, created, written, directoryMade, taken, maySet}
+use Rattle.rules.specs.Answer.{permitted, answer, answered}
 use Rattle.rules.specs.Layout.{tableOf}
 use Rattle.lookup.proofs.ReachLaws.{left-first}
 use Rattle.slots.specs.Left.{leftAt}

@@ -151,8 +151,12 @@ module _ (s : Octets) (p : Path) (d : Domain) (k : PathSound s p) where
           let u = full-text d (take (p .end) s) _ h in
           let f : isFull (baseText d ++ take (p .end) s) ≡ true = given-is-full _ _ e in
           let t : placeText (placeAt d s p) ≡ baseText d ++ take (p .end) s = ap (λ (g : Given). placeText (placeFrom d g)) h ∙ sym u in
-          rw t (record { placed = f; named = tt; place = place-full true (baseText d ++ take (p .end) s) f
-          ∙ (ap (path true) (given-names _ _ e) ∙ sym (ap (placeFrom d) h)) })
+          rw t (record {
+            placed = f;
+            named = tt;
+            place = place-full true (baseText d ++ take (p .end) s) f
+                ∙ (ap (path true) (given-names _ _ e) ∙ sym (ap (placeFrom d) h));
+          })
       go Special q =
           let h = form-special (take (p .end) s) (k .form ∙ q) in
           let t : placeText (placeAt d s p) ≡ take (p .end) s = ap (λ (g : Given). placeText (placeFrom d g)) h in
@@ -162,8 +166,12 @@ module _ (s : Octets) (p : Path) (d : Domain) (k : PathSound s p) where
           let t : placeText (placeAt d s p) ≡ pathText [] = ap (λ (g : Given). placeText (placeFrom d g)) h in
           let e : given (pathText []) ≡ absolute [] = text-given [] refl (omega arith) in
           let f : isFull (pathText []) ≡ true = given-is-full _ _ e in
-          rw t (record { placed = f; named = tt; place = place-full false (pathText []) f
-          ∙ (ap (path false) (given-names (pathText []) [] e) ∙ sym (ap (placeFrom d) h)) })
+          rw t (record {
+            placed = f;
+            named = tt;
+            place = place-full false (pathText []) f
+                ∙ (ap (path false) (given-names (pathText []) [] e) ∙ sym (ap (placeFrom d) h));
+          })
 
   pub stands-so : (named below : Bool) (t : Octets) → named ≡ isSpecial (p .form) → below ≡ isRelative (p .form) → t ≡ placeText (placeAt d s p) →
       Stands named below t

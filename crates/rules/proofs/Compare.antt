@@ -76,8 +76,14 @@ eq-zero n e = rw e (zero-replicate n)
 pub less-next : (a b : Octets) (i : ℕ) → i < length a → i < length b → getD a i 0 ≡ getD b i 0 →
     less (drop i a) (drop i b) ≡ less (drop (i + 1) a) (drop (i + 1) b)
 unfolding less
-less-next a b i ha hb e = rw (drop-cons a i 0 ha, drop-cons b i 0 hb, add-one, e, le-ltb (getD b i 0) (getD b i 0) (omega arith),
-    eq-eqb (getD b i 0) (getD b i 0) refl) refl
+less-next a b i ha hb e = rw (
+  drop-cons a i 0 ha,
+  drop-cons b i 0 hb,
+  add-one,
+  e,
+  le-ltb (getD b i 0) (getD b i 0) (omega arith),
+  eq-eqb (getD b i 0) (getD b i 0) refl,
+) refl
 
 pub less-here : (a b : Octets) (i : ℕ) → i < length a → i < length b → (getD a i 0 ≡ getD b i 0 → ⊥) →
     less (drop i a) (drop i b) ≡ ltb (getD a i 0) (getD b i 0)

@@ -13,9 +13,8 @@ use Rattle.rules.specs.Octets.{Octets, same, chunks, field, bitsAt}
 use Rattle.rules.specs.Path.{Connection, domainOf, Given, malformed, absolute, relative, special, given, allNames, pathText, namesIn}
 use Rattle.rules.specs.Payload.{Place, path, event}
 use Rattle.rules.specs.Event.{Watch, Watches, placeText}
-use Rattle.rules.specs.Layout.{
-  textAt, placeIn, watchAt, watchIn, watchesBytes, watchesOf, changeIn, transactionAt, transactionIn, transactionsOf, Domains, Transaction,
-}
+use Rattle.rules.specs.Layout.{textAt, placeIn, watchAt, watchIn, watchesBytes, watchesOf, changeIn, transactionAt, transactionIn}
+use Rattle.rules.specs.Layout.{transactionsOf, Domains, Transaction}
 use Rattle.rules.specs.Sound.{known, noNul, goodPlace, watched, goodWatch, goodWatches, soundWatches}
 use Rattle.rules.proofs.Slots.{text-short}
 use Rattle.rules.proofs.Tables.{Each, length-chunks}
@@ -72,8 +71,10 @@ change-decoded s = go (given t) (means t)
     t = textAt s 2 longestPath (bitsAt (field s 0 2) 0 9)
 
     go : (g : Given) → Means t g
-        → ChangeFits (record { removal = eqb (bitsAt (field s 0 2) 15 1) 1;
-        names = elim g [ malformed ↦ [] | absolute ns ↦ ns | relative ns ↦ [] | special e ↦ [] ] })
+        → ChangeFits (record {
+          removal = eqb (bitsAt (field s 0 2) 15 1) 1;
+          names = elim g [ malformed ↦ [] | absolute ns ↦ ns | relative ns ↦ [] | special e ↦ [] ];
+        })
     go malformed m = record { names = refl; short = lit≤ tt }
     go (absolute ns) m = record { names = m .names; short = rw (← m .text) (text-short s 2 longestPath _) }
     go (relative ns) m = record { names = refl; short = lit≤ tt }
@@ -95,8 +96,11 @@ transaction-decoded s head = (few, go rows)
     rows = take (bitsAt head 16 4) (chunks mostChanges changeSize (drop 3 s))
 
     few : length (map changeIn rows) ≤ mostChanges
-    few = rw (length-map rows changeIn, length-take (bitsAt head 16 4) (chunks mostChanges changeSize (drop 3 s)),
-        length-chunks mostChanges changeSize (drop 3 s)) (omega arith)
+    few = rw (
+      length-map rows changeIn,
+      length-take (bitsAt head 16 4) (chunks mostChanges changeSize (drop 3 s)),
+      length-chunks mostChanges changeSize (drop 3 s),
+    ) (omega arith)
 
     go : (rs : List Octets) → Each ChangeFits (map changeIn rs)
     go [] = tt

@@ -13,10 +13,8 @@ use Rattle.rules.specs.Octets.{Octets, paste, padded, bit, _bits_, chunk
 use Rattle.rules.specs.Path.{Domain, relative, special, given, allNames, pathText}
 use Rattle.rules.specs.Payload.{Place, path, event}
 use Rattle.rules.specs.Event.{Watch, Watches, placeText}
-use Rattle.rules.specs.Layout.{
-  textAt, isRelative, depthBits, watchBits, watchBytes, placeIn, watchAt, watchIn, watchesBytes, watchesOf, Domains, domainBytes, domainIn,
-  domainsBytes, domainsOf,
-}
+use Rattle.rules.specs.Layout.{textAt, isRelative, depthBits, watchBits, watchBytes, placeIn, watchAt, watchIn, watchesBytes, watchesOf}
+use Rattle.rules.specs.Layout.{Domains, domainBytes, domainIn, domainsBytes, domainsOf}
 use Rattle.rules.proofs.Slots.{length-padded, text-padded}
 use Rattle.rules.proofs.Tables.{Each, each-map, length-encoded, written, decoded, decoded-at}
 use Rattle.rules.proofs.PathLaws.{text-given}

@@ -3,9 +3,8 @@ use mathlib.Core.Path.{_≡_, refl, sym, ap, ap₂, _∙_}
 use mathlib.Core.Bool.{Bool, true, false}
 use mathlib.Core.List.{List, [], _∷_, _++_}
 use Prim.Native.Nat.{ℕ, zero, suc, _+_, _*_, _/_, _%_, _^_, _≤_, _<_, zero-le, suc-le-suc}
-use native.Mathlib.Nat.{
-  add-zero, zero-add, add-suc, not-suc-le-zero, div-add-mod', div-lt-iff-lt-mul, pow-suc, pow-zero, pow-succ', add-mul, add-assoc, mul-assoc, mul-one,
-}
+use native.Mathlib.Nat.{add-zero, zero-add, add-suc, not-suc-le-zero, div-add-mod', div-lt-iff-lt-mul, pow-suc, pow-zero, pow-succ', add-mul}
+use native.Mathlib.Nat.{add-assoc, mul-assoc, mul-one}
 use native.Mathlib.Numerals.{add-one, add-two}
 use native.Mathlib.Omega.{arith}
 use lib.ListN.{length, getD, take, drop, length-append, length-drop}

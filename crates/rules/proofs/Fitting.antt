@@ -13,15 +13,12 @@ use Rattle.rules.specs.Size.{slots, longestValue, mostEntries, deepest, 
 use Rattle.rules.specs.Octets.{Octets, chunks, bitsAt, field}
 use Rattle.rules.specs.Entries.{lowest, freeCount}
 use Rattle.rules.specs.Path.{Domain, Name, Names, isControl, shortNames, fits}
-use Rattle.rules.specs.Node.{
-  Entry, Node, Table, Reached, root, freshTable, nodeAt, isChild, childFrom, child, reachFrom, reach, heir, newNode, lastValue, made, withValue,
-  withEntries, within, clearedFrom, removed, withoutAll,
-}
+use Rattle.rules.specs.Node.{Entry, Node, Table, Reached, root, freshTable, nodeAt, isChild, childFrom, child, reachFrom, reach, heir, newNode}
+use Rattle.rules.specs.Node.{lastValue, made, withValue, withEntries, within, clearedFrom, removed, withoutAll}
 use Rattle.rules.specs.Rights.{mayWrite}
 use Rattle.rules.specs.Payload.{Ask, directory, read, getPerms, write, mkdir, rm, setPerms}
-use Rattle.rules.specs.Answer.{
-  Answer, unchanged, changed, looked, sized, stocked, room, created, written, directoryMade, taken, maySet, permitted, answered, answer,
-}
+use Rattle.rules.specs.Answer.{Answer, unchanged, changed, looked, sized, stocked, room, created, written, directoryMade, taken, maySet}
+use Rattle.rules.specs.Answer.{permitted, answered, answer}
 use Rattle.rules.specs.Layout.{textAt, entryAt, nodeOf, slotOf, tableOf}
 use Rattle.rules.proofs.Cases.{cond-case, cond-known}
 use Rattle.rules.proofs.Tables.{Each, each-set}
@@ -72,8 +69,14 @@ decoded-fits s = record { all = go (chunks slots _ s); long = length-tableOf s }
 
 root-fits : NodeFits root
 unfolding root
-root-fits = record { parent = omega arith; name = omega arith; value = omega arith; owner = record { access = omega arith; domain = omega arith };
-    few = omega arith; others = tt }
+root-fits = record {
+  parent = omega arith;
+  name = omega arith;
+  value = omega arith;
+  owner = record { access = omega arith; domain = omega arith };
+  few = omega arith;
+  others = tt;
+}
 
 pub fresh-fits : Fitting freshTable
 unfolding freshTable

@@ -14,9 +14,8 @@ use Rattle.rules.specs.Path.{Domain, Name, Names, isName, allNames, shor
 use Rattle.rules.specs.Node.{Entry, Node, Table, Reached, nodeAt, child, reachFrom, reach, withValue, withEntries}
 use Rattle.rules.specs.Rights.{mayWrite}
 use Rattle.rules.specs.Payload.{Ask, directory, read, getPerms, write, mkdir, rm, setPerms, onRoot, proper}
-use Rattle.rules.specs.Answer.{
-  Reply, Change, Answer, unchanged, changed, looked, room, created, written, directoryMade, taken, maySet, permitted, answered, answer,
-}
+use Rattle.rules.specs.Answer.{Reply, Change, Answer, unchanged, changed, looked, room, created, written, directoryMade, taken, maySet}
+use Rattle.rules.specs.Answer.{permitted, answered, answer}
 use Rattle.rules.specs.Sound.{goodEntries, reachesRoot, goodChange}
 use Rattle.rules.proofs.Cases.{cond-case, cond-known}
 use Rattle.rules.proofs.Places.{nothing, some-is, At}

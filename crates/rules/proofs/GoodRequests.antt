@@ -7,10 +7,8 @@ use Prim.Native.Nat.{ℕ, _≤_}
 use Rattle.rules.specs.Size.{lastDomain, deepestWatch}
 use Rattle.rules.specs.Octets.{Octets}
 use Rattle.rules.specs.Path.{Connection, domainOf, Names, allNames, special, given, base, beyond}
-use Rattle.rules.specs.Payload.{
-  Ask, Place, path, event, Request, ask, watch, unwatch, start, end, introduce, release, domainPath, isIntroduced, reset, Parsed, unknown, invalid,
-  request, onRoot, proper, depthFor,
-}
+use Rattle.rules.specs.Payload.{Ask, Place, path, event, Request, ask, watch, unwatch, start, end, introduce, release, domainPath, isIntroduced}
+use Rattle.rules.specs.Payload.{reset, Parsed, unknown, invalid, request, onRoot, proper, depthFor}
 use Rattle.rules.specs.Sound.{noNul, strictlyBelow}
 use Rattle.rules.proofs.Fitting.{AskFits}
 use Rattle.rules.proofs.GoodAnswers.{AskGood}

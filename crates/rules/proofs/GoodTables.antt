@@ -124,10 +124,14 @@ good-of t l h = go (getD t 0 none) refl (rw (zero-add 0) at (node-at t 0 t (p .0
 pub of-good : (t : Table) → Good t → goodTable t ≡ true
 unfolding goodTable goodRoot goodName goodNode
 of-good t g =
-    and-eq-true-iff (goodNodes t 0 t) (goodRoot (nodeAt t 0) && distinct t) .1
-    (at-node t 0 t (λ i l. rw zero-add (slot i (getD t i none) refl)),
-    and-eq-true-iff (goodRoot (nodeAt t 0)) (distinct t) .1 (rooted, distinct-is t
-    ∙ one-related clash t (λ i j n m p q c. let r = clashed n m c in g .apart i j n m p q (r .0) (r .1))))
+    and-eq-true-iff (goodNodes t 0 t) (goodRoot (nodeAt t 0) && distinct t) .1 (
+      at-node t 0 t (λ i l. rw zero-add (slot i (getD t i none) refl)),
+      and-eq-true-iff (goodRoot (nodeAt t 0)) (distinct t) .1 (
+        rooted,
+        distinct-is t
+            ∙ one-related clash t (λ i j n m p q c. let r = clashed n m c in g .apart i j n m p q (r .0) (r .1)),
+      ),
+    )
   where
     name : (i : ℕ) (n : Node) → At t i n → goodName i (n .name) ≡ true
     name zero n e = eq-same (ap Node.name (some-is (sym e ∙ g .used)) ∙ g .nameless)
@@ -160,8 +164,11 @@ child-from p name k (s ∷ t) j e = go s (isChild p name s) refl e (child-from p
   where
     go : (s : Option Node) (b : Bool) → isChild p name s ≡ b → cond b (some k) (childFrom p name (suc k) t) ≡ some j
         → (childFrom p name (suc k) t ≡ some j → (i : ℕ) × (j ≡ suc k + i) × IsChild t p name i) → (i : ℕ) × (j ≡ k + i) × IsChild (s ∷ t) p name i
-    go s false h q f = let r = f q in (suc (r .0), omega (arith, r .1),
-        record { node = r .2 .node; used = r .2 .used; parent = r .2 .parent; named = r .2 .named })
+    go s false h q f = let r = f q in (
+      suc (r .0),
+      omega (arith, r .1),
+      record { node = r .2 .node; used = r .2 .used; parent = r .2 .parent; named = r .2 .named },
+    )
     go none true h q f = absurd (false≢true h)
     go (some n) true h q f =
         let r = and-eq-true-iff (eqb (n .parent) p) (same (n .name) name) .0 h in

@@ -23,8 +23,13 @@ unfolding staled
 getD-staled [] k y e = absurd (nothing e)
 getD-staled (none ∷ xs) zero y e = absurd (nothing e)
 getD-staled (none ∷ xs) (suc k) y e = getD-staled xs k y e
-getD-staled (some x ∷ xs) zero y e = (x, refl, ap Transaction.holder (sym (some-is e)), ap Transaction.stale (sym (some-is e)),
-    ap Transaction.changes (sym (some-is e)))
+getD-staled (some x ∷ xs) zero y e = (
+  x,
+  refl,
+  ap Transaction.holder (sym (some-is e)),
+  ap Transaction.stale (sym (some-is e)),
+  ap Transaction.changes (sym (some-is e)),
+)
 getD-staled (some x ∷ xs) (suc k) y e = getD-staled xs k y e
 
 length-staled : (xs : Transactions) → length (staled xs) ≡ length xs

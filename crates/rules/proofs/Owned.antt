@@ -89,8 +89,12 @@ pub few-distinct : (n : ℕ) (is : List ℕ) → Distinct is → Each (λ (i : �
 few-distinct zero [] d e = omega arith
 few-distinct zero (i ∷ is) d e = absurd (not-suc-le-zero (e .0))
 few-distinct (suc n) is d e =
-    omega (arith, but-one n is d, few-distinct n (but n is) (distinct-but n is d)
-    (each-but (λ (i : ℕ). i < suc n) (λ (i : ℕ). i < n) n (λ i z h. low i z h) is e))
+    omega (
+      arith,
+      but-one n is d,
+      few-distinct n (but n is) (distinct-but n is d)
+          (each-but (λ (i : ℕ). i < suc n) (λ (i : ℕ). i < n) n (λ i z h. low i z h) is e),
+    )
   where
     low : (i : ℕ) → Differ n i → i < suc n → i < n
     low i z h = omega (arith, z)
@@ -167,7 +171,7 @@ module _ (t : Table) (p : ℕ) where
         let a : At t i (n .0) = ap (λ (k : ℕ). getD t k none) (sym (add-zero i)) ∙ sym (f 0) ∙ n .1 in (
           each-insert (Found i) t i (childrenFrom t p (suc i) ss) (omega arith, (z, n .0, a, n .2)) earlier,
           distinct-insert t i (childrenFrom t p (suc i) ss) (each-map (Found (suc i)) (Differ i) (λ j q e. absurd (omega (arith, q .0, e)))
-          (childrenFrom t p (suc i) ss) (rest .0)) (rest .1),
+              (childrenFrom t p (suc i) ss) (rest .0)) (rest .1),
         )
 
     found-more : Each (Found i) (childrenFrom t p i (s ∷ ss)) × Distinct (childrenFrom t p i (s ∷ ss))
@@ -215,7 +219,7 @@ module _ (t : Table) (d : Domain) where
   walk-on : (m i : ℕ) (f : ℕ → List ℕ) → ((c : ℕ) → Child t i c → Walked (suc m) c (f c)) → Walked m i (flatMap f (children t i))
   walk-on m i f below = (
     each-flat (Lists t d m i) f (children t i) (each-map (Child t i) _
-    (λ c s. each-map (Lists t d (suc m) c) (Lists t d m i) (higher m i c s) (f c) (below c s .0)) (children t i) (children-are t i)),
+        (λ c s. each-map (Lists t d (suc m) c) (Lists t d m i) (higher m i c s) (f c) (below c s .0)) (children t i) (children-are t i)),
     distinct-flat (Lists t d (suc m)) (λ a b x p q. under-one t (suc m) a b x (p .0) (q .0)) f (children t i) (children-distinct t i)
         (each-map (Child t i) _ (λ c s. below c s .1) (children t i) (children-are t i))
         (each-map (Child t i) _ (λ c s. below c s .0) (children t i) (children-are t i)),
@@ -248,8 +252,13 @@ module _ (t : Table) (g : Good t) (d : Domain) (positive : 1 ≤ d) where
 
       go : (m : ℕ) → Level t m j → OwnedSlot t d j
       go zero e = absurd (other e)
-      go (suc m) l = record { node = l .1; used = l .2; owner = ap (λ (n : Node). n .owner .domain) (sym (nodeAt-is t j (l .1) (l .2)))
-          ∙ q .1; not-root = other }
+      go (suc m) l = record {
+        node = l .1;
+        used = l .2;
+        owner = ap (λ (n : Node). n .owner .domain) (sym (nodeAt-is t j (l .1) (l .2)))
+            ∙ q .1;
+        not-root = other;
+      }
 
   -- each is used, the domain's and not the root
   pub owned-slots : Each (OwnedSlot t d) (ownedBy t d)

@@ -11,11 +11,10 @@ use Rattle.rules.specs.Size.{lastDomain, deepestWatch}
 use Rattle.rules.specs.Octets.{Octets, text, nul, same, numberIn, signed}
 use Rattle.rules.specs.Path.{Domain, Connection, domainOf, Names, Given, malformed, absolute, relative, special, given, allNames, base, slashed, beyond}
 use Rattle.rules.specs.Node.{Entry}
-use Rattle.rules.specs.Payload.{
-  Ask, directory, read, getPerms, write, mkdir, rm, setPerms, Place, Request, ask, release, domainPath, isIntroduced, Parsed, invalid, request, Taken,
-  before, ended, strings, firstString, accessLetter, entryOf, entriesOf, namesOf, placeOf, proper, asking, plain, writing, setting, settingAll,
-  depthFor, watchingTo, watchPayload, unwatchPayload, introducingOf, introducePayload, ofDomain, bare, startPayload, endPayload, parse,
-}
+use Rattle.rules.specs.Payload.{Ask, directory, read, getPerms, write, mkdir, rm, setPerms, Place, Request, ask, release, domainPath}
+use Rattle.rules.specs.Payload.{isIntroduced, Parsed, invalid, request, Taken, before, ended, strings, firstString, accessLetter, entryOf}
+use Rattle.rules.specs.Payload.{entriesOf, namesOf, placeOf, proper, asking, plain, writing, setting, settingAll, depthFor, watchingTo}
+use Rattle.rules.specs.Payload.{watchPayload, unwatchPayload, introducingOf, introducePayload, ofDomain, bare, startPayload, endPayload, parse}
 use Rattle.rules.proofs.Cases.{cond-case, cond-known}
 use Rattle.rules.specs.Sound.{goodEntries, noNul, strictlyBelow}
 use Rattle.rules.proofs.Decimals.{range-bounds}

@@ -5,10 +5,8 @@ use Prim.Native.Nat.{ℕ, suc, _+_, _≤_, _<_}
 use native.Mathlib.Nat.{add-assoc}
 use native.Mathlib.Numerals.{add-one}
 use native.Mathlib.Omega.{arith}
-use lib.ListN.{
-  length, getD, take, drop, set, replicate, drop-of-length-le, length-replicate, getD-replicate, length-append, length-drop, take-append-drop,
-  List·getD-append,
-}
+use lib.ListN.{length, getD, take, drop, set, replicate, drop-of-length-le, length-replicate, getD-replicate, length-append, length-drop}
+use lib.ListN.{take-append-drop, List·getD-append}
 use lib.Seq as Seq
 use Rattle.rules.specs.Octets.{Octets, paste}
 use Rattle.rules.proofs.Fields.{take-drop-take}

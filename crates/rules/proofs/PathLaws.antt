@@ -10,10 +10,9 @@ use lib.Dec.{eqb, leb}
 use borrow.Author.Tests.{eqb-true, leb-true, le-leb, ne-eqb}
 use Rattle.rules.specs.Size.{longestAbsolute, longestRelative, longestName, deepest, longestPath}
 use Rattle.rules.specs.Octets.{Octets, same}
-use Rattle.rules.specs.Path.{
-  Name, Names, nameByte, allBytes, isName, allNames, glued, split, Given, malformed, absolute, relative, special, given, specialOf, introduceName,
-  releaseName, checked, afterSlash, namesIn, isFull, slashed, pathText, shortNames, fits, beyond,
-}
+use Rattle.rules.specs.Path.{Name, Names, nameByte, allBytes, isName, allNames, glued, split, Given, malformed, absolute, relative, special}
+use Rattle.rules.specs.Path.{given, specialOf, introduceName, releaseName, checked, afterSlash, namesIn, isFull, slashed, pathText, shortNames}
+use Rattle.rules.specs.Path.{fits, beyond}
 use Rattle.rules.proofs.Compare.{both-true, same-eq, same-refl}
 
 -- ── split ──

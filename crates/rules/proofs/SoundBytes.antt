@@ -7,20 +7,15 @@ use Prim.Native.Nat.{ℕ, _*_, _≤_, _<_}
 use lib.ListN.{length, take, drop, length-map}
 use lib.Dec.{eqb}
 use borrow.Author.Tests.{eqb-true, eq-eqb}
-use Rattle.rules.specs.Size.{
-  mostTransactions, mostDomains, mostWatches, tableSize, copiesSize, domainsSize, watchesSize, transactionsSize, transactionSize, mostChanges,
-}
+use Rattle.rules.specs.Size.{mostTransactions, mostDomains, mostWatches, tableSize, copiesSize, domainsSize, watchesSize, transactionsSize}
+use Rattle.rules.specs.Size.{transactionSize, mostChanges}
 use Rattle.rules.specs.Octets.{Octets, same, chunks, field}
 use Rattle.rules.specs.Path.{domainOf}
 use Rattle.rules.specs.Event.{Watch, Watches}
-use Rattle.rules.specs.Layout.{
-  Domains, Transaction, Transactions, tableBytes, tableOf, domainsBytes, domainsOf, watchesBytes, watchesOf, transactionIn, transactionsBytes,
-  transactionsOf,
-}
-use Rattle.rules.specs.Sound.{
-  known, goodDomains, soundDomains, goodWatch, goodWatches, soundWatches, goodTable, soundTable, goodTransactions, soundTransactions, goodPlace,
-  noNul,
-}
+use Rattle.rules.specs.Layout.{Domains, Transaction, Transactions, tableBytes, tableOf, domainsBytes, domainsOf, watchesBytes, watchesOf}
+use Rattle.rules.specs.Layout.{transactionIn, transactionsBytes, transactionsOf}
+use Rattle.rules.specs.Sound.{known, goodDomains, soundDomains, goodWatch, goodWatches, soundWatches, goodTable, soundTable, goodTransactions}
+use Rattle.rules.specs.Sound.{soundTransactions, goodPlace, noNul}
 use Rattle.rules.specs.World.{World}
 use Rattle.rules.specs.Call.{Tables, sizedTables, sound, Lendable, worldOf, tablesOf}
 use Rattle.rules.proofs.Compare.{same-refl, same-eq}
@@ -32,10 +27,8 @@ use Rattle.rules.proofs.DecodedEntries.{WatchRead, place-named, watch-i
 use Rattle.rules.proofs.TransactionLayouts.{ChangeFits, transactions-read, length-transactions}
 use Rattle.rules.proofs.SoundWorld.{DomainsSound, WatchSound, twins, WatchesSound, TransactionsSound, SoundWorld, table-encoded, table-decoded}
 use Rattle.rules.proofs.SoundEntries.{twins-sym}
-use Rattle.rules.proofs.SoundTables.{
-  domains-good, good-domains, domains-fit, watches-parts, watches-good, watches-fit, changes-good, good-changes, transactions-good, good-transactions,
-  transactions-fit,
-}
+use Rattle.rules.proofs.SoundTables.{domains-good, good-domains, domains-fit, watches-parts, watches-good, watches-fit, changes-good}
+use Rattle.rules.proofs.SoundTables.{good-changes, transactions-good, good-transactions, transactions-fit}
 
 -- ── a sound world's bytes ──
 
@@ -59,8 +52,13 @@ module _ (w : World) (s : SoundWorld w) where
 
   pub world-back : worldOf (tablesOf w) ≡ w
   unfolding worldOf tablesOf
-  world-back = λ i. record { nodes = nodes-back i; copies = copies-back i; watches = watches-back i; transactions = transactions-back i;
-      domains = domains-back i }
+  world-back = λ i. record {
+    nodes = nodes-back i;
+    copies = copies-back i;
+    watches = watches-back i;
+    transactions = transactions-back i;
+    domains = domains-back i;
+  }
 
   length-of-domains : length (domainsBytes (w .domains)) ≡ domainsSize
   length-of-domains = length-domains (w .domains) (domains-fit (w .domains) (s .domains)) ∙ rw (s .domains .long)
@@ -78,8 +76,13 @@ module _ (w : World) (s : SoundWorld w) where
   encoded-sized : sizedTables (tablesOf w) ≡ true
   unfolding sizedTables tablesOf
   encoded-sized =
-      rw (eq-eqb _ _ (table-encoded (w .nodes) (s .nodes) .1), eq-eqb _ _ length-of-copies, eq-eqb _ _ length-of-watches, eq-eqb _ _ length-of-transactions,
-      eq-eqb _ _ length-of-domains)
+      rw (
+        eq-eqb _ _ (table-encoded (w .nodes) (s .nodes) .1),
+        eq-eqb _ _ length-of-copies,
+        eq-eqb _ _ length-of-watches,
+        eq-eqb _ _ length-of-transactions,
+        eq-eqb _ _ length-of-domains,
+      )
 
   encoded-domains : soundDomains (domainsBytes (w .domains)) ≡ true
   unfolding soundDomains
@@ -130,8 +133,7 @@ module _ (t : Tables) (l : Lendable t) where
   unfolding sizedTables
   sizes =
       let p = and-eq-true-iff (eqb (length (t .nodes)) tableSize) (eqb (length (t .copies)) copiesSize
-      && (eqb (length (t .watches)) watchesSize && (eqb (length (t .transactions)) transactionsSize && eqb (length (t .domains)) domainsSize))) .0 (l .sized) in
-      (
+      && (eqb (length (t .watches)) watchesSize && (eqb (length (t .transactions)) transactionsSize && eqb (length (t .domains)) domainsSize))) .0 (l .sized) in (
         p .0,
         and-eq-true-iff (eqb (length (t .copies)) copiesSize)
             (eqb (length (t .watches)) watchesSize && (eqb (length (t .transactions)) transactionsSize && eqb (length (t .domains)) domainsSize)) .0 (p .1) .0,
@@ -185,8 +187,14 @@ module _ (t : Tables) (l : Lendable t) where
       let g = every-at (goodWatch ds) ws (watches-parts ds ws (watches-test .1) .0) i v e in
       let p = and-eq-true-iff (known (domainOf (v .owner)) ds) (noNul (v .token) && goodPlace (v .owner) (v .depth) (v .place)) .0 g in
       let q = and-eq-true-iff (noNul (v .token)) (goodPlace (v .owner) (v .depth) (v .place)) .0 (p .1) in
-      record { known = p .0; token = q .0; place = q .1; depth-fits = w .depth; token-fits = w .token;
-          place-fits = w .place (place-named (v .owner) (v .depth) (v .place) (q .1)) }
+      record {
+        known = p .0;
+        token = q .0;
+        place = q .1;
+        depth-fits = w .depth;
+        token-fits = w .token;
+        place-fits = w .place (place-named (v .owner) (v .depth) (v .place) (q .1));
+      }
 
   decoded-watches : WatchesSound ds ws
   unfolding ws watchesOf

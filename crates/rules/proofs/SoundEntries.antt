@@ -55,7 +55,7 @@ twins-sym v u h =
     and-eq-true-iff (eqb (u .owner) (v .owner)) (same (placeText (u .place)) (placeText (v .place)) && same (u .token) (v .token)) .1 (
       eq-eqb (u .owner) (v .owner) (sym (eqb-true (v .owner) (u .owner) (p .0))),
       and-eq-true-iff (same (placeText (u .place)) (placeText (v .place))) (same (u .token) (v .token)) .1
-      (eq-same (sym (same-eq _ _ (q .0))), eq-same (sym (same-eq _ _ (q .1)))),
+          (eq-same (sym (same-eq _ _ (q .0))), eq-same (sym (same-eq _ _ (q .1)))),
     )
 
 pub watches-grown : (ds : Domains) (ws : Watches) (v : Watch) → WatchesSound ds ws → WatchSound ds v →

@@ -15,9 +15,8 @@ use Rattle.rules.specs.Path.{Domain, domainOf}
 use Rattle.rules.specs.Answer.{Change}
 use Rattle.rules.specs.Event.{Watches}
 use Rattle.rules.specs.Layout.{Domains, Transaction, Transactions}
-use Rattle.rules.specs.Sound.{
-  introduced, known, watched, goodDomains, goodWatch, goodWatches, goodChange, goodChanges, soundTable, goodTransactions, goodPlace, noNul,
-}
+use Rattle.rules.specs.Sound.{introduced, known, watched, goodDomains, goodWatch, goodWatches, goodChange, goodChanges, soundTable}
+use Rattle.rules.specs.Sound.{goodTransactions, goodPlace, noNul}
 use Rattle.rules.proofs.Tables.{Each}
 use Rattle.rules.proofs.Places.{nothing, some-is, At, every, apart, every-at, at-every, related-one, one-related}
 use Rattle.rules.proofs.EntryLayouts.{DomainFits, MaybeWatch}
@@ -59,9 +58,11 @@ parts-domains (some d ∷ ds) h k =
     let p = and-eq-true-iff (leb 1 d && leb d lastDomain) (every inRange ds) .0 h in
     let q = and-eq-true-iff (leb 1 d) (leb d lastDomain) .0 (p .0) in
     let r = and-eq-true-iff (not (has (eqb d) ds)) (apart eqb ds) .0 k in
-    and-eq-true-iff (leb 1 d) (leb d lastDomain && (not (has (eqb d) ds) && goodDomains ds)) .1
-    (q .0, and-eq-true-iff (leb d lastDomain) (not (has (eqb d) ds) && goodDomains ds) .1
-    (q .1, and-eq-true-iff (not (has (eqb d) ds)) (goodDomains ds) .1 (r .0, parts-domains ds (p .1) (r .1))))
+    and-eq-true-iff (leb 1 d) (leb d lastDomain && (not (has (eqb d) ds) && goodDomains ds)) .1 (
+      q .0,
+      and-eq-true-iff (leb d lastDomain) (not (has (eqb d) ds) && goodDomains ds) .1
+          (q .1, and-eq-true-iff (not (has (eqb d) ds)) (goodDomains ds) .1 (r .0, parts-domains ds (p .1) (r .1))),
+    )
 
 eqb-sym : (a b : ℕ) → eqb a b ≡ true → eqb b a ≡ true
 eqb-sym a b h = eq-eqb b a (sym (eqb-true a b h))
@@ -122,8 +123,12 @@ watches-good ds ws s =
 pub watches-fit : (ds : Domains) (ws : Watches) → DomainsSound ds → WatchesSound ds ws → Each MaybeWatch ws
 watches-fit ds ws d s = each-of MaybeWatch ws tt λ i v q.
     let w = s .each i v q in
-    record { owner = connection-fits (v .owner) (known-range ds (domainOf (v .owner)) d (w .known)); depth = w .depth-fits; token = w .token-fits;
-        place = w .place-fits }
+    record {
+      owner = connection-fits (v .owner) (known-range ds (domainOf (v .owner)) d (w .known));
+      depth = w .depth-fits;
+      token = w .token-fits;
+      place = w .place-fits;
+    }
 
 -- ── transactions ──
 

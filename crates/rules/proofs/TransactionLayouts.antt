@@ -12,9 +12,8 @@ use Rattle.rules.specs.Size.{longestPath, mostChanges, changeSize, trans
 use Rattle.rules.specs.Octets.{Octets, padded, bit, _bits_, chunks, bigEndian, bigFrom, field, pack, packFrom, bitsAt}
 use Rattle.rules.specs.Path.{allNames, pathText, namesIn}
 use Rattle.rules.specs.Answer.{Change}
-use Rattle.rules.specs.Layout.{
-  textAt, changeBytes, transactionBytes, changeIn, transactionAt, transactionIn, transactionsBytes, transactionsOf, Transactions, Transaction,
-}
+use Rattle.rules.specs.Layout.{textAt, changeBytes, transactionBytes, changeIn, transactionAt, transactionIn, transactionsBytes, transactionsOf}
+use Rattle.rules.specs.Layout.{Transactions, Transaction}
 use Rattle.rules.proofs.Slots.{length-padded, text-padded}
 use Rattle.rules.proofs.Tables.{Each, each-map, length-encoded, decoded, decoded-at}
 use Rattle.rules.proofs.PathLaws.{text-names}
@@ -78,8 +77,11 @@ unfolding flatMap chunks
 first-rows encode k n [] rest h w = refl
 first-rows encode k zero (x ∷ xs) rest h w = absurd (omega arith)
 first-rows encode k (suc n) (x ∷ xs) rest h w =
-    rw (append-assoc (encode x) (flatMap encode xs) rest, take-at (encode x) (flatMap encode xs ++ rest) k (w .0),
-    drop-at (encode x) (flatMap encode xs ++ rest) k (w .0))
+    rw (
+      append-assoc (encode x) (flatMap encode xs) rest,
+      take-at (encode x) (flatMap encode xs ++ rest) k (w .0),
+      drop-at (encode x) (flatMap encode xs ++ rest) k (w .0),
+    )
     (ap (λ (l : List Octets). encode x ∷ l) (first-rows encode k n xs rest (omega arith) (w .1)))
 
 map-back : {A : Type 0} (encode : A → Octets) (decode : Octets → A) (xs : List A) → Each (λ (x : A). decode (encode x) ≡ x) xs → map decode (map encode xs) ≡ xs
@@ -118,8 +120,10 @@ module _ (x : Transaction) (f : TransactionFits x) where
   some-transaction-width : length (transactionBytes (some x)) ≡ transactionSize
   some-transaction-width =
       ap length transaction-seam
-      ∙ (length-append (bigEndian 3 transaction-fields) _ ∙ rw (length-big 3,
-      length-padded (mostChanges * changeSize) (flatMap changeBytes (x .changes)) changes-short))
+      ∙ (length-append (bigEndian 3 transaction-fields) _ ∙ rw (
+        length-big 3,
+        length-padded (mostChanges * changeSize) (flatMap changeBytes (x .changes)) changes-short,
+      ))
 
   transaction-head-read : field (transactionBytes (some x)) 0 3 ≡ transaction-fields
   transaction-head-read = rw transaction-seam (field-first 3 transaction-fields _ (heads .0))
@@ -132,7 +136,7 @@ module _ (x : Transaction) (f : TransactionFits x) where
         drop-at (bigEndian 3 transaction-fields) (padded (mostChanges * changeSize) (flatMap changeBytes (x .changes))) 3 (length-big 3 transaction-fields),
         heads .3,
         first-rows changeBytes changeSize mostChanges (x .changes) (replicate (mostChanges * changeSize - length (flatMap changeBytes (x .changes))) 0) (f .few)
-        rows,
+            rows,
       )
       (map-back changeBytes changeIn (x .changes) (each-map ChangeFits _ change-read (x .changes) (f .changes)))
 

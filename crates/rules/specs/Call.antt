@@ -5,10 +5,8 @@ use mathlib.Core.List.{_++_, flatMap}
 use Prim.Native.Nat.{ℕ, _+_, _-_}
 use lib.ListN.{length, take, drop}
 use lib.Dec.{eqb, ltb}
-use Rattle.rules.specs.Size.{
-  mostTransactions, headerSize, reqAt, txAt, lenAt, longestPayload, tableSize, copiesSize, watchesSize, transactionsSize, domainsSize, replySize,
-  eventsSize,
-}
+use Rattle.rules.specs.Size.{mostTransactions, headerSize, reqAt, txAt, lenAt, longestPayload, tableSize, copiesSize, watchesSize}
+use Rattle.rules.specs.Size.{transactionsSize, domainsSize, replySize, eventsSize}
 use Rattle.rules.specs.Octets.{Octets, nul, fourBytes, littleEndian, chunks, paste}
 use Rattle.rules.specs.Domain.{Connection, domainOf}
 use Rattle.rules.specs.Payload.{Parsed, unknown, invalid, request, parse}

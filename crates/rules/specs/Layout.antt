@@ -5,11 +5,9 @@ use mathlib.Core.Option.{Option, none, some}
 use Prim.Native.Nat.{ℕ, zero, suc, _+_, _*_, _-_}
 use lib.ListN.{length, take, drop, replicate}
 use lib.Dec.{eqb}
-use Rattle.rules.specs.Size.{
-  slots, slotSize, fieldsSize, entriesSize, nameAt, longestName, valueAt, longestValue, mostEntries, mostDomains, domainSize, mostWatches,
-  watchFieldsSize, tokenAt, watchSize, longestPath, longestToken, mostTransactions, changesAt, changesSize, transactionSize, mostChanges,
-  changeFieldsSize, changeSize, recordPathAt,
-}
+use Rattle.rules.specs.Size.{slots, slotSize, fieldsSize, entriesSize, nameAt, longestName, valueAt, longestValue, mostEntries, mostDomains}
+use Rattle.rules.specs.Size.{domainSize, mostWatches, watchFieldsSize, tokenAt, watchSize, longestPath, longestToken, mostTransactions}
+use Rattle.rules.specs.Size.{changesAt, changesSize, transactionSize, mostChanges, changeFieldsSize, changeSize, recordPathAt}
 use Rattle.rules.specs.Octets.{Octets, padded, chunks, bigEndian, field, Bits, _bits_, pack, bitsAt, bit}
 use Rattle.rules.specs.Domain.{Domain, Connection}
 use Rattle.rules.specs.Path.{malformed, absolute, relative, special, given, namesIn, pathText}

@@ -5,9 +5,8 @@ use mathlib.Core.Option.{Option, none, some}
 use Prim.Native.Nat.{ℕ, suc, _-_, _*_}
 use lib.ListN.{length, getD, take, drop}
 use lib.Dec.{eqb, ltb, leb}
-use Rattle.rules.specs.Size.{
-  mostWatches, mostRecords, maskSize, recordPathAt, recordSize, longestPath, watchesSize, domainsSize, eventsSize, messageSize, lastDomain,
-}
+use Rattle.rules.specs.Size.{mostWatches, mostRecords, maskSize, recordPathAt, recordSize, longestPath, watchesSize, domainsSize, eventsSize}
+use Rattle.rules.specs.Size.{messageSize, lastDomain}
 use Rattle.rules.specs.Octets.{Octets, nul, same, fourBytes, field, bitsAt, numberIn, paste}
 use Rattle.rules.specs.Domain.{Domain, domainOf}
 use Rattle.rules.specs.Path.{base, pathText, isBelow}

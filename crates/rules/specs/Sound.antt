@@ -14,9 +14,8 @@ use Rattle.rules.specs.Node.{Entry, Node, Table, nodeAt}
 use Rattle.rules.specs.Payload.{Place, path, event}
 use Rattle.rules.specs.Answer.{Change}
 use Rattle.rules.specs.Event.{Watch, Watches, placeText}
-use Rattle.rules.specs.Layout.{
-  tableBytes, tableOf, Domains, domainsBytes, domainsOf, watchesBytes, watchesOf, Transactions, transactionsBytes, transactionsOf,
-}
+use Rattle.rules.specs.Layout.{tableBytes, tableOf, Domains, domainsBytes, domainsOf, watchesBytes, watchesOf, Transactions, transactionsBytes}
+use Rattle.rules.specs.Layout.{transactionsOf}
 
 -- ── the node table ──
 

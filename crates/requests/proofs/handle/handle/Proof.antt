@@ -4,17 +4,8 @@ use Rattle.rules.specs.World as W
 use Rattle.rules.specs.Call.{outcomeOf}
 use Rattle.payload.specs.Meaning.{meant}
 use Rattle.handlers.proofs.Ways.{handled-as, same-tables}
-use Rattle.requests.proofs.HandleLaws.{
-  sender-low,
-  committable,
-  watches-left,
-  domains-left,
-  parsed-outcome,
-  asks-no-node,
-  sound-as,
-  read-as,
-  handled-so,
-}
+use Rattle.requests.proofs.HandleLaws.{sender-low, committable, watches-left, domains-left, parsed-outcome, asks-no-node, sound-as, read-as}
+use Rattle.requests.proofs.HandleLaws.{handled-so}
 use borrow.Author.Needs.{needs}
 use Rattle.requests.proofs.handle.handle.Statement.{statement}
 use Rattle.requests.proofs.handle.handle.Tie as tie
@@ -29,15 +20,21 @@ node-request-requires : tie.Need-node-request-requires
 node-request-requires c κs =
     let start = c .before .before .before .before .before .before .before .before .before .before .before .before .before .before .before .before .before .before in
     let v = start .pre in
-    let read = c .before .before .before .before .before .before .before .before .before .parse .ensures in
-    (v .speaks, sender-low _ _ _ _ _ v, sound-as (c .before .before .before .before .before .before .before .r .given .1) _ (read .sound), v .payload,
-    committable _ _ _ _ _ v)
+    let read = c .before .before .before .before .before .before .before .before .before .parse .ensures in (
+      v .speaks,
+      sender-low _ _ _ _ _ v,
+      sound-as (c .before .before .before .before .before .before .before .r .given .1) _ (read .sound),
+      v .payload,
+      committable _ _ _ _ _ v,
+    )
 
 other-request-requires : tie.Need-other-request-requires
 other-request-requires c κs =
-    let read = c .before .before .before .before .before .before .before .before .parse in
-    (c .before .before .before .before .before .before .before .before .before .before .before .before .before .before .before .before .before .pre,
-    read .ensures .sound, asks-no-node (read .result) (c .before .before .before .before .before .before .before .match .keys2))
+    let read = c .before .before .before .before .before .before .before .before .parse in (
+      c .before .before .before .before .before .before .before .before .before .before .before .before .before .before .before .before .before .pre,
+      read .ensures .sound,
+      asks-no-node (read .result) (c .before .before .before .before .before .before .before .match .keys2),
+    )
 
 same-length : tie.Need-same-length
 same-length c = search needs

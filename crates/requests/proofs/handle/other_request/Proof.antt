@@ -4,25 +4,9 @@ use Rattle.rules.specs.World as W
 use Rattle.rules.specs.Call.{outcomeOf}
 use Rattle.payload.specs.Meaning.{meant}
 use Rattle.handlers.proofs.Ways.{refused-so, done-so, same-tables}
-use Rattle.requests.proofs.HandleLaws.{
-  connection-low,
-  nodes-canonical,
-  domains-kept,
-  watches-kept,
-  transactions-kept,
-  committable,
-  releasable,
-  nodes-left,
-  copies-left,
-  watches-left,
-  transactions-left,
-  domains-left,
-  all-left,
-  is-unknown,
-  sound-as,
-  read-as,
-  handled-so,
-}
+use Rattle.requests.proofs.HandleLaws.{connection-low, nodes-canonical, domains-kept, watches-kept, transactions-kept, committable, releasable}
+use Rattle.requests.proofs.HandleLaws.{nodes-left, copies-left, watches-left, transactions-left, domains-left, all-left, is-unknown, sound-as}
+use Rattle.requests.proofs.HandleLaws.{read-as, handled-so}
 use borrow.Author.Needs.{needs}
 use Rattle.requests.proofs.handle.other_request.Statement.{statement}
 use Rattle.requests.proofs.handle.other_request.Tie as tie
