@@ -1,15 +1,15 @@
 -- Searches and sweeps over the places of a table, one place after the other.
-use mathlib.Core.Path.{_≡_, refl, sym, ap, ap₂, _∙_}
+use mathlib.Core.Path.{_≡_, refl, ap, _∙_}
 use mathlib.Core.Bool.{Bool, true, false, cond, _&&_}
 use mathlib.Core.List.{List, [], _∷_, map}
 use mathlib.Core.Option.{Option, none, some}
 use Prim.Native.Nat.{ℕ, zero, suc, _+_, _≤_, _<_}
 use native.Mathlib.Numerals.{add-one}
-use native.Mathlib.Nat.{add-zero, not-suc-le-zero, le-of-suc-le-suc}
+use native.Mathlib.Nat.{not-suc-le-zero, le-of-suc-le-suc}
 use native.Mathlib.Omega.{arith}
 use lib.ListN.{length, getD, drop, set, drop-of-length-le}
 use lib.Seq.{drop-cons}
-use Rattle.rules.specs.Entries.{lowest, has, without}
+use Rattle.rules.specs.Entries.{has, without}
 use Rattle.domains.specs.Entry.{taken, passes, entryOr, droppedIf}
 
 module _ {A : Type 0} where
@@ -70,23 +70,6 @@ module _ {A : Type 0} where
   pub has-over : (test : A → Bool) (xs : List (Option A)) (i : ℕ) → length xs ≤ i → has test (drop i xs) ≡ false
   unfolding has
   has-over test xs i h = rw (drop-of-length-le xs {i = i} h)
-
-  -- ── the lowest free place ──
-
-  module _ (xs : List (Option A)) (i : ℕ) where
-    pub lowest-here : i < length xs → taken (getD xs i none) ≡ false → i + lowest (drop i xs) ≡ i
-    unfolding lowest
-    lowest-here h f = rw (drop-cons xs i none h, free-none (getD xs i none) f) (add-zero i)
-
-    pub lowest-further : (stand : A) → i < length xs → taken (getD xs i none) ≡ true → i + lowest (drop i xs) ≡ i + 1 + lowest (drop (i + 1) xs)
-    unfolding lowest
-    lowest-further stand h f =
-        let e : drop i xs ≡ some (entryOr stand (getD xs i none)) ∷ drop (i + 1) xs = drop-cons xs i none h ∙ ap₂ _∷_ (taken-some stand (getD xs i none) f) (ap (λ (j : ℕ). drop j xs) (sym (add-one i))) in
-        rw e (omega arith)
-
-    pub lowest-over : length xs ≤ i → i + lowest (drop i xs) ≡ i
-    unfolding lowest
-    lowest-over h = rw (drop-of-length-le xs {i = i} h) (add-zero i)
 
   -- ── what is asked of each place, with those after it ──
 

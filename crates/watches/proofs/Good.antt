@@ -10,7 +10,7 @@ use native.Mathlib.Omega.{arith}
 use lib.ListN.{length, getD, take, drop, length-append, drop-of-length-le}
 use lib.Seq.{take-at, drop-cons}
 use lib.Dec.{eqb}
-use borrow.Author.Tests.{eq-eqb, ne-eqb, le-leb}
+use borrow.Author.Tests.{le-leb}
 use Rattle.rules.specs.Size.{longestAbsolute, mostWatches}
 use Rattle.rules.specs.Octets.{Octets, same, begins, paste, text}
 use Rattle.rules.specs.Domain.{Domain, Connection, domainOf, isControl}
