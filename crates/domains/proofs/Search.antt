@@ -1,6 +1,6 @@
 -- Searches and sweeps over the places of a table, one place after the other.
-use mathlib.Core.Path.{_≡_, refl, ap, _∙_}
-use mathlib.Core.Bool.{Bool, true, false, cond, _&&_}
+use mathlib.Core.Path.{_≡_, refl, sym, ap, _∙_}
+use mathlib.Core.Bool.{Bool, true, false, cond}
 use mathlib.Core.List.{List, [], _∷_, map}
 use mathlib.Core.Option.{Option, none, some}
 use Prim.Native.Nat.{ℕ, zero, suc, _+_, _≤_, _<_}
@@ -45,37 +45,31 @@ module _ {A : Type 0} where
   dropped-not test none e = refl
   dropped-not test (some x) e = rw e
 
-  -- ── some entry passes a test ──
+  -- ── some entry passes a test: those before place i do not ──
 
-  module _ (test : A → Bool) (xs : List (Option A)) (i : ℕ) (h : i < length xs) where
-    has-cons : has test (drop i xs) ≡ has test (getD xs i none ∷ drop (i + 1) xs)
-    has-cons = rw (drop-cons xs i none h, add-one)
+  module _ (test : A → Bool) (xs : List (Option A)) (n : ℕ) (long : length xs ≡ n) (i : ℕ) {whole : Bool} (p : whole ≡ has test (drop i xs)) where
+    turn : i < n → whole ≡ has test (getD xs i none ∷ drop (i + 1) xs)
+    turn h = p ∙ rw (drop-cons xs i none (rw long h), add-one)
 
-    pub has-here : passes test (getD xs i none) ≡ true → has test (drop i xs) ≡ true
+    pub found : i < n → {b : Bool} → b ≡ passes test (getD xs i none) → b ≡ true → true ≡ whole
     unfolding passes has
-    has-here p = has-cons ∙ go (getD xs i none) p
+    found h e t = sym (turn h ∙ go (getD xs i none) (sym e ∙ t))
       where
         go : (x : Option A) → passes test x ≡ true → has test (x ∷ drop (i + 1) xs) ≡ true
         go none p = let z : _≡_ {A = ℕ} 0 1 = cc in absurd (omega arith)
         go (some x) p = rw p
 
-    pub has-further : passes test (getD xs i none) ≡ false → has test (drop i xs) ≡ has test (drop (i + 1) xs)
+    pub passed-by : i < n → {b : Bool} → b ≡ passes test (getD xs i none) → b ≡ false → whole ≡ has test (drop (i + 1) xs)
     unfolding passes has
-    has-further p = has-cons ∙ go (getD xs i none) p
+    passed-by h e f = turn h ∙ go (getD xs i none) (sym e ∙ f)
       where
         go : (x : Option A) → passes test x ≡ false → has test (x ∷ drop (i + 1) xs) ≡ has test (drop (i + 1) xs)
         go none p = refl
         go (some x) p = rw p
 
-  pub has-over : (test : A → Bool) (xs : List (Option A)) (i : ℕ) → length xs ≤ i → has test (drop i xs) ≡ false
-  unfolding has
-  has-over test xs i h = rw (drop-of-length-le xs {i = i} h)
-
-  -- ── what is asked of each place, with those after it ──
-
-  module _ (goods : List (Option A) → Bool) (good : Option A → List (Option A) → Bool) (next : (x : Option A) (xs : List (Option A)) → goods (x ∷ xs) ≡ (good x xs && goods xs)) where
-    pub goods-next : (xs : List (Option A)) (i : ℕ) → i < length xs → goods (drop i xs) ≡ (good (getD xs i none) (drop (i + 1) xs) && goods (drop (i + 1) xs))
-    goods-next xs i h = rw (drop-cons xs i none h, add-one) (next (getD xs i none) (drop (suc i) xs))
+    pub not-found : n ≤ i → false ≡ whole
+    unfolding has
+    not-found h = sym (p ∙ rw (drop-of-length-le xs {i = i} (rw long h)))
 
   -- ── each place in turn made what a function makes of it ──
 

@@ -5,10 +5,9 @@ use mathlib.Core.List.{[], _∷_, _++_, append-nil}
 use mathlib.Core.Option.{Option, none, some}
 use Prim.Native.Nat.{ℕ, _+_, _≤_, _<_}
 use native.Mathlib.Nat.{zero-add}
-use native.Mathlib.Numerals.{add-one}
 use native.Mathlib.Omega.{arith}
-use lib.ListN.{length, getD, take, drop, length-append, drop-of-length-le}
-use lib.Seq.{take-at, drop-cons}
+use lib.ListN.{length, getD, take, drop, length-append}
+use lib.Seq.{take-at}
 use lib.Dec.{eqb}
 use borrow.Author.Tests.{le-leb}
 use Rattle.rules.specs.Size.{longestAbsolute, mostWatches}
@@ -30,20 +29,24 @@ use Rattle.octets.specs.Two.{Bytes}
 use Rattle.watches.specs.Watch.{nobody, depthMeant, watchOf, KeptWatches}
 use Rattle.watches.specs.declared.Depth.{Depth}
 use Rattle.watches.specs.Checks.{goodWatchAt, placeSame}
-use Rattle.domains.proofs.Search.{free-none, taken-some, goods-next}
+use Rattle.domains.proofs.Search.{free-none, taken-some}
+use Rattle.domains.proofs.Turns.{ListCheck}
 use Rattle.watches.proofs.Bytes.{place-given, empty-is}
 use Rattle.watches.proofs.Laws.{place-again}
 use Rattle.watches.proofs.Kept.{same-place, special-long, place-malformed}
 
 -- ── a token ──
 
-pub nul-next : (t : Octets) (i : ℕ) → i < length t → noNul (drop i t) ≡ (not (eqb (getD t i 0) 0) && noNul (drop (i + 1) t))
+pub nul-none : noNul [] ≡ true
 unfolding noNul
-nul-next t i h = rw (drop-cons t i 0 h, add-one) refl
+nul-none = refl
 
-pub nul-over : (t : Octets) (i : ℕ) → length t ≤ i → noNul (drop i t) ≡ true
+pub nul-cons : (x : ℕ) (t : Octets) → noNul (x ∷ t) ≡ (not (eqb x 0) && noNul t)
 unfolding noNul
-nul-over t i h = rw (drop-of-length-le t {i = i} h)
+nul-cons x t = refl
+
+abbrev pub nulCheck : ListCheck ℕ
+nulCheck = record { stand = 0; all = noNul; one = λ x t. not (eqb x 0); empty = nul-none; next = nul-cons }
 
 -- ── below the base ──
 
@@ -184,14 +187,14 @@ module _ (ds : Domains) (x : Option Watch) (ws : Watches) where
         → goodWatchAt ds x ws ≡ not (watched (w .owner) (placeText (w .place)) (w .token) ws)
     good-placed k n p = good-is ∙ rw (k, n, p)
 
-good-cons : (ds : Domains) (x : Option Watch) (ws : Watches) → goodWatches ds (x ∷ ws) ≡ (goodWatchAt ds x ws && goodWatches ds ws)
+pub good-cons : (ds : Domains) (x : Option Watch) (ws : Watches) → goodWatches ds (x ∷ ws) ≡ (goodWatchAt ds x ws && goodWatches ds ws)
 unfolding goodWatches goodWatchAt
 good-cons ds none ws = refl
 good-cons ds (some w) ws = sym (and-assoc (goodWatch ds w) (not (watched (w .owner) (placeText (w .place)) (w .token) ws)) (goodWatches ds ws))
 
-pub good-next : (ds : Domains) (ws : Watches) (i : ℕ) → i < length ws → goodWatches ds (drop i ws) ≡ (goodWatchAt ds (getD ws i none) (drop (i + 1) ws) && goodWatches ds (drop (i + 1) ws))
-good-next ds = goods-next (goodWatches ds) (goodWatchAt ds) (good-cons ds)
-
-pub good-over : (ds : Domains) (ws : Watches) (i : ℕ) → length ws ≤ i → goodWatches ds (drop i ws) ≡ true
+pub good-none : (ds : Domains) → goodWatches ds [] ≡ true
 unfolding goodWatches
-good-over ds ws i h = rw (drop-of-length-le ws {i = i} h)
+good-none ds = refl
+
+abbrev pub goodCheck : Domains → ListCheck (Option Watch)
+goodCheck ds = record { stand = none; all = goodWatches ds; one = goodWatchAt ds; empty = good-none ds; next = good-cons ds }

@@ -6,7 +6,7 @@ use mathlib.Core.Option.{none, some}
 use Prim.Native.Nat.{ℕ, suc, _+_, _*_, _/_, _%_, _≤_, _<_}
 use native.Mathlib.Omega.{arith}
 use lib.Dec.{eqb}
-use lib.ListN.{length, getD, set, replicate, length-replicate}
+use lib.ListN.{length, getD, set, replicate}
 use borrow.Author.Tests.{eqb-true}
 use Rattle.rules.specs.Size.{mostWatches, watchFieldsSize, tokenAt, watchSize, watchesSize, longestPath, longestToken}
 use Rattle.rules.specs.Octets.{Octets, same, paste, padded, bit}
@@ -26,8 +26,8 @@ use Rattle.watches.specs.declared.Depth.{Depth}
 use Rattle.watches.specs.declared.Depth.the-variants.{To, Any}
 use Rattle.domains.proofs.Search.{swept}
 use Rattle.rules.proofs.Slots.{length-padded}
-use Rattle.domains.proofs.Rows.{Writable, wrote, wrote-kept, freed, left, dropped-kept, without-kept}
-use Rattle.watches.proofs.Bytes.{place-given, Narrow, watch-parts, narrow-width, watch-wide}
+use Rattle.domains.proofs.Rows.{Writable, wrote, wrote-kept, freed, left, dropped-kept, dropped-end, without-kept}
+use Rattle.watches.proofs.Bytes.{place-given, Narrow, watch-parts, narrow-width, none-width, watch-wide}
 
 -- ── what a place can hold ──
 
@@ -85,8 +85,7 @@ module _ (c : Connection) (x : Octets) (r : Bool) (d : Depth) (t : Octets) (f : 
   given-back = watch-read (some w) (record { owner = f .owner; depth = depth-fits d below; token = f .few; place = placed r x (f .placed) .fits (f .path) })
 
 empty : Writable watchBytes watchIn watchSize watch-wide none
-unfolding watchBytes
-empty = record { width = length-replicate {A = ℕ} watchSize 0; back = watch-read none tt }
+empty = record { width = none-width; back = watch-read none tt }
 
 module _ (s : Octets) (c : KeptWatches s) (k : ℕ) (h : k < mostWatches) where
   -- where place k begins
@@ -135,6 +134,11 @@ module _ (s : Octets) (c : KeptWatches s) (k : ℕ) (h : k < mostWatches) where
     put-kept =
         wrote-kept watchBytes watchIn watchSize watch-wide mostWatches s c k (some (watchGiven o x r d t))
         (record { width = narrow-width _ (given-narrow o x r d t f below); back = given-back o x r d t f below })
+
+pub swept-watches : (test : Watch → Bool) (s t : Octets) → KeptWatches s → (i : ℕ) → mostWatches ≤ i → watchesOf s ≡ swept (droppedIf test) i (watchesOf t)
+    → s ≡ watchesBytes (without test (watchesOf t))
+unfolding watchesOf watchesBytes
+swept-watches test s t c = dropped-end watchBytes watchIn watchSize watch-wide mostWatches s c test t
 
 pub kept-of : (s : Octets) → length s ≡ watchesSize → same (watchesBytes (watchesOf s)) s ≡ true → KeptWatches s
 unfolding watchesOf watchesBytes

@@ -20,7 +20,8 @@ returns c =
     let start = c .before .before in
     let s = start .args .s .now in
     let bytes = bytes-known s (c .before .shared-slice-known .given) in
-    c .lowest-free .ensures ∙ lowest-is taken refl (λ x. refl) domainSize (lit≤ tt) s (domainsOf s) mostDomains (length-domainsOf s) (λ i h. used-byte s bytes (start .pre) i h)
+    c .lowest-free .ensures
+    ∙ lowest-is taken refl (λ x. refl) domainSize (lit≤ tt) s (domainsOf s) mostDomains (length-domainsOf s) (λ i h. used-byte s bytes (start .pre) i h)
 
 pub lowest-free-spec : {M : Type 1} → statement M
 lowest-free-spec = tie.close (tie.spec lowest-free-requires returns)

@@ -4,7 +4,7 @@ use borrow.Author.Tests.{not-true, not-false}
 use borrow.Author.Needs.{needs}
 use Rattle.octets.proofs.Bytes.{bytes-known}
 use Rattle.domains.proofs.Tests.{and-first, and-rest}
-use Rattle.watches.proofs.Kept.{fields-few, free-kept, kept-long, kept-unplaced, kept-fields, kept-rests}
+use Rattle.watches.proofs.Kept.{fields-few, free-same, kept-long, kept-unplaced, kept-fields, kept-rests}
 use Rattle.watches.proofs.checks.place_kept.Statement.{statement}
 use Rattle.watches.proofs.checks.place_kept.Tie as tie
 
@@ -32,7 +32,7 @@ all-zero-requires c κs = search needs
 returns : tie.Need-returns
 returns c =
     let b = c .before .before .before .before .before in
-    c .all-zero .ensures ∙ free-kept (b .args .s .now) (b .args .k) (b .pre .0) (bytes-known (b .args .s .now) (c .before .before .before .before .shared-slice-known .given)) (b .pre .1) (c .before .before .if1 .taken)
+    c .all-zero .ensures ∙ free-same (b .args .s .now) (b .args .k) (b .pre .0) (bytes-known (b .args .s .now) (c .before .before .before .before .shared-slice-known .given)) (b .pre .1) (c .before .before .if1 .taken)
 
 path-length-requires : tie.Need-path-length-requires
 path-length-requires c κs = search needs
