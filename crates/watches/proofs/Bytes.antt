@@ -94,7 +94,8 @@ unfolding watchBytes watchBits
 watch-parts w f =
     rw depth-bits
     (ap (λ (a : Octets). a ++ (padded longestPath (placeText (w .place)) ++ padded longestToken (w .token)))
-    (six _ _ _ _ _ _ (bit-small (isRelative (w .place))) (bit-small (taken (w .depth))) (f .depth) (f .owner) (omega (arith, f .path)) (omega (arith, f .token))))
+    (six _ _ _ _ _ _ (bit-small (isRelative (w .place))) (bit-small (taken (w .depth))) (f .depth) (f .owner)
+    (omega (arith, f .path)) (omega (arith, f .token))))
 
 pub narrow-width : (w : Watch) → Narrow w → length (watchBytes (some w)) ≡ watchSize
 narrow-width w f =

@@ -149,7 +149,8 @@ read-same s k h bytes c u {r} {p} er ep =
 
 -- what the code asks of the fields that it read
 pub place-agree : (d : Depth) (s : Octets) (k : ℕ) → (h : k < mostWatches) → Bytes s → KeptWatches s → taken (getD (watchesOf s) k none) ≡ true
-    → {o : ℕ} {r : Bool} {p : Octets} → o ≡ watchOf s k .owner → depthMeant d ≡ watchOf s k .depth → r ≡ isRelative (watchOf s k .place) → p ≡ placeText (watchOf s k .place)
+    → {o : ℕ} {r : Bool} {p : Octets} → o ≡ watchOf s k .owner → depthMeant d ≡ watchOf s k .depth
+    → r ≡ isRelative (watchOf s k .place) → p ≡ placeText (watchOf s k .place)
     → goodPlace (watchOf s k .owner) (watchOf s k .depth) (watchOf s k .place) ≡ goodPlace o (depthMeant d) (placeIn r p)
 place-agree d s k h bytes c u eo ed er ep =
     ap (goodPlace (watchOf s k .owner) (watchOf s k .depth)) (sym (place-again s k h bytes c u)) ∙ rw (eo, ed, er, ep)
@@ -165,26 +166,33 @@ module _ (ds : Domains) (x : Option Watch) (ws : Watches) where
     abbrev w : Watch
     w = entryOr nobody x
 
-    good-is : goodWatchAt ds x ws
-        ≡ (known (domainOf (w .owner)) ds && (noNul (w .token) && (goodPlace (w .owner) (w .depth) (w .place) && not (watched (w .owner) (placeText (w .place)) (w .token) ws))))
+    abbrev ownerKnown : Bool
+    ownerKnown = known (domainOf (w .owner)) ds
+
+    abbrev placeGood : Bool
+    placeGood = goodPlace (w .owner) (w .depth) (w .place)
+
+    abbrev again : Bool
+    again = watched (w .owner) (placeText (w .place)) (w .token) ws
+
+    good-is : goodWatchAt ds x ws ≡ (ownerKnown && (noNul (w .token) && (placeGood && not again)))
     unfolding goodWatchAt goodWatch
     good-is =
-        let n = noNul (w .token) in
-        let g = goodPlace (w .owner) (w .depth) (w .place) in
-        let f = not (watched (w .owner) (placeText (w .place)) (w .token) ws) in
-        ap (λ (y : Option Watch). goodWatchAt ds y ws) (taken-some nobody x t) ∙ and-assoc (known (domainOf (w .owner)) ds) (n && g) f ∙ ap (λ (b : Bool). known (domainOf (w .owner)) ds && b) (and-assoc n g f)
+        let clean = noNul (w .token) in
+        ap (λ (y : Option Watch). goodWatchAt ds y ws) (taken-some nobody x t)
+        ∙ and-assoc ownerKnown (clean && placeGood) (not again)
+        ∙ ap (λ (b : Bool). ownerKnown && b) (and-assoc clean placeGood (not again))
 
-    pub good-unknown : known (domainOf (w .owner)) ds ≡ false → goodWatchAt ds x ws ≡ false
+    pub good-unknown : ownerKnown ≡ false → goodWatchAt ds x ws ≡ false
     good-unknown k = good-is ∙ rw k
 
-    pub good-nul : known (domainOf (w .owner)) ds ≡ true → noNul (w .token) ≡ false → goodWatchAt ds x ws ≡ false
+    pub good-nul : ownerKnown ≡ true → noNul (w .token) ≡ false → goodWatchAt ds x ws ≡ false
     good-nul k n = good-is ∙ rw (k, n)
 
-    pub good-misplaced : known (domainOf (w .owner)) ds ≡ true → noNul (w .token) ≡ true → goodPlace (w .owner) (w .depth) (w .place) ≡ false → goodWatchAt ds x ws ≡ false
+    pub good-misplaced : ownerKnown ≡ true → noNul (w .token) ≡ true → placeGood ≡ false → goodWatchAt ds x ws ≡ false
     good-misplaced k n p = good-is ∙ rw (k, n, p)
 
-    pub good-placed : known (domainOf (w .owner)) ds ≡ true → noNul (w .token) ≡ true → goodPlace (w .owner) (w .depth) (w .place) ≡ true
-        → goodWatchAt ds x ws ≡ not (watched (w .owner) (placeText (w .place)) (w .token) ws)
+    pub good-placed : ownerKnown ≡ true → noNul (w .token) ≡ true → placeGood ≡ true → goodWatchAt ds x ws ≡ not again
     good-placed k n p = good-is ∙ rw (k, n, p)
 
 pub good-cons : (ds : Domains) (x : Option Watch) (ws : Watches) → goodWatches ds (x ∷ ws) ≡ (goodWatchAt ds x ws && goodWatches ds ws)

@@ -297,5 +297,7 @@ module _ (s : Octets) (k : ℕ) (h : k < mostWatches) (bytes : Bytes s) (whole :
           ∙ ap₂ _&&_ (eq-same six-is)
           (same-append (padded longestPath (placeText (v .place))) (padded longestToken (v .token)) pathPart tokenPart
           (length-padded longestPath _ (n .path) ∙ sym pl))
-          ∙ ap₂ _&&_ (ap (λ (z : Octets). same (padded longestPath z) pathPart) path-is ∙ same-field s (at + watchFieldsSize) longestPath (pathLength s k) (omega arith) l)
-          (ap (λ (z : Octets). same (padded longestToken z) tokenPart) token-is ∙ same-field s (at + tokenAt) longestToken (tokenLength s k) (omega arith) (tests .few))
+          ∙ ap₂ _&&_ (ap (λ (z : Octets). same (padded longestPath z) pathPart) path-is
+          ∙ same-field s (at + watchFieldsSize) longestPath (pathLength s k) (omega arith) l)
+          (ap (λ (z : Octets). same (padded longestToken z) tokenPart) token-is
+          ∙ same-field s (at + tokenAt) longestToken (tokenLength s k) (omega arith) (tests .few))

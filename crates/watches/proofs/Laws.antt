@@ -132,7 +132,8 @@ module _ (s : Octets) (k : ℕ) (h : k < mostWatches) where
 
     first-six : getD s at 0 ∷ getD s (at + 1) 0 ∷ getD s (at + 2) 0 ∷ getD s (at + 3) 0 ∷ getD s (at + 4) 0 ∷ getD s (at + 5) 0 ∷ [] ≡ sixOf v
     first-six =
-        first-listed s at watchSize watchFieldsSize (sixOf v) (padded longestPath (placeText (v .place)) ++ padded longestToken (v .token)) (lit≤ tt) (omega arith) refl
+        let texts = padded longestPath (placeText (v .place)) ++ padded longestToken (v .token) in
+        first-listed s at watchSize watchFieldsSize (sixOf v) texts (lit≤ tt) (omega arith) refl
         (own ∙ watch-parts v (read-narrow row head))
 
     record Said : Type 0 where
@@ -154,7 +155,14 @@ module _ (s : Octets) (k : ℕ) (h : k < mostWatches) where
         let m = marks-back _ _ _ b0 (bit-small (isRelative (v .place))) (bit-small (taken (v .depth))) in
         let l = lengths-back _ _ _ _ b4 b5 (n .path) (n .token) in
         let f = lengths bytes whole in
-        record { path = sym (f .0) ∙ l .0; token = sym (f .1) ∙ l .1; relative = sym (marks bytes whole .0) ∙ m .0; zeros = (m .1, l .2); depth = b1; given = m .2 }
+        record {
+          path = sym (f .0) ∙ l .0;
+          token = sym (f .1) ∙ l .1;
+          relative = sym (marks bytes whole .0) ∙ m .0;
+          zeros = (m .1, l .2);
+          depth = b1;
+          given = m .2;
+        }
 
     pub fields-said : fieldsSame s k ≡ true
     unfolding fieldsSame depthSame taken entryOr
@@ -236,7 +244,8 @@ module _ (c : Connection) (p t : Octets) (x : Option Watch) where
     unfolding passes ownedBy twin entryOr
     twin-is = go x o
       where
-        go : (x : Option Watch) → passes (ownedBy c) x ≡ true → passes (twin c p t) x ≡ (same p (placeText (entryOr nobody x .place)) && same t (entryOr nobody x .token))
+        go : (x : Option Watch) → passes (ownedBy c) x ≡ true
+            → passes (twin c p t) x ≡ (same p (placeText (entryOr nobody x .place)) && same t (entryOr nobody x .token))
         go none e = let z : _≡_ {A = ℕ} 0 1 = cc in absurd (omega arith)
         go (some w) e = rw e
 

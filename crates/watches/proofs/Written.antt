@@ -129,7 +129,8 @@ module _ (s : Octets) (c : KeptWatches s) (k : ℕ) (h : k < mostWatches) where
         ∙ ap (paste at six) (rw (l, e) at inner))
 
     -- what the bytes are and mean after a watch is put in
-    pub put-kept : (b : Octets) → b ≡ watchesBytes (set (watchesOf s) k (some (watchGiven o x r d t))) → KeptWatches b × (watchesOf b ≡ set (watchesOf s) k (some (watchGiven o x r d t)))
+    pub put-kept : (b : Octets) → b ≡ watchesBytes (set (watchesOf s) k (some (watchGiven o x r d t)))
+        → KeptWatches b × (watchesOf b ≡ set (watchesOf s) k (some (watchGiven o x r d t)))
     unfolding watchesOf watchesBytes
     put-kept =
         wrote-kept watchBytes watchIn watchSize watch-wide mostWatches s c k (some (watchGiven o x r d t))

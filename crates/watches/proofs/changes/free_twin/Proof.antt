@@ -26,7 +26,8 @@ returns c =
     let start = at-is-twin .before .before .before .before .before in
     let args = start .args in
     let there = sym (at-is-twin .is-twin .ensures) ∙ at-if .if1 .taken in
-    c .before .before .clear .ensures ∙ freed-watch (args .s .now) (start .pre .1) (args .k) (start .pre .0) (twin (args .c) (args .p .now) (args .t .now)) there
+    c .before .before .clear .ensures
+    ∙ freed-watch (args .s .now) (start .pre .1) (args .k) (start .pre .0) (twin (args .c) (args .p .now) (args .t .now)) there
 
 same-length-2 : tie.Need-same-length-2
 same-length-2 c = search needs
