@@ -20,7 +20,9 @@ returns c =
     let start = c .before .before in
     let s = start .args .s .now in
     let bytes = bytes-known s (c .before .shared-slice-known .given) in
-    c .lowest-free .ensures ∙ lowest-is taken refl (λ x. refl) transactionSize (lit≤ tt) s (transactionsOf s) mostTransactions (length-transactionsOf s) (λ i h. used-byte s i h bytes (start .pre))
+    c .lowest-free .ensures
+    ∙ lowest-is taken refl (λ x. refl) transactionSize (lit≤ tt) s (transactionsOf s) mostTransactions (length-transactionsOf s)
+    (λ i h. used-byte s i h bytes (start .pre))
 
 pub lowest-free-spec : {M : Type 1} → statement M
 lowest-free-spec = tie.close (tie.spec lowest-free-requires returns)
