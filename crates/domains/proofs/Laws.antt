@@ -26,7 +26,7 @@ use Rattle.domains.specs.Checks.{goodDomain}
 use Rattle.domains.proofs.Tests.{taken-cond, entry-is}
 use Rattle.octets.proofs.PlaceLaws.{first-bit}
 use Rattle.domains.proofs.Turns.{ListCheck}
-use Rattle.domains.proofs.Search.{free-none, taken-some, swept}
+use Rattle.domains.proofs.Search.{free-none, taken-some, sweptBefore}
 use Rattle.domains.proofs.Rows.{same-first, listed-from, partAt, length-table, free-kept, used-kept}
 use Rattle.domains.proofs.Rows.{Writable, wrote, freed, left, dropped-kept, dropped-end}
 
@@ -177,14 +177,14 @@ module _ (s : Octets) (c : KeptDomains s) (k : ℕ) (h : k < mostDomains) where
   unfolding domainsOf domainsBytes
   left-domain test = left domainBytes domainIn domainSize wide mostDomains s c k h empty test
 
-  pub swept-domain : (test : Domain → Bool) (ds : Domains) → domainsOf s ≡ swept (droppedIf test) k ds
+  pub swept-domain : (test : Domain → Bool) (ds : Domains) → domainsOf s ≡ sweptBefore (droppedIf test) k ds
       → (t : Octets) → t ≡ domainsBytes (set (domainsOf s) k (droppedIf test (getD (domainsOf s) k none)))
-      → KeptDomains t × (domainsOf t ≡ swept (droppedIf test) (k + 1) ds)
+      → KeptDomains t × (domainsOf t ≡ sweptBefore (droppedIf test) (k + 1) ds)
   unfolding domainsOf domainsBytes
   swept-domain test = dropped-kept domainBytes domainIn domainSize wide mostDomains s c k h empty test
 
-pub swept-domains : (test : Domain → Bool) (s t : Octets) → KeptDomains s → (i : ℕ) → mostDomains ≤ i → domainsOf s ≡ swept (droppedIf test) i (domainsOf t)
-    → s ≡ domainsBytes (without test (domainsOf t))
+pub swept-domains : (test : Domain → Bool) (s t : Octets) → KeptDomains s → (i : ℕ) → mostDomains ≤ i
+    → domainsOf s ≡ sweptBefore (droppedIf test) i (domainsOf t) → s ≡ domainsBytes (without test (domainsOf t))
 unfolding domainsOf domainsBytes
 swept-domains test s t c = dropped-end domainBytes domainIn domainSize wide mostDomains s c test t
 

@@ -25,7 +25,7 @@ use Rattle.domains.specs.Entry.{taken, passes, entryOr, droppedIf}
 use Rattle.domains.specs.Kept.{Kept, keptAt}
 use Rattle.octets.proofs.Bytes.{agree}
 use Rattle.domains.proofs.Turns.{Checked, check-failed, check-passed, check-ended, every, everyCheck}
-use Rattle.domains.proofs.Search.{free-none, taken-some, dropped-is, dropped-not, swept, swept-next, swept-all, without-map}
+use Rattle.domains.proofs.Search.{free-none, taken-some, dropped-is, dropped-not, sweptBefore, swept-next, swept-all, without-map}
 
 pub eqb-swap : (x y : ℕ) → eqb x y ≡ eqb y x
 eqb-swap x y = agree (λ p. eq-eqb y x (sym (eqb-true x y p))) (λ p. ne-eqb y x (λ q. eqb-false x y p (sym q)))
@@ -234,9 +234,9 @@ module _ {A : Type 0} (encode : Option A → Octets) (decode : Octets → Option
           rw e (record { whole = l ∙ ap (λ (j : ℕ). j * k) (length-set (table n s) i y ∙ length-table n s); same = ap (flatMap encode) means }, means)
 
       -- a turn of a sweep that writes this
-      pub swept-kept : (f : Option A → Option A) (xs : List (Option A)) → f (getD (table n s) i none) ≡ y → table n s ≡ swept f i xs
+      pub swept-kept : (f : Option A → Option A) (xs : List (Option A)) → f (getD (table n s) i none) ≡ y → table n s ≡ sweptBefore f i xs
           → (t : Octets) → t ≡ flatMap encode (set (table n s) i (f (getD (table n s) i none)))
-          → Kept n k encode decode t × (table n t ≡ swept f (i + 1) xs)
+          → Kept n k encode decode t × (table n t ≡ sweptBefore f (i + 1) xs)
       swept-kept f xs p e t q =
           let next = wrote-kept t (rw p at q) in
           (next .0, next .1 ∙ (rw (← p, e) (swept-next f i xs)))
@@ -250,16 +250,16 @@ module _ {A : Type 0} (encode : Option A → Octets) (decode : Octets → Option
       pub left : passes test (getD (table n s) i none) ≡ false → s ≡ flatMap encode (set (table n s) i (droppedIf test (getD (table n s) i none)))
       left p = sym (rw (dropped-not test _ p, set-getD (table n s) i none) (c .same))
 
-      pub dropped-kept : (xs : List (Option A)) → table n s ≡ swept (droppedIf test) i xs
+      pub dropped-kept : (xs : List (Option A)) → table n s ≡ sweptBefore (droppedIf test) i xs
           → (t : Octets) → t ≡ flatMap encode (set (table n s) i (droppedIf test (getD (table n s) i none)))
-          → Kept n k encode decode t × (table n t ≡ swept (droppedIf test) (i + 1) xs)
+          → Kept n k encode decode t × (table n t ≡ sweptBefore (droppedIf test) (i + 1) xs)
       dropped-kept xs = swept-kept i _ (dropped-case test (getD (table n s) i none) empty (place-again i h)) (droppedIf test) xs refl
 
     -- the end of a sweep of the table that t had
-    pub swept-end : (f : Option A → Option A) (t : Octets) (i : ℕ) → n ≤ i → table n s ≡ swept f i (table n t) → s ≡ flatMap encode (map f (table n t))
+    pub swept-end : (f : Option A → Option A) (t : Octets) (i : ℕ) → n ≤ i → table n s ≡ sweptBefore f i (table n t) → s ≡ flatMap encode (map f (table n t))
     swept-end f t i h e = sym (c .same) ∙ ap (flatMap encode) (e ∙ swept-all f i (table n t) (rw (length-table n t) h))
 
-    pub dropped-end : (test : A → Bool) (t : Octets) (i : ℕ) → n ≤ i → table n s ≡ swept (droppedIf test) i (table n t) →
+    pub dropped-end : (test : A → Bool) (t : Octets) (i : ℕ) → n ≤ i → table n s ≡ sweptBefore (droppedIf test) i (table n t) →
         s ≡ flatMap encode (without test (table n t))
     dropped-end test t i h e = swept-end (droppedIf test) t i h e ∙ ap (flatMap encode) (without-map test (table n t))
 

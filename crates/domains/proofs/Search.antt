@@ -74,33 +74,33 @@ module _ {A : Type 0} where
   -- ── each place in turn made what a function makes of it ──
 
   -- the first i places are done
-  abbrev pub swept : (Option A → Option A) → ℕ → List (Option A) → List (Option A)
-  swept f zero xs = xs
-  swept f (suc i) [] = []
-  swept f (suc i) (x ∷ xs) = f x ∷ swept f i xs
+  abbrev pub sweptBefore : (Option A → Option A) → ℕ → List (Option A) → List (Option A)
+  sweptBefore f zero xs = xs
+  sweptBefore f (suc i) [] = []
+  sweptBefore f (suc i) (x ∷ xs) = f x ∷ sweptBefore f i xs
 
   module _ (f : Option A → Option A) where
-    pub length-swept : (i : ℕ) (xs : List (Option A)) → length (swept f i xs) ≡ length xs
+    pub length-swept : (i : ℕ) (xs : List (Option A)) → length (sweptBefore f i xs) ≡ length xs
     length-swept zero xs = refl
     length-swept (suc i) [] = refl
     length-swept (suc i) (x ∷ xs) = ap suc (length-swept i xs)
 
     -- the next place is as it was
-    pub swept-at : (i : ℕ) (xs : List (Option A)) → getD (swept f i xs) i none ≡ getD xs i none
+    pub swept-at : (i : ℕ) (xs : List (Option A)) → getD (sweptBefore f i xs) i none ≡ getD xs i none
     swept-at zero xs = refl
     swept-at (suc i) [] = refl
     swept-at (suc i) (x ∷ xs) = swept-at i xs
 
-    swept-set : (i : ℕ) (xs : List (Option A)) → set (swept f i xs) i (f (getD xs i none)) ≡ swept f (suc i) xs
+    swept-set : (i : ℕ) (xs : List (Option A)) → set (sweptBefore f i xs) i (f (getD xs i none)) ≡ sweptBefore f (suc i) xs
     swept-set zero [] = refl
     swept-set zero (x ∷ xs) = refl
     swept-set (suc i) [] = refl
     swept-set (suc i) (x ∷ xs) = ap (_∷_ (f x)) (swept-set i xs)
 
-    pub swept-next : (i : ℕ) (xs : List (Option A)) → set (swept f i xs) i (f (getD (swept f i xs) i none)) ≡ swept f (i + 1) xs
+    pub swept-next : (i : ℕ) (xs : List (Option A)) → set (sweptBefore f i xs) i (f (getD (sweptBefore f i xs) i none)) ≡ sweptBefore f (i + 1) xs
     swept-next i xs = rw (swept-at i xs, add-one) (swept-set i xs)
 
-    pub swept-all : (i : ℕ) (xs : List (Option A)) → length xs ≤ i → swept f i xs ≡ map f xs
+    pub swept-all : (i : ℕ) (xs : List (Option A)) → length xs ≤ i → sweptBefore f i xs ≡ map f xs
     swept-all zero [] h = refl
     swept-all zero (x ∷ xs) h = absurd (not-suc-le-zero h)
     swept-all (suc i) [] h = refl
@@ -112,5 +112,5 @@ module _ {A : Type 0} where
   without-map test (none ∷ xs) = ap (_∷_ none) (without-map test xs)
   without-map test (some x ∷ xs) = ap (_∷_ (cond (test x) none (some x))) (without-map test xs)
 
-  pub without-swept : (test : A → Bool) (i : ℕ) (xs : List (Option A)) → length xs ≤ i → swept (droppedIf test) i xs ≡ without test xs
+  pub without-swept : (test : A → Bool) (i : ℕ) (xs : List (Option A)) → length xs ≤ i → sweptBefore (droppedIf test) i xs ≡ without test xs
   without-swept test i xs h = swept-all (droppedIf test) i xs h ∙ without-map test xs

@@ -21,7 +21,7 @@ use Rattle.rules.proofs.TransactionLayouts.{TransactionFits, MaybeTransaction, 
 use Rattle.rules.proofs.Joined.{set-paste}
 use Rattle.domains.specs.Entry.{taken, passes, droppedIf}
 use Rattle.transactions.specs.Transaction.{KeptTransactions, transactionOf, staleOf}
-use Rattle.domains.proofs.Search.{free-none, taken-some, swept}
+use Rattle.domains.proofs.Search.{free-none, taken-some, sweptBefore}
 use Rattle.domains.proofs.Rows.{Writable, wrote, wrote-kept, swept-kept, swept-end, freed, left, dropped-kept, dropped-end, without-kept}
 use Rattle.transactions.proofs.Parts.{paste-row}
 use Rattle.transactions.proofs.Laws.{threeOf, transaction-parts, transaction-wide, length-transactionsOf, row-parts, changes-read, open-fits}
@@ -85,9 +85,9 @@ module _ (s : Octets) (c : KeptTransactions s) (k : ℕ) (h : k < mostTransactio
   unfolding transactionsOf transactionsBytes
   left-transaction test = left transactionBytes transactionIn transactionSize transaction-wide mostTransactions s c k h (writable none tt) test
 
-  pub swept-transaction : (test : Transaction → Bool) (xs : Transactions) → transactionsOf s ≡ swept (droppedIf test) k xs
+  pub swept-transaction : (test : Transaction → Bool) (xs : Transactions) → transactionsOf s ≡ sweptBefore (droppedIf test) k xs
       → (t : Octets) → t ≡ transactionsBytes (set (transactionsOf s) k (droppedIf test (getD (transactionsOf s) k none)))
-      → KeptTransactions t × (transactionsOf t ≡ swept (droppedIf test) (k + 1) xs)
+      → KeptTransactions t × (transactionsOf t ≡ sweptBefore (droppedIf test) (k + 1) xs)
   unfolding transactionsOf transactionsBytes
   swept-transaction test = dropped-kept transactionBytes transactionIn transactionSize transaction-wide mostTransactions s c k h (writable none tt) test
 
@@ -147,16 +147,16 @@ module _ (s : Octets) (c : KeptTransactions s) (k : ℕ) (h : k < mostTransactio
   place-fits : MaybeTransaction (getD (transactionsOf s) k none)
   place-fits = each-at MaybeTransaction (transactionsOf s) k none (decoded-transactions-fit s) (rw (length-transactionsOf s) h)
 
-  pub swept-stale : (xs : Transactions) → transactionsOf s ≡ swept staleOf k xs
+  pub swept-stale : (xs : Transactions) → transactionsOf s ≡ sweptBefore staleOf k xs
       → (t : Octets) → t ≡ transactionsBytes (set (transactionsOf s) k (staleOf (getD (transactionsOf s) k none)))
-      → KeptTransactions t × (transactionsOf t ≡ swept staleOf (k + 1) xs)
+      → KeptTransactions t × (transactionsOf t ≡ sweptBefore staleOf (k + 1) xs)
   unfolding transactionsOf transactionsBytes
   swept-stale xs =
       swept-kept transactionBytes transactionIn transactionSize transaction-wide mostTransactions s c k _
       (stale-writable (getD (transactionsOf s) k none) place-fits) staleOf xs refl
 
 -- the ends of the sweeps
-pub swept-stales : (s t : Octets) → KeptTransactions s → (i : ℕ) → mostTransactions ≤ i → transactionsOf s ≡ swept staleOf i (transactionsOf t)
+pub swept-stales : (s t : Octets) → KeptTransactions s → (i : ℕ) → mostTransactions ≤ i → transactionsOf s ≡ sweptBefore staleOf i (transactionsOf t)
     → s ≡ transactionsBytes (staled (transactionsOf t))
 unfolding transactionsOf transactionsBytes
 swept-stales s t c i h e =
@@ -164,7 +164,7 @@ swept-stales s t c i h e =
     ∙ ap (flatMap transactionBytes) (staled-map _)
 
 pub swept-transactions : (test : Transaction → Bool) (s t : Octets) → KeptTransactions s → (i : ℕ) → mostTransactions ≤ i
-    → transactionsOf s ≡ swept (droppedIf test) i (transactionsOf t) → s ≡ transactionsBytes (without test (transactionsOf t))
+    → transactionsOf s ≡ sweptBefore (droppedIf test) i (transactionsOf t) → s ≡ transactionsBytes (without test (transactionsOf t))
 unfolding transactionsOf transactionsBytes
 swept-transactions test s t c = dropped-end transactionBytes transactionIn transactionSize transaction-wide mostTransactions s c test t
 

@@ -24,7 +24,7 @@ use Rattle.domains.specs.Entry.{taken, passes, entryOr, droppedIf}
 use Rattle.watches.specs.Watch.{KeptWatches, depthMeant, Placed, full, named, FitWatch, watchGiven}
 use Rattle.watches.specs.declared.Depth.{Depth}
 use Rattle.watches.specs.declared.Depth.the-variants.{To, Any}
-use Rattle.domains.proofs.Search.{swept}
+use Rattle.domains.proofs.Search.{sweptBefore}
 use Rattle.rules.proofs.Slots.{length-padded}
 use Rattle.domains.proofs.Rows.{Writable, wrote, wrote-kept, freed, left, dropped-kept, dropped-end, without-kept}
 use Rattle.watches.proofs.Bytes.{place-given, Narrow, watch-parts, narrow-width, none-width, watch-wide}
@@ -103,9 +103,9 @@ module _ (s : Octets) (c : KeptWatches s) (k : ℕ) (h : k < mostWatches) where
   unfolding watchesOf watchesBytes
   left-watch test = left watchBytes watchIn watchSize watch-wide mostWatches s c k h empty test
 
-  pub swept-watch : (test : Watch → Bool) (ws : Watches) → watchesOf s ≡ swept (droppedIf test) k ws
+  pub swept-watch : (test : Watch → Bool) (ws : Watches) → watchesOf s ≡ sweptBefore (droppedIf test) k ws
       → (t : Octets) → t ≡ watchesBytes (set (watchesOf s) k (droppedIf test (getD (watchesOf s) k none)))
-      → KeptWatches t × (watchesOf t ≡ swept (droppedIf test) (k + 1) ws)
+      → KeptWatches t × (watchesOf t ≡ sweptBefore (droppedIf test) (k + 1) ws)
   unfolding watchesOf watchesBytes
   swept-watch test = dropped-kept watchBytes watchIn watchSize watch-wide mostWatches s c k h empty test
 
@@ -136,8 +136,8 @@ module _ (s : Octets) (c : KeptWatches s) (k : ℕ) (h : k < mostWatches) where
         wrote-kept watchBytes watchIn watchSize watch-wide mostWatches s c k (some (watchGiven o x r d t))
         (record { width = narrow-width _ (given-narrow o x r d t f below); back = given-back o x r d t f below })
 
-pub swept-watches : (test : Watch → Bool) (s t : Octets) → KeptWatches s → (i : ℕ) → mostWatches ≤ i → watchesOf s ≡ swept (droppedIf test) i (watchesOf t)
-    → s ≡ watchesBytes (without test (watchesOf t))
+pub swept-watches : (test : Watch → Bool) (s t : Octets) → KeptWatches s → (i : ℕ) → mostWatches ≤ i
+    → watchesOf s ≡ sweptBefore (droppedIf test) i (watchesOf t) → s ≡ watchesBytes (without test (watchesOf t))
 unfolding watchesOf watchesBytes
 swept-watches test s t c = dropped-end watchBytes watchIn watchSize watch-wide mostWatches s c test t
 

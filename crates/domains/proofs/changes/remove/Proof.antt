@@ -7,13 +7,13 @@ use Rattle.rules.specs.Size.{mostDomains}
 use Rattle.rules.specs.Layout.{domainsOf}
 use Rattle.domains.specs.Entry.{droppedIf}
 use Rattle.domains.specs.Kept.{KeptDomains}
-use Rattle.domains.proofs.Search.{swept}
+use Rattle.domains.proofs.Search.{sweptBefore}
 use Rattle.domains.proofs.Laws.{swept-domain, swept-domains}
 use Rattle.domains.proofs.changes.remove.Statement.{statement}
 use Rattle.domains.proofs.changes.remove.Tie as tie
 
 abbrev Inv-loop : tie.InvT-loop
-Inv-loop s₀ d i₀ s i = KeptDomains s × (domainsOf s ≡ swept (droppedIf (eqb d)) i (domainsOf s₀))
+Inv-loop s₀ d i₀ s i = KeptDomains s × (domainsOf s ≡ sweptBefore (droppedIf (eqb d)) i (domainsOf s₀))
 
 abbrev μ-loop : tie.MeasureT-loop
 μ-loop s₀ d i₀ s i = mostDomains - i

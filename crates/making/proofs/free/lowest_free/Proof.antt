@@ -20,7 +20,8 @@ returns c =
     let start = c .before .before in
     let t = start .args .t .now in
     let bytes = bytes-known t (c .before .shared-slice-known .given) in
-    c .lowest-free .ensures ∙ lowest-is isUsed refl (λ x. refl) slotSize (lit≤ tt) t (tableOf t) slots (length-tableOf t) (λ i h. used-byte t bytes (start .pre) i h)
+    c .lowest-free .ensures
+    ∙ lowest-is isUsed refl (λ x. refl) slotSize (lit≤ tt) t (tableOf t) slots (length-tableOf t) (λ i h. used-byte t bytes (start .pre) i h)
 
 pub lowest-free-spec : {M : Type 1} → statement M
 lowest-free-spec = tie.close (tie.spec lowest-free-requires returns)

@@ -7,13 +7,13 @@ use Rattle.rules.specs.Layout.{transactionsOf}
 use Rattle.rules.specs.World.{withoutTransactions}
 use Rattle.domains.specs.Entry.{droppedIf}
 use Rattle.transactions.specs.Transaction.{heldBy, KeptTransactions}
-use Rattle.domains.proofs.Search.{swept}
+use Rattle.domains.proofs.Search.{sweptBefore}
 use Rattle.transactions.proofs.Written.{swept-transaction, swept-transactions}
 use Rattle.transactions.proofs.changes.remove_of.Statement.{statement}
 use Rattle.transactions.proofs.changes.remove_of.Tie as tie
 
 abbrev Inv-loop : tie.InvT-loop
-Inv-loop s₀ c i₀ s i = KeptTransactions s × (transactionsOf s ≡ swept (droppedIf (heldBy c)) i (transactionsOf s₀))
+Inv-loop s₀ c i₀ s i = KeptTransactions s × (transactionsOf s ≡ sweptBefore (droppedIf (heldBy c)) i (transactionsOf s₀))
 
 abbrev μ-loop : tie.MeasureT-loop
 μ-loop s₀ c i₀ s i = mostTransactions - i

@@ -5,13 +5,13 @@ use native.Mathlib.Omega.{arith}
 use Rattle.rules.specs.Size.{mostTransactions}
 use Rattle.rules.specs.Layout.{transactionsOf}
 use Rattle.transactions.specs.Transaction.{staleOf, KeptTransactions}
-use Rattle.domains.proofs.Search.{swept}
+use Rattle.domains.proofs.Search.{sweptBefore}
 use Rattle.transactions.proofs.Written.{swept-stale, swept-stales}
 use Rattle.transactions.proofs.changes.stale_all.Statement.{statement}
 use Rattle.transactions.proofs.changes.stale_all.Tie as tie
 
 abbrev Inv-loop : tie.InvT-loop
-Inv-loop s₀ i₀ s i = KeptTransactions s × (transactionsOf s ≡ swept (staleOf) i (transactionsOf s₀))
+Inv-loop s₀ i₀ s i = KeptTransactions s × (transactionsOf s ≡ sweptBefore (staleOf) i (transactionsOf s₀))
 
 abbrev μ-loop : tie.MeasureT-loop
 μ-loop s₀ i₀ s i = mostTransactions - i
