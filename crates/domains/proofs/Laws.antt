@@ -8,14 +8,13 @@ use native.Mathlib.Nat.{add-zero}
 use native.Mathlib.Omega.{arith}
 use lib.ListN.{length, getD, take, drop, set, replicate, length-replicate}
 use lib.Dec.{eqb, leb}
-use borrow.Author.Tests.{le-leb, lt-leb, eqb-true}
+use borrow.Author.Tests.{le-leb, lt-leb}
 use Rattle.rules.specs.Size.{mostDomains, domainSize, domainsSize, lastDomain}
 use Rattle.rules.specs.Octets.{Octets, same, allZero, paste, field, bitsAt, bigEndian, pack, packFrom, _bits_}
 use Rattle.rules.specs.Path.{Domain}
 use Rattle.rules.specs.Entries.{without}
 use Rattle.rules.specs.Layout.{Domains, domainIn, domainBytes, domainsBytes, domainsOf}
 use Rattle.rules.specs.Sound.{introduced, goodDomains, soundDomains}
-use Rattle.rules.proofs.Compare.{both-true, same-eq}
 use Rattle.rules.proofs.Paste.{paste-sets}
 use Rattle.rules.proofs.Fields.{length-big, field-part, field-three}
 use Rattle.rules.proofs.EntryLayouts.{domain-read, domain-at}
@@ -28,7 +27,7 @@ use Rattle.octets.proofs.PlaceLaws.{first-bit}
 use Rattle.domains.proofs.Turns.{ListCheck}
 use Rattle.domains.proofs.Search.{free-none, taken-some, sweptBefore}
 use Rattle.domains.proofs.Rows.{same-first, listed-from, partAt, length-table, free-kept, used-kept}
-use Rattle.domains.proofs.Rows.{Writable, wrote, freed, left, dropped-kept, dropped-end}
+use Rattle.domains.proofs.Rows.{Writable, wrote, freed, left, dropped-kept, dropped-end, checked-kept}
 
 pub domain-wide : (m : Option Domain) → length (domainBytes m) ≡ domainSize
 unfolding domainBytes
@@ -190,10 +189,7 @@ swept-domains test s t c = dropped-end domainBytes domainIn domainSize wide most
 
 pub sound-kept : (s : Octets) → soundDomains s ≡ true → KeptDomains s
 unfolding soundDomains domainsOf domainsBytes
-sound-kept s h =
-    let p = both-true (eqb (length s) domainsSize) (same (domainsBytes (domainsOf s)) s && goodDomains (domainsOf s)) h in
-    let q = both-true (same (domainsBytes (domainsOf s)) s) (goodDomains (domainsOf s)) (p .1) in
-    record { whole = eqb-true (length s) domainsSize (p .0); same = same-eq (domainsBytes (domainsOf s)) s (q .0) }
+sound-kept s h = checked-kept domainBytes domainIn domainSize wide mostDomains s (goodDomains (domainsOf s)) h
 
 pub kept-domains : (s : Octets) → KeptDomains s → domainsBytes (domainsOf s) ≡ s
 unfolding domainsOf domainsBytes

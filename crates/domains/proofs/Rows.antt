@@ -15,7 +15,7 @@ use Rattle.rules.specs.Octets.{Octets, same, allZero, padded, chunks, paste}
 use Rattle.rules.specs.Layout.{textAt}
 use Rattle.rules.proofs.Fields.{take-drop-take}
 use Rattle.rules.proofs.Cases.{cond-case}
-use Rattle.rules.proofs.Compare.{same-refl, same-eq}
+use Rattle.rules.proofs.Compare.{both-true, same-refl, same-eq}
 use Rattle.rules.proofs.Places.{is-false}
 use Rattle.rules.proofs.Tables.{Each, Wide, each-at, each-set, length-chunks, decoded-at, encoded-at, length-encoded, written, decoded, each-map}
 use Rattle.rules.specs.Entries.{without}
@@ -192,6 +192,16 @@ module _ {A : Type 0} (encode : Option A → Octets) (decode : Octets → Option
   each-mapped : (P : Option A → Type 0) (f : Option A → Option A) (xs : List (Option A)) → Each (λ (x : Option A). P (f x)) xs → Each P (map f xs)
   each-mapped P f [] e = tt
   each-mapped P f (x ∷ xs) e = (e .0, each-mapped P f xs (e .1))
+
+  pub same-kept : (n : ℕ) (s : Octets) → length s ≡ n * k → same (flatMap encode (table n s)) s ≡ true → Kept n k encode decode s
+  same-kept n s w e = record { whole = w; same = same-eq (flatMap encode (table n s)) s e }
+
+  -- as those of a sound table do, whatever else is asked of it
+  pub checked-kept : (n : ℕ) (s : Octets) (more : Bool) → (eqb (length s) (n * k) && (same (flatMap encode (table n s)) s && more)) ≡ true
+      → Kept n k encode decode s
+  checked-kept n s more h =
+      let p = both-true (eqb (length s) (n * k)) (same (flatMap encode (table n s)) s && more) h in
+      same-kept n s (eqb-true (length s) (n * k) (p .0)) (both-true (same (flatMap encode (table n s)) s) more (p .1) .0)
 
   module _ (n : ℕ) (s : Octets) (c : Kept n k encode decode s) where
     -- the bytes of place i

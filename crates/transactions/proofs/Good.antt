@@ -7,14 +7,12 @@ use Prim.Native.Nat.{ℕ}
 use native.Mathlib.Omega.{arith}
 use lib.ListN.{length}
 use lib.Dec.{eqb}
-use borrow.Author.Tests.{eqb-true}
-use Rattle.rules.specs.Size.{transactionsSize}
+use Rattle.rules.specs.Size.{mostTransactions, transactionSize, transactionsSize}
 use Rattle.rules.specs.Octets.{Octets, same}
 use Rattle.rules.specs.Path.{domainOf, fits, pathText, namesIn, isFull}
 use Rattle.rules.specs.Answer.{Change}
-use Rattle.rules.specs.Layout.{opened, Domains, Transaction, Transactions, transactionsBytes, transactionsOf}
+use Rattle.rules.specs.Layout.{opened, Domains, Transaction, Transactions, transactionBytes, transactionIn, transactionsBytes, transactionsOf}
 use Rattle.rules.specs.Sound.{known, goodChange, goodChanges, goodTransactions, soundTransactions, soundTable}
-use Rattle.rules.proofs.Compare.{both-true, same-eq}
 use Rattle.rules.proofs.PathLaws.{text-full, text-names}
 use Rattle.rules.proofs.TransactionLayouts.{ChangeFits}
 use Rattle.domains.specs.Entry.{taken, entryOr}
@@ -22,6 +20,8 @@ use Rattle.transactions.specs.Transaction.{KeptTransactions, noChange}
 use Rattle.transactions.specs.Checks.{goodOpen, allOpenGood, soundEntries, soundCopies}
 use Rattle.domains.proofs.Turns.{ListCheck}
 use Rattle.domains.proofs.Search.{free-none, taken-some}
+use Rattle.domains.proofs.Rows.{same-kept, checked-kept}
+use Rattle.transactions.proofs.Laws.{transaction-wide}
 
 -- ── a change ──
 
@@ -120,11 +120,9 @@ sound-parts ds copies s h =
 
 pub kept-of : (s : Octets) → length s ≡ transactionsSize → same (transactionsBytes (transactionsOf s)) s ≡ true → KeptTransactions s
 unfolding transactionsOf transactionsBytes
-kept-of s w e = record { whole = w; same = same-eq (transactionsBytes (transactionsOf s)) s e }
+kept-of s w e = same-kept transactionBytes transactionIn transactionSize transaction-wide mostTransactions s w e
 
 pub sound-kept : (ds : Domains) (s : Octets) → soundEntries ds s ≡ true → KeptTransactions s
-unfolding soundEntries
+unfolding soundEntries transactionsOf transactionsBytes
 sound-kept ds s h =
-    let p = both-true (eqb (length s) transactionsSize) (same (transactionsBytes (transactionsOf s)) s && allOpenGood ds (transactionsOf s)) h in
-    let q = both-true (same (transactionsBytes (transactionsOf s)) s) (allOpenGood ds (transactionsOf s)) (p .1) in
-    kept-of s (eqb-true (length s) transactionsSize (p .0)) (q .0)
+    checked-kept transactionBytes transactionIn transactionSize transaction-wide mostTransactions s (allOpenGood ds (transactionsOf s)) h

@@ -1,13 +1,11 @@
 -- Watches added and taken out: what a written place leaves.
 use mathlib.Core.Path.{_≡_, sym, ap, _∙_}
-use mathlib.Core.Bool.{Bool, true, false, _&&_}
+use mathlib.Core.Bool.{Bool, true, false}
 use mathlib.Core.List.{[], _∷_, _++_}
 use mathlib.Core.Option.{none, some}
 use Prim.Native.Nat.{ℕ, suc, _+_, _*_, _/_, _%_, _≤_, _<_}
 use native.Mathlib.Omega.{arith}
-use lib.Dec.{eqb}
 use lib.ListN.{length, getD, set, replicate}
-use borrow.Author.Tests.{eqb-true}
 use Rattle.rules.specs.Size.{mostWatches, watchFieldsSize, tokenAt, watchSize, watchesSize, longestPath, longestToken}
 use Rattle.rules.specs.Octets.{Octets, same, paste, padded, bit}
 use Rattle.rules.specs.Entries.{without}
@@ -15,7 +13,6 @@ use Rattle.rules.specs.Path.{Connection, absolute, special, namesIn}
 use Rattle.rules.specs.Event.{Watch, Watches, placeText}
 use Rattle.rules.specs.Layout.{Domains, isRelative, placeIn, watchBytes, watchIn, watchesBytes, watchesOf}
 use Rattle.rules.specs.Sound.{goodWatches, soundWatches}
-use Rattle.rules.proofs.Compare.{both-true, same-eq}
 use Rattle.rules.proofs.PathLaws as P
 use Rattle.rules.proofs.PathLaws.{full-given}
 use Rattle.rules.proofs.Paste.{paste-sets, paste-append}
@@ -26,7 +23,7 @@ use Rattle.watches.specs.declared.Depth.{Depth}
 use Rattle.watches.specs.declared.Depth.the-variants.{To, Any}
 use Rattle.domains.proofs.Search.{sweptBefore}
 use Rattle.rules.proofs.Slots.{length-padded}
-use Rattle.domains.proofs.Rows.{Writable, wrote, wrote-kept, freed, left, dropped-kept, dropped-end, without-kept}
+use Rattle.domains.proofs.Rows.{Writable, wrote, wrote-kept, freed, left, dropped-kept, dropped-end, without-kept, same-kept, checked-kept}
 use Rattle.watches.proofs.Bytes.{place-given, Narrow, watch-parts, narrow-width, none-width, watch-wide}
 
 -- ── what a place can hold ──
@@ -143,14 +140,11 @@ swept-watches test s t c = dropped-end watchBytes watchIn watchSize watch-wide m
 
 pub kept-of : (s : Octets) → length s ≡ watchesSize → same (watchesBytes (watchesOf s)) s ≡ true → KeptWatches s
 unfolding watchesOf watchesBytes
-kept-of s w e = record { whole = w; same = same-eq (watchesBytes (watchesOf s)) s e }
+kept-of s w e = same-kept watchBytes watchIn watchSize watch-wide mostWatches s w e
 
 pub sound-kept : (ds : Domains) (s : Octets) → soundWatches ds s ≡ true → KeptWatches s
-unfolding soundWatches
-sound-kept ds s h =
-    let p = both-true (eqb (length s) watchesSize) (same (watchesBytes (watchesOf s)) s && goodWatches ds (watchesOf s)) h in
-    let q = both-true (same (watchesBytes (watchesOf s)) s) (goodWatches ds (watchesOf s)) (p .1) in
-    kept-of s (eqb-true (length s) watchesSize (p .0)) (q .0)
+unfolding soundWatches watchesOf watchesBytes
+sound-kept ds s h = checked-kept watchBytes watchIn watchSize watch-wide mostWatches s (goodWatches ds (watchesOf s)) h
 
 pub kept-watches : (s : Octets) → KeptWatches s → watchesBytes (watchesOf s) ≡ s
 unfolding watchesOf watchesBytes
