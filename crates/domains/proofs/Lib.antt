@@ -1,4 +1,5 @@
 pub mod Tests
+pub mod Turns
 pub mod Search
 pub mod Rows
 pub mod Laws

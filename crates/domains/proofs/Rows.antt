@@ -1,28 +1,31 @@
--- Tables of places of one width: whether the bytes re-encode to themselves, place by place, and what a written place leaves of bytes that do.
+-- Tables of places of one width: their parts, whether the bytes re-encode to themselves, and what a written place leaves of bytes that do.
 use mathlib.Core.Path.{_≡_, refl, sym, ap, _∙_}
-use mathlib.Core.Bool.{Bool, true, false, _&&_, and-true}
+use mathlib.Core.Bool.{Bool, true, false, not, _&&_, and-true}
 use mathlib.Core.List.{List, [], _∷_, _++_, map, flatMap}
 use mathlib.Core.Option.{Option, none, some}
 use Prim.Native.Nat.{ℕ, zero, suc, _+_, _*_, _-_, _≤_, _<_, zero-le, suc-le-suc}
-use native.Mathlib.Nat.{add-zero, suc-mul, zero-mul, sub-zero, add-suc, add-sub-cancel-left, mul-le-mul-right}
+use native.Mathlib.Nat.{suc-mul, zero-mul, add-suc, add-sub-cancel-left, mul-le-mul-right}
 use native.Mathlib.Numerals.{add-one}
 use native.Mathlib.Omega.{arith}
-use lib.ListN.{length, getD, take, drop, set, length-map, length-drop, length-set, length-take, take-append-drop, drop-of-length-le, replicate}
-use lib.Seq.{drop-drop, drop-cons, take-take, length-take-le, set-getD}
+use lib.ListN.{length, getD, take, drop, set, length-map, length-drop, length-set, take-append-drop, replicate}
+use lib.Seq.{drop-drop, drop-cons, take-at, take-take, length-take-le, set-getD}
 use lib.Dec.{eqb}
 use borrow.Author.Tests.{eq-eqb, ne-eqb, eqb-true, eqb-false}
 use Rattle.rules.specs.Octets.{Octets, same, allZero, padded, chunks, paste}
 use Rattle.rules.specs.Layout.{textAt}
 use Rattle.rules.proofs.Fields.{take-drop-take}
 use Rattle.rules.proofs.Cases.{cond-case}
-use Rattle.rules.proofs.Compare.{same-refl}
+use Rattle.rules.proofs.Compare.{both-true, same-refl, same-eq}
+use Rattle.rules.proofs.Places.{is-false}
 use Rattle.rules.proofs.Tables.{Each, Wide, each-at, each-set, length-chunks, decoded-at, encoded-at, length-encoded, written, decoded, each-map}
 use Rattle.rules.specs.Entries.{without}
-use Rattle.rules.proofs.Reencoding.{same-zeros, same-append}
-use Rattle.domains.specs.Entry.{passes, droppedIf}
+use Rattle.rules.proofs.Reencoding.{same-zeros, same-append, same-padded}
+use Rattle.octets.specs.Numbers.{restZero}
+use Rattle.domains.specs.Entry.{taken, passes, entryOr, droppedIf}
 use Rattle.domains.specs.Kept.{Kept, keptAt}
 use Rattle.octets.proofs.Bytes.{agree}
-use Rattle.domains.proofs.Search.{dropped-is, dropped-not, swept, swept-next, without-map}
+use Rattle.domains.proofs.Turns.{Checked, check-failed, check-passed, check-ended, every, everyCheck}
+use Rattle.domains.proofs.Search.{free-none, taken-some, dropped-is, dropped-not, sweptBefore, swept-next, swept-all, without-map}
 
 pub eqb-swap : (x y : ℕ) → eqb x y ≡ eqb y x
 eqb-swap x y = agree (λ p. eq-eqb y x (sym (eqb-true x y p))) (λ p. ne-eqb y x (λ q. eqb-false x y p (sym q)))
@@ -36,19 +39,36 @@ same-first x y r = rw (same-refl r, and-true) (eqb-swap x y)
 pub part-next : (s : Octets) (p n : ℕ) → p < length s → take (suc n) (drop p s) ≡ getD s p 0 ∷ take n (drop (suc p) s)
 part-next s p n h = rw (drop-cons s p 0 h)
 
--- n bytes one by one, from that at p + j on
-abbrev pub listed : Octets → ℕ → ℕ → ℕ → Octets
-listed s p j zero = []
-listed s p j (suc n) = getD s (p + j) 0 ∷ listed s p (suc j) n
+-- n bytes one by one: those from p + j on, and those from p on
+abbrev behind : Octets → ℕ → ℕ → ℕ → Octets
+behind s p j zero = []
+behind s p j (suc n) = getD s (p + j) 0 ∷ behind s p (suc j) n
 
-part-listed : (s : Octets) (p j n : ℕ) → p + j + n ≤ length s → take n (drop (p + j) s) ≡ listed s p j n
-part-listed s p j zero h = refl
-part-listed s p j (suc n) h =
+abbrev pub listed : Octets → ℕ → ℕ → Octets
+listed s p zero = []
+listed s p (suc n) = getD s p 0 ∷ behind s p 1 n
+
+part-behind : (s : Octets) (p j n : ℕ) → p + j + n ≤ length s → take n (drop (p + j) s) ≡ behind s p j n
+part-behind s p j zero h = refl
+part-behind s p j (suc n) h =
     part-next s (p + j) n (omega arith)
-    ∙ ap (λ (l : Octets). getD s (p + j) 0 ∷ l) (ap (λ (q : ℕ). take n (drop q s)) (sym (add-suc p j)) ∙ part-listed s p (suc j) n (rw (add-suc p j) (omega arith)))
+    ∙ ap (λ (l : Octets). getD s (p + j) 0 ∷ l)
+    (ap (λ (q : ℕ). take n (drop q s)) (sym (add-suc p j)) ∙ part-behind s p (suc j) n (rw (add-suc p j) (omega arith)))
 
-pub listed-from : (s : Octets) (p n : ℕ) → p + n ≤ length s → take n (drop p s) ≡ listed s p 0 n
-listed-from s p n h = ap (λ (q : ℕ). take n (drop q s)) (sym (add-zero p)) ∙ part-listed s p 0 n (rw add-zero h)
+pub listed-from : (s : Octets) (p n : ℕ) → p + n ≤ length s → take n (drop p s) ≡ listed s p n
+listed-from s p zero h = refl
+listed-from s p (suc n) h =
+    part-next s p n (omega arith)
+    ∙ ap (λ (l : Octets). getD s p 0 ∷ l) (ap (λ (q : ℕ). take n (drop q s)) (sym (add-one p)) ∙ part-behind s p 1 n (omega arith))
+
+pub part-length : (s : Octets) (p n : ℕ) → p + n ≤ length s → length (take n (drop p s)) ≡ n
+part-length s p n h = length-take-le n (drop p s) (rw length-drop (omega arith))
+
+-- the first n bytes of a place of k bytes, where its parts are known
+pub first-listed : (s : Octets) (p k n : ℕ) (front rest : Octets) → n ≤ k → p + k ≤ length s → length front ≡ n → take k (drop p s) ≡ front ++ rest →
+    listed s p n ≡ front
+first-listed s p k n front rest h l w e =
+    sym (listed-from s p n (omega arith)) ∙ sym (take-take n k (drop p s) h) ∙ ap (take n) e ∙ take-at front rest n w
 
 -- n bytes from p on, as the code takes them
 abbrev pub partAt : Octets → ℕ → ℕ → Octets
@@ -62,13 +82,58 @@ text-part s p size j k n hn hk =
     ∙ ap (take n) (sym (drop-drop j p s))
     ∙ sym (take-take n k _ hn ∙ take-drop-take n j size (drop p s) (omega arith))
 
--- a text padded to the part that it is taken from: the rest of that is zero
-pub same-padded : (n : ℕ) (r : Octets) → same (padded (length r) (take n r)) r ≡ allZero (drop n r)
-unfolding padded
-same-padded n r =
-    ap (same (take n r ++ replicate (length r - length (take n r)) 0)) (sym (take-append-drop n r))
-    ∙ same-append (take n r) (replicate (length r - length (take n r)) 0) (take n r) (drop n r) refl
-    ∙ rw (same-refl (take n r)) (same-zeros (length r - length (take n r)) (drop n r) (rw (length-drop, length-take) (omega arith)))
+-- the same text, as it begins its field
+pub text-field : (s : Octets) (p size j k n : ℕ) → n ≤ k → j + k ≤ size → textAt (take size (drop p s)) j k n ≡ take n (take k (drop (p + j) s))
+text-field s p size j k n hn hk =
+    sym (text-part s p size j k n hn hk)
+    ∙ ap (λ (m : ℕ). take m (drop (p + j) s)) (add-sub-cancel-left (p + j) n)
+    ∙ sym (take-take n k (drop (p + j) s) hn)
+
+-- a text's field is the padded text where the rest of it is zero
+pub same-field : (s : Octets) (p k n : ℕ) → p + k ≤ length s → n ≤ k →
+    same (padded k (take n (take k (drop p s)))) (take k (drop p s)) ≡ restZero s p n k
+same-field s p k n h l = same-padded k n (take k (drop p s)) (part-length s p k h) l
+
+pub differ : (a b : Octets) → (a ≡ b → ⊥) → same a b ≡ false
+differ a b f = is-false (same a b) λ e. f (same-eq a b e)
+
+-- ── whether rows re-encode to themselves ──
+
+module _ {B : Type 0} (encode : B → Octets) (decode : Octets → B) (k : ℕ) (wide : (r : Octets) → length (encode (decode r)) ≡ k) where
+  abbrev pub rowKept : Octets → Bool
+  rowKept r = same (encode (decode r)) r
+
+  -- of n rows of k bytes
+  abbrev pub rowsKept : ℕ → Octets → List Bool
+  rowsKept n s = map rowKept (chunks n k s)
+
+  kept-each : (n : ℕ) (s : Octets) → length s ≡ n * k → same (flatMap encode (map decode (chunks n k s))) s ≡ every (rowsKept n s)
+  unfolding chunks flatMap every same
+  kept-each zero [] e = refl
+  kept-each zero (x ∷ s) e = absurd (omega (arith, zero-mul k))
+  kept-each (suc n) s e =
+      let more : suc n * k ≡ n * k + k = suc-mul n k in
+      let first = take k s in
+      let rest = flatMap encode (map decode (chunks n k (drop k s))) in
+      ap (same (encode (decode first) ++ rest)) (sym (take-append-drop k s))
+      ∙ same-append (encode (decode first)) rest first (drop k s) (wide first ∙ sym (length-take-le k s (omega arith)))
+      ∙ ap (_&&_ (rowKept first)) (kept-each n (drop k s) (rw length-drop (omega arith)))
+
+  module _ (n : ℕ) (s : Octets) (whole : length s ≡ n * k) (i : ℕ) (p : Checked every (rowsKept n s) i) where
+    so-many : length (rowsKept n s) ≡ n
+    so-many = length-map (chunks n k s) rowKept ∙ length-chunks n k s
+
+    pub rows-failed : i < n → {b : Bool} → b ≡ rowKept (take k (drop (i * k) s)) → not b ≡ true → false ≡ same (flatMap encode (map decode (chunks n k s))) s
+    rows-failed h e f =
+        check-failed everyCheck (rowsKept n s) n so-many i p h (e ∙ sym (decoded-at rowKept n k i s false h)) f ∙ sym (kept-each n s whole)
+
+    pub rows-passed : i < n → {b : Bool} → b ≡ rowKept (take k (drop (i * k) s)) → not b ≡ false → Checked every (rowsKept n s) (i + 1)
+    rows-passed h e f = check-passed everyCheck (rowsKept n s) n so-many i p h (e ∙ sym (decoded-at rowKept n k i s false h)) f
+
+    pub rows-ended : n ≤ i → true ≡ same (flatMap encode (map decode (chunks n k s))) s
+    rows-ended h = check-ended everyCheck (rowsKept n s) n so-many i p h ∙ sym (kept-each n s whole)
+
+-- ── tables of places ──
 
 module _ {A : Type 0} (encode : Option A → Octets) (decode : Octets → Option A) (k : ℕ) (wide : (r : Octets) → length (encode (decode r)) ≡ k) where
   -- n places of k bytes
@@ -83,38 +148,30 @@ module _ {A : Type 0} (encode : Option A → Octets) (decode : Octets → Option
   pub length-table : (n : ℕ) (s : Octets) → length (table n s) ≡ n
   length-table n s = length-map (chunks n k s) decode ∙ length-chunks n k s
 
-  -- ── whether bytes re-encode to themselves ──
+  -- ── whether a place's bytes re-encode to themselves ──
 
-  -- the bytes from place i on do
-  abbrev pub keptFrom : ℕ → Octets → ℕ → Bool
-  keptFrom n s i = same (flatMap encode (table (n - i) (drop (i * k) s))) (drop (i * k) s)
+  module _ (n : ℕ) (s : Octets) (i : ℕ) (h : i < n) where
+    abbrev place : Option A
+    place = getD (table n s) i none
 
-  kept-parts : (m : ℕ) (r : Octets) → k ≤ length r →
-      same (flatMap encode (table (suc m) r)) r ≡ (same (encode (decode (take k r))) (take k r) && same (flatMap encode (table m (drop k r))) (drop k r))
-  unfolding chunks flatMap
-  kept-parts m r h =
-      ap (same (encode (decode (take k r)) ++ flatMap encode (table m (drop k r)))) (sym (take-append-drop k r))
-      ∙ same-append _ _ _ _ (wide (take k r) ∙ sym (length-take-le k r h))
+    abbrev row : Octets
+    row = take k (drop (i * k) s)
 
-  pub kept-start : (n : ℕ) (s : Octets) → same (flatMap encode (table n s)) s ≡ keptFrom n s 0
-  kept-start n s = rw (zero-mul, sub-zero)
+    read : decode row ≡ place
+    read = sym (decoded-at decode n k i s none h)
 
-  module _ (n : ℕ) (s : Octets) (whole : length s ≡ n * k) (i : ℕ) where
-    pub kept-next : i < n → keptFrom n s i ≡ (keptAt n k encode decode s i && keptFrom n s (i + 1))
+    -- a free place's do where they are all zero
+    pub free-kept : length s ≡ n * k → encode none ≡ replicate k 0 → taken place ≡ false → allZero (partAt s (i * k) k) ≡ keptAt n k encode decode s i
     unfolding keptAt
-    kept-next h =
-        let room : suc i * k ≤ n * k = mul-le-mul-right k h in
+    free-kept whole z f =
+        let fits : suc i * k ≤ n * k = mul-le-mul-right k h in
         let more : suc i * k ≡ i * k + k = suc-mul i k in
-        let left : n - i ≡ suc (n - (i + 1)) = omega arith in
-        let next : drop k (drop (i * k) s) ≡ drop ((i + 1) * k) s = drop-drop k (i * k) s ∙ rw (add-one i, suc-mul i k) in
-        rw left (kept-parts (n - (i + 1)) (drop (i * k) s) (rw length-drop (omega arith)) ∙ rw next)
+        rw (add-sub-cancel-left, read, free-none place f, z) (sym (same-zeros k row (part-length s (i * k) k (omega arith))))
 
-    pub kept-end : n ≤ i → keptFrom n s i ≡ true
-    unfolding chunks flatMap same
-    kept-end h =
-        let over : n * k ≤ i * k = mul-le-mul-right k h in
-        let none-left : n - i ≡ 0 = omega arith in
-        rw (none-left, drop-of-length-le s {i = i * k} (omega arith))
+    -- a used one's where they are those of its entry
+    pub used-kept : (stand : A) → taken place ≡ true → keptAt n k encode decode s i ≡ same (encode (some (entryOr stand place))) row
+    unfolding keptAt
+    used-kept stand t = ap (λ (x : Option A). same (encode x) row) (read ∙ taken-some stand place t)
 
   -- ── bytes that re-encode to themselves ──
 
@@ -136,10 +193,26 @@ module _ {A : Type 0} (encode : Option A → Octets) (decode : Octets → Option
   each-mapped P f [] e = tt
   each-mapped P f (x ∷ xs) e = (e .0, each-mapped P f xs (e .1))
 
+  pub same-kept : (n : ℕ) (s : Octets) → length s ≡ n * k → same (flatMap encode (table n s)) s ≡ true → Kept n k encode decode s
+  same-kept n s w e = record { whole = w; same = same-eq (flatMap encode (table n s)) s e }
+
+  -- as those of a sound table do, whatever else is asked of it
+  pub checked-kept : (n : ℕ) (s : Octets) (more : Bool) → (eqb (length s) (n * k) && (same (flatMap encode (table n s)) s && more)) ≡ true
+      → Kept n k encode decode s
+  checked-kept n s more h =
+      let p = both-true (eqb (length s) (n * k)) (same (flatMap encode (table n s)) s && more) h in
+      same-kept n s (eqb-true (length s) (n * k) (p .0)) (both-true (same (flatMap encode (table n s)) s) more (p .1) .0)
+
   module _ (n : ℕ) (s : Octets) (c : Kept n k encode decode s) where
     -- the bytes of place i
-    pub place-bytes : (i : ℕ) → i < n → take k (drop (i * k) s) ≡ encode (getD (table n s) i none)
-    place-bytes i h = ap (λ (r : Octets). take k (drop (i * k) r)) (sym (c .same)) ∙ encoded-at encode k (table n s) i none (each-wide n s) (rw (length-table n s) h)
+    place-bytes : (i : ℕ) → i < n → take k (drop (i * k) s) ≡ encode (getD (table n s) i none)
+    place-bytes i h =
+        ap (λ (r : Octets). take k (drop (i * k) r)) (sym (c .same))
+        ∙ encoded-at encode k (table n s) i none (each-wide n s) (rw (length-table n s) h)
+
+    pub entry-bytes : (i : ℕ) → i < n → (stand : A) → taken (getD (table n s) i none) ≡ true →
+        take k (drop (i * k) s) ≡ encode (some (entryOr stand (getD (table n s) i none)))
+    entry-bytes i h stand t = place-bytes i h ∙ ap encode (taken-some stand (getD (table n s) i none) t)
 
     -- a written place changes its own bytes alone
     pub wrote : (i : ℕ) (y : Option A) → i < n → length (encode y) ≡ k → flatMap encode (set (table n s) i y) ≡ paste (i * k) (encode y) s
@@ -171,9 +244,9 @@ module _ {A : Type 0} (encode : Option A → Octets) (decode : Octets → Option
           rw e (record { whole = l ∙ ap (λ (j : ℕ). j * k) (length-set (table n s) i y ∙ length-table n s); same = ap (flatMap encode) means }, means)
 
       -- a turn of a sweep that writes this
-      pub swept-kept : (f : Option A → Option A) (xs : List (Option A)) → f (getD (table n s) i none) ≡ y → table n s ≡ swept f i xs
+      pub swept-kept : (f : Option A → Option A) (xs : List (Option A)) → f (getD (table n s) i none) ≡ y → table n s ≡ sweptBefore f i xs
           → (t : Octets) → t ≡ flatMap encode (set (table n s) i (f (getD (table n s) i none)))
-          → Kept n k encode decode t × (table n t ≡ swept f (i + 1) xs)
+          → Kept n k encode decode t × (table n t ≡ sweptBefore f (i + 1) xs)
       swept-kept f xs p e t q =
           let next = wrote-kept t (rw p at q) in
           (next .0, next .1 ∙ (rw (← p, e) (swept-next f i xs)))
@@ -187,23 +260,33 @@ module _ {A : Type 0} (encode : Option A → Octets) (decode : Octets → Option
       pub left : passes test (getD (table n s) i none) ≡ false → s ≡ flatMap encode (set (table n s) i (droppedIf test (getD (table n s) i none)))
       left p = sym (rw (dropped-not test _ p, set-getD (table n s) i none) (c .same))
 
-      pub dropped-kept : (xs : List (Option A)) → table n s ≡ swept (droppedIf test) i xs
+      pub dropped-kept : (xs : List (Option A)) → table n s ≡ sweptBefore (droppedIf test) i xs
           → (t : Octets) → t ≡ flatMap encode (set (table n s) i (droppedIf test (getD (table n s) i none)))
-          → Kept n k encode decode t × (table n t ≡ swept (droppedIf test) (i + 1) xs)
+          → Kept n k encode decode t × (table n t ≡ sweptBefore (droppedIf test) (i + 1) xs)
       dropped-kept xs = swept-kept i _ (dropped-case test (getD (table n s) i none) empty (place-again i h)) (droppedIf test) xs refl
+
+    -- the end of a sweep of the table that t had
+    pub swept-end : (f : Option A → Option A) (t : Octets) (i : ℕ) → n ≤ i → table n s ≡ sweptBefore f i (table n t) → s ≡ flatMap encode (map f (table n t))
+    swept-end f t i h e = sym (c .same) ∙ ap (flatMap encode) (e ∙ swept-all f i (table n t) (rw (length-table n t) h))
+
+    pub dropped-end : (test : A → Bool) (t : Octets) (i : ℕ) → n ≤ i → table n s ≡ sweptBefore (droppedIf test) i (table n t) →
+        s ≡ flatMap encode (without test (table n t))
+    dropped-end test t i h e = swept-end (droppedIf test) t i h e ∙ ap (flatMap encode) (without-map test (table n t))
 
     -- every place made what a function makes of it: kept, and they mean that
     pub mapped-kept : (f : Option A → Option A) → ((i : ℕ) → i < n → Writable (f (getD (table n s) i none)))
         → (t : Octets) → t ≡ flatMap encode (map f (table n s)) → Kept n k encode decode t × (table n t ≡ map f (table n s))
     mapped-kept f can t e =
         let xs = table n s in
-        let can-each : Each (λ (x : Option A). Writable (f x)) xs = each-place (λ (x : Option A). Writable (f x)) xs (λ i l. can i (rw (length-table n s) at l)) in
-        let width : Each (Wide encode k) (map f xs) = each-mapped (Wide encode k) f xs (each-map (λ (x : Option A). Writable (f x)) _ (λ x w. w .width) xs can-each) in
-        let back : Each (λ (x : Option A). decode (encode x) ≡ x) (map f xs) =
-        each-mapped (λ (x : Option A). decode (encode x) ≡ x) f xs (each-map (λ (x : Option A). Writable (f x)) _ (λ x w. w .back) xs can-each) in
-        let m : length (map f xs) ≡ n = length-map xs f ∙ length-table n s in
-        let d : table n (flatMap encode (map f xs)) ≡ map f xs = ap (λ (j : ℕ). table j (flatMap encode (map f xs))) (sym m) ∙ decoded encode k decode (map f xs) width back in
-        rw e (record { whole = length-encoded encode k (map f xs) width ∙ ap (λ (j : ℕ). j * k) m; same = ap (flatMap encode) d }, d)
+        let ys = map f xs in
+        let Can : Option A → Type 0 = λ x. Writable (f x) in
+        let Back : Option A → Type 0 = λ x. decode (encode x) ≡ x in
+        let each : Each Can xs = each-place Can xs (λ i l. can i (rw (length-table n s) at l)) in
+        let width : Each (Wide encode k) ys = each-mapped (Wide encode k) f xs (each-map Can _ (λ x w. w .width) xs each) in
+        let back : Each Back ys = each-mapped Back f xs (each-map Can _ (λ x w. w .back) xs each) in
+        let m : length ys ≡ n = length-map xs f ∙ length-table n s in
+        let d : table n (flatMap encode ys) ≡ ys = ap (λ (j : ℕ). table j (flatMap encode ys)) (sym m) ∙ decoded encode k decode ys width back in
+        rw e (record { whole = length-encoded encode k ys width ∙ ap (λ (j : ℕ). j * k) m; same = ap (flatMap encode) d }, d)
 
     pub without-kept : Writable none → (test : A → Bool) → (t : Octets) → t ≡ flatMap encode (without test (table n s))
         → Kept n k encode decode t × (table n t ≡ without test (table n s))

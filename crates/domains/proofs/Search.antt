@@ -1,15 +1,15 @@
 -- Searches and sweeps over the places of a table, one place after the other.
-use mathlib.Core.Path.{_≡_, refl, sym, ap, ap₂, _∙_}
-use mathlib.Core.Bool.{Bool, true, false, cond, _&&_}
+use mathlib.Core.Path.{_≡_, refl, sym, ap, _∙_}
+use mathlib.Core.Bool.{Bool, true, false, cond}
 use mathlib.Core.List.{List, [], _∷_, map}
 use mathlib.Core.Option.{Option, none, some}
 use Prim.Native.Nat.{ℕ, zero, suc, _+_, _≤_, _<_}
 use native.Mathlib.Numerals.{add-one}
-use native.Mathlib.Nat.{add-zero, not-suc-le-zero, le-of-suc-le-suc}
+use native.Mathlib.Nat.{not-suc-le-zero, le-of-suc-le-suc}
 use native.Mathlib.Omega.{arith}
 use lib.ListN.{length, getD, drop, set, drop-of-length-le}
 use lib.Seq.{drop-cons}
-use Rattle.rules.specs.Entries.{lowest, has, without}
+use Rattle.rules.specs.Entries.{has, without}
 use Rattle.domains.specs.Entry.{taken, passes, entryOr, droppedIf}
 
 module _ {A : Type 0} where
@@ -45,85 +45,62 @@ module _ {A : Type 0} where
   dropped-not test none e = refl
   dropped-not test (some x) e = rw e
 
-  -- ── some entry passes a test ──
+  -- ── some entry passes a test: those before place i do not ──
 
-  module _ (test : A → Bool) (xs : List (Option A)) (i : ℕ) (h : i < length xs) where
-    has-cons : has test (drop i xs) ≡ has test (getD xs i none ∷ drop (i + 1) xs)
-    has-cons = rw (drop-cons xs i none h, add-one)
+  module _ (test : A → Bool) (xs : List (Option A)) (n : ℕ) (long : length xs ≡ n) (i : ℕ) {whole : Bool} (p : whole ≡ has test (drop i xs)) where
+    turn : i < n → whole ≡ has test (getD xs i none ∷ drop (i + 1) xs)
+    turn h = p ∙ rw (drop-cons xs i none (rw long h), add-one)
 
-    pub has-here : passes test (getD xs i none) ≡ true → has test (drop i xs) ≡ true
+    pub found : i < n → {b : Bool} → b ≡ passes test (getD xs i none) → b ≡ true → true ≡ whole
     unfolding passes has
-    has-here p = has-cons ∙ go (getD xs i none) p
+    found h e t = sym (turn h ∙ go (getD xs i none) (sym e ∙ t))
       where
         go : (x : Option A) → passes test x ≡ true → has test (x ∷ drop (i + 1) xs) ≡ true
         go none p = let z : _≡_ {A = ℕ} 0 1 = cc in absurd (omega arith)
         go (some x) p = rw p
 
-    pub has-further : passes test (getD xs i none) ≡ false → has test (drop i xs) ≡ has test (drop (i + 1) xs)
+    pub passed-by : i < n → {b : Bool} → b ≡ passes test (getD xs i none) → b ≡ false → whole ≡ has test (drop (i + 1) xs)
     unfolding passes has
-    has-further p = has-cons ∙ go (getD xs i none) p
+    passed-by h e f = turn h ∙ go (getD xs i none) (sym e ∙ f)
       where
         go : (x : Option A) → passes test x ≡ false → has test (x ∷ drop (i + 1) xs) ≡ has test (drop (i + 1) xs)
         go none p = refl
         go (some x) p = rw p
 
-  pub has-over : (test : A → Bool) (xs : List (Option A)) (i : ℕ) → length xs ≤ i → has test (drop i xs) ≡ false
-  unfolding has
-  has-over test xs i h = rw (drop-of-length-le xs {i = i} h)
-
-  -- ── the lowest free place ──
-
-  module _ (xs : List (Option A)) (i : ℕ) where
-    pub lowest-here : i < length xs → taken (getD xs i none) ≡ false → i + lowest (drop i xs) ≡ i
-    unfolding lowest
-    lowest-here h f = rw (drop-cons xs i none h, free-none (getD xs i none) f) (add-zero i)
-
-    pub lowest-further : (stand : A) → i < length xs → taken (getD xs i none) ≡ true → i + lowest (drop i xs) ≡ i + 1 + lowest (drop (i + 1) xs)
-    unfolding lowest
-    lowest-further stand h f =
-        let e : drop i xs ≡ some (entryOr stand (getD xs i none)) ∷ drop (i + 1) xs = drop-cons xs i none h ∙ ap₂ _∷_ (taken-some stand (getD xs i none) f) (ap (λ (j : ℕ). drop j xs) (sym (add-one i))) in
-        rw e (omega arith)
-
-    pub lowest-over : length xs ≤ i → i + lowest (drop i xs) ≡ i
-    unfolding lowest
-    lowest-over h = rw (drop-of-length-le xs {i = i} h) (add-zero i)
-
-  -- ── what is asked of each place, with those after it ──
-
-  module _ (goods : List (Option A) → Bool) (good : Option A → List (Option A) → Bool) (next : (x : Option A) (xs : List (Option A)) → goods (x ∷ xs) ≡ (good x xs && goods xs)) where
-    pub goods-next : (xs : List (Option A)) (i : ℕ) → i < length xs → goods (drop i xs) ≡ (good (getD xs i none) (drop (i + 1) xs) && goods (drop (i + 1) xs))
-    goods-next xs i h = rw (drop-cons xs i none h, add-one) (next (getD xs i none) (drop (suc i) xs))
+    pub not-found : n ≤ i → false ≡ whole
+    unfolding has
+    not-found h = sym (p ∙ rw (drop-of-length-le xs {i = i} (rw long h)))
 
   -- ── each place in turn made what a function makes of it ──
 
   -- the first i places are done
-  abbrev pub swept : (Option A → Option A) → ℕ → List (Option A) → List (Option A)
-  swept f zero xs = xs
-  swept f (suc i) [] = []
-  swept f (suc i) (x ∷ xs) = f x ∷ swept f i xs
+  abbrev pub sweptBefore : (Option A → Option A) → ℕ → List (Option A) → List (Option A)
+  sweptBefore f zero xs = xs
+  sweptBefore f (suc i) [] = []
+  sweptBefore f (suc i) (x ∷ xs) = f x ∷ sweptBefore f i xs
 
   module _ (f : Option A → Option A) where
-    pub length-swept : (i : ℕ) (xs : List (Option A)) → length (swept f i xs) ≡ length xs
+    pub length-swept : (i : ℕ) (xs : List (Option A)) → length (sweptBefore f i xs) ≡ length xs
     length-swept zero xs = refl
     length-swept (suc i) [] = refl
     length-swept (suc i) (x ∷ xs) = ap suc (length-swept i xs)
 
     -- the next place is as it was
-    pub swept-at : (i : ℕ) (xs : List (Option A)) → getD (swept f i xs) i none ≡ getD xs i none
+    pub swept-at : (i : ℕ) (xs : List (Option A)) → getD (sweptBefore f i xs) i none ≡ getD xs i none
     swept-at zero xs = refl
     swept-at (suc i) [] = refl
     swept-at (suc i) (x ∷ xs) = swept-at i xs
 
-    swept-set : (i : ℕ) (xs : List (Option A)) → set (swept f i xs) i (f (getD xs i none)) ≡ swept f (suc i) xs
+    swept-set : (i : ℕ) (xs : List (Option A)) → set (sweptBefore f i xs) i (f (getD xs i none)) ≡ sweptBefore f (suc i) xs
     swept-set zero [] = refl
     swept-set zero (x ∷ xs) = refl
     swept-set (suc i) [] = refl
     swept-set (suc i) (x ∷ xs) = ap (_∷_ (f x)) (swept-set i xs)
 
-    pub swept-next : (i : ℕ) (xs : List (Option A)) → set (swept f i xs) i (f (getD (swept f i xs) i none)) ≡ swept f (i + 1) xs
+    pub swept-next : (i : ℕ) (xs : List (Option A)) → set (sweptBefore f i xs) i (f (getD (sweptBefore f i xs) i none)) ≡ sweptBefore f (i + 1) xs
     swept-next i xs = rw (swept-at i xs, add-one) (swept-set i xs)
 
-    pub swept-all : (i : ℕ) (xs : List (Option A)) → length xs ≤ i → swept f i xs ≡ map f xs
+    pub swept-all : (i : ℕ) (xs : List (Option A)) → length xs ≤ i → sweptBefore f i xs ≡ map f xs
     swept-all zero [] h = refl
     swept-all zero (x ∷ xs) h = absurd (not-suc-le-zero h)
     swept-all (suc i) [] h = refl
@@ -135,5 +112,5 @@ module _ {A : Type 0} where
   without-map test (none ∷ xs) = ap (_∷_ none) (without-map test xs)
   without-map test (some x ∷ xs) = ap (_∷_ (cond (test x) none (some x))) (without-map test xs)
 
-  pub without-swept : (test : A → Bool) (i : ℕ) (xs : List (Option A)) → length xs ≤ i → swept (droppedIf test) i xs ≡ without test xs
+  pub without-swept : (test : A → Bool) (i : ℕ) (xs : List (Option A)) → length xs ≤ i → sweptBefore (droppedIf test) i xs ≡ without test xs
   without-swept test i xs h = swept-all (droppedIf test) i xs h ∙ without-map test xs

@@ -90,12 +90,5 @@ pub fn lowest_free(s: &[u8]) -> usize
     requires { ⌜ length (now s) ≡ domainsSize ⌝ }
     ensures { λ r. ⌜ r ≡ lowest (domainsOf (now (s .entry))) ⌝ }
 {
-    let mut i = 0;
-    while i < DOMAINS {
-        if !used(s, i) {
-            return i;
-        }
-        i += 1;
-    }
-    i
+    octets::places::lowest_free(s, DOMAIN_SIZE, DOMAINS)
 }

@@ -7,27 +7,11 @@ use Prim.Native.Nat.{ℕ, suc, _+_, _≤_, _<_}
 use native.Mathlib.Numerals.{add-one}
 use lib.ListN.{length, getD, drop, drop-of-length-le}
 use lib.Seq.{drop-cons}
-use Rattle.rules.specs.Entries.{lowest, freeCount}
+use Rattle.rules.specs.Entries.{freeCount}
 use Rattle.rules.specs.Node.{Node, Table}
 use Rattle.slots.specs.Slot.{isUsed}
 
 module _ (ts : Table) (i : ℕ) (h : i < length ts) where
-  pub lowest-here : isUsed (getD ts i none) ≡ false → lowest (drop i ts) ≡ 0
-  unfolding lowest
-  lowest-here u = ap lowest (drop-cons ts i none h) ∙ go (getD ts i none) u
-    where
-      go : (x : Option Node) → isUsed x ≡ false → lowest (x ∷ drop (suc i) ts) ≡ 0
-      go none v = refl
-      go (some n) v = absurd (true≢false v)
-
-  pub lowest-further : isUsed (getD ts i none) ≡ true → lowest (drop i ts) ≡ suc (lowest (drop (i + 1) ts))
-  unfolding lowest
-  lowest-further u = ap lowest (drop-cons ts i none h) ∙ go (getD ts i none) u ∙ rw add-one
-    where
-      go : (x : Option Node) → isUsed x ≡ true → lowest (x ∷ drop (suc i) ts) ≡ suc (lowest (drop (suc i) ts))
-      go none v = absurd (false≢true v)
-      go (some n) v = refl
-
   pub count-here : isUsed (getD ts i none) ≡ false → freeCount (drop i ts) ≡ suc (freeCount (drop (i + 1) ts))
   unfolding freeCount
   count-here u = ap freeCount (drop-cons ts i none h) ∙ go (getD ts i none) u ∙ rw add-one
@@ -43,10 +27,6 @@ module _ (ts : Table) (i : ℕ) (h : i < length ts) where
       go : (x : Option Node) → isUsed x ≡ true → freeCount (x ∷ drop (suc i) ts) ≡ freeCount (drop (suc i) ts)
       go none v = absurd (false≢true v)
       go (some n) v = refl
-
-pub lowest-over : (ts : Table) (i : ℕ) → length ts ≤ i → lowest (drop i ts) ≡ 0
-unfolding lowest
-lowest-over ts i h = rw (drop-of-length-le ts h)
 
 pub count-over : (ts : Table) (i : ℕ) → length ts ≤ i → freeCount (drop i ts) ≡ 0
 unfolding freeCount

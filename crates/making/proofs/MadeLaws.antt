@@ -89,7 +89,9 @@ module _ (path v : Octets) (d : ℕ) (whole : Table) (p from : ℕ) (t : Octets)
   last = take (length path - from) (drop from path)
 
   pieces-last : length path ≤ nameEnd path from → split (drop from path) ≡ last ∷ []
-  pieces-last h = last-name path from (s .inside) h ∙ ap (λ (n : Octets). n ∷ []) (sym (take-all (length path - from) (drop from path) (rw length-drop (omega arith))))
+  pieces-last h =
+      last-name path from (s .inside) h
+      ∙ ap (λ (n : Octets). n ∷ []) (sym (take-all (length path - from) (drop from path) (rw length-drop (omega arith))))
 
   pub last-short : length path ≤ nameEnd path from → length (take (length path - from) (drop from path)) ≤ longestName
   last-short h = first-short last [] (rw (pieces-last h) at (s .short)) .0

@@ -107,8 +107,9 @@ pub swept-removed : (s : Octets) (i : ℕ) (ms : List Bool) {y : Octets} → Mar
     y ≡ tableBytes (removed (tableOf s) i)
 unfolding removed
 swept-removed s i ms m e =
+    let t = tableOf s in
     let f = decoded-fits s .long in
-    e ∙ ap tableBytes (cleared-swept (tableOf s) i 0 ms (tableOf s) (m .long ∙ sym f) (λ j h. m .right j (omega arith) ∙ ap (within deepest (tableOf s) i) (sym (zero-add j))))
+    e ∙ ap tableBytes (cleared-swept t i 0 ms t (m .long ∙ sym f) (λ j h. m .right j (omega arith) ∙ ap (within deepest t i) (sym (zero-add j))))
 
 -- ── several slots ──
 

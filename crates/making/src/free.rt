@@ -4,6 +4,7 @@ ghost use lib.ListN.{length};
 ghost use Rattle.rules.specs.Size.{tableSize};
 ghost use Rattle.rules.specs.Entries.{lowest, freeCount};
 ghost use Rattle.rules.specs.Layout.{tableOf};
+use octets::sizes::SLOT_SIZE;
 use octets::sizes::SLOTS;
 use slots::fields::used;
 
@@ -12,14 +13,7 @@ pub fn lowest_free(t: &[u8]) -> usize
     requires { ⌜ length (now t) ≡ tableSize ⌝ }
     ensures { λ r. ⌜ r ≡ lowest (tableOf (now (t .entry))) ⌝ }
 {
-    let mut i = 0;
-    while i < SLOTS {
-        if !used(t, i) {
-            return i;
-        }
-        i += 1;
-    }
-    i
+    octets::places::lowest_free(t, SLOT_SIZE, SLOTS)
 }
 
 pub fn free_count(t: &[u8]) -> usize

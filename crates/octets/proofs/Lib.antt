@@ -3,3 +3,4 @@ pub mod Digits
 pub mod Ranges
 pub mod Padding
 pub mod Bytes
+pub mod PlaceLaws

@@ -3,6 +3,7 @@ pub mod compare;
 pub mod decimals;
 pub mod numbers;
 pub mod parts;
+pub mod places;
 pub mod sizes;
 pub mod written;
 

@@ -6,8 +6,7 @@ use mathlib.Core.Option.{some}
 use Prim.Native.Nat.{ℕ, suc, _+_, _*_, _/_, _%_, _≤_, _<_}
 use native.Mathlib.Nat.{add-zero, add-assoc}
 use native.Mathlib.Omega.{arith}
-use lib.ListN.{length, getD, set, take, drop, length-append, length-drop}
-use lib.Seq.{length-take-le}
+use lib.ListN.{length, getD, set, take, drop, length-append}
 use lib.Dec.{lit≤}
 use Rattle.rules.specs.Size.{mostTransactions, changesAt, transactionSize, mostChanges, changeSize, changesSize, longestPath}
 use Rattle.rules.specs.Octets.{Octets, padded, paste, bit}
@@ -19,9 +18,9 @@ use Rattle.rules.proofs.Paste.{paste-sets, paste-append, length-paste}
 use Rattle.rules.proofs.TransactionLayouts.{ChangeFits, TransactionFits, transaction-width}
 use Rattle.rules.proofs.Fields.{bit-small}
 use Rattle.rules.proofs.Joined.{set-paste}
-use Rattle.transactions.specs.Transaction.{transactionOf, changeGiven, changedBy, Room}
+use Rattle.transactions.specs.Transaction.{transactionOf, changeGiven, changedBy, RoomForChange}
 use Rattle.rules.proofs.Slots.{length-padded}
-use Rattle.domains.proofs.Rows.{wrote}
+use Rattle.domains.proofs.Rows.{part-length, wrote}
 use Rattle.transactions.proofs.Parts.{paste-row, paste-twice, row-pasted, padded-more}
 use Rattle.transactions.proofs.Laws.{threeOf, transaction-parts, transaction-wide, row-parts, first-is, open-fits}
 use Rattle.transactions.proofs.ChangeLaws.{change-parts, change-wide}
@@ -98,7 +97,7 @@ module _ (x : Transaction) (f : TransactionFits x) (few : length (x .changes) < 
       first-set : (b u v w : ℕ) (t : Octets) → paste 0 (b ∷ []) (u ∷ v ∷ w ∷ t) ≡ b ∷ v ∷ w ∷ t
       first-set b u v w t = refl
 
-module _ (s : Octets) (k : ℕ) (p : Octets) (room : Room s k p) (r : Bool) where
+module _ (s : Octets) (k : ℕ) (p : Octets) (room : RoomForChange s k p) (r : Bool) where
   -- where place k begins
   abbrev at : ℕ
   at = k * transactionSize
@@ -119,30 +118,34 @@ module _ (s : Octets) (k : ℕ) (p : Octets) (room : Room s k p) (r : Bool) wher
       ≡ transactionsBytes (set (transactionsOf s) k (some (changedBy x r p)))
   unfolding transactionsOf transactionsBytes
   put-changed =
+      let place = room .place in
+      let below = place .below in
+      let whole = place .kept .whole in
+      let few = room .few in
       let b = getD s at 0 + 1 in
       let c = changeBytes (changeGiven r p) in
+      let y = some (changedBy x r p) in
       let row = take transactionSize (drop at s) in
       let off = changesAt + length (x .changes) * changeSize in
-      let within = room-within in
       let wide : length c ≡ changeSize = change-wide (changeGiven r p) (given-fits r p (room .full) (room .short)) in
-      let few = room .few in
-      let lr : length row ≡ transactionSize =
-      length-take-le transactionSize (drop at s) (rw length-drop (omega (arith, room .place .kept .whole, room .place .below))) in
+      let lr : length row ≡ transactionSize = part-length s at transactionSize (omega arith) in
       let R = paste off c row in
       let lR : length R ≡ transactionSize = length-paste off c row (rw (lr, wide) (omega arith)) ∙ lr in
       let t = paste at R s in
-      let lt : length t ≡ length s = length-paste at R s (rw lR (omega (arith, room .place .kept .whole, room .place .below))) in
+      let lt : length t ≡ length s = length-paste at R s (rw lR (omega arith)) in
       let inner : paste (at + changesAt + length (x .changes) * changeSize) c s ≡ t =
       ap (λ (n : ℕ). paste n c s) (add-assoc at changesAt (length (x .changes) * changeSize))
-      ∙ sym (paste-row s at transactionSize off c (omega (arith, room .place .kept .whole, room .place .below)) (rw wide (omega arith))) in
-      let e = ap (λ (n : ℕ). n + 1) (first-is s k (room .place .below) (room .place .kept) (room .place .used)) in
-      let bytes : paste 0 (b ∷ []) R ≡ transactionBytes (some (changedBy x r p)) =
-      ap (λ (q : Octets). paste 0 (b ∷ []) (paste off c q)) (row-parts s k (room .place .below) (room .place .kept) (room .place .used)) ∙ changed-bytes x fits few r p (room .full) (room .short) b e in
+      ∙ sym (paste-row s at transactionSize off c (omega arith) (rw wide (omega arith))) in
+      let first = ap (λ (n : ℕ). n + 1) (first-is s k below (place .kept) (place .used)) in
+      let bytes : paste 0 (b ∷ []) R ≡ transactionBytes y =
+      ap (λ (q : Octets). paste 0 (b ∷ []) (paste off c q)) (row-parts s k below (place .kept) (place .used))
+      ∙ changed-bytes x fits few r p (room .full) (room .short) b first in
+      let width = transaction-width y (changed-fits x fits few r p (room .full) (room .short)) in
       ap (λ (l : Octets). set l at b) inner
       ∙ set-paste t at b (rw lt (omega arith))
       ∙ ap (λ (n : ℕ). paste n (b ∷ []) t) (sym (add-zero at))
-      ∙ sym (paste-row t at transactionSize 0 (b ∷ []) (rw lt (omega (arith, room .place .kept .whole, room .place .below))) (lit≤ tt))
+      ∙ sym (paste-row t at transactionSize 0 (b ∷ []) (rw lt (omega arith)) (lit≤ tt))
       ∙ ap (λ (q : Octets). paste at (paste 0 (b ∷ []) q) t) (row-pasted s at transactionSize R (omega arith) lR)
       ∙ paste-twice s at R (paste 0 (b ∷ []) R) (omega arith) (length-paste 0 (b ∷ []) R (rw lR (lit≤ tt)))
       ∙ ap (λ (q : Octets). paste at q s) bytes
-      ∙ sym (wrote transactionBytes transactionIn transactionSize transaction-wide mostTransactions s (room .place .kept) k (some (changedBy x r p)) (room .place .below) (transaction-width (some (changedBy x r p)) (changed-fits x fits few r p (room .full) (room .short))))
+      ∙ sym (wrote transactionBytes transactionIn transactionSize transaction-wide mostTransactions s (place .kept) k y below width)

@@ -3,10 +3,10 @@ use mathlib.Core.Path.{_≡_, refl, sym, ap, _∙_}
 use mathlib.Core.Bool.{Bool, true, false}
 use mathlib.Core.List.{[], _∷_, _++_, flatMap}
 use Prim.Native.Nat.{ℕ, _+_, _*_, _-_, _/_, _%_, _≤_, _<_}
-use native.Mathlib.Nat.{add-zero, add-assoc, add-sub-cancel-left}
+use native.Mathlib.Nat.{add-assoc, add-sub-cancel-left}
 use native.Mathlib.Omega.{arith}
 use lib.ListN.{length, getD, take, drop, replicate, length-append, length-drop}
-use lib.Seq.{take-at, drop-at, take-take, take-append-le, drop-append-le, drop-drop, take-append-seam}
+use lib.Seq.{drop-at, take-append-le, drop-append-le, drop-drop, take-append-seam}
 use lib.Dec.{leb, lit≤}
 use borrow.Author.Tests.{le-leb, lt-leb}
 use Rattle.rules.specs.Size.{changesAt, transactionSize, changeFieldsSize, changeSize, changesSize, longestPath}
@@ -20,7 +20,7 @@ use Rattle.rules.proofs.TransactionLayouts.{ChangeFits, TransactionFits}
 use Rattle.octets.specs.Two.{Two}
 use Rattle.transactions.specs.Transaction.{noChange, transactionOf, changeOf, HasChange}
 use Rattle.rules.proofs.Slots.{length-padded}
-use Rattle.domains.proofs.Rows.{listed-from, partAt}
+use Rattle.domains.proofs.Rows.{first-listed, partAt}
 use Rattle.transactions.proofs.Laws.{threeOf, row-parts, open-fits}
 
 -- ── the bytes of a change ──
@@ -107,11 +107,7 @@ module _ (s : Octets) (k j : ℕ) (h : HasChange s k j) where
 
   first-two : getD s at 0 ∷ getD s (at + 1) 0 ∷ [] ≡ twoOf c
   first-two =
-      let w = place-within in
-      sym (listed-from s at changeFieldsSize (omega arith) ∙ rw add-zero)
-      ∙ sym (take-take changeFieldsSize changeSize (drop at s) (lit≤ tt))
-      ∙ ap (take changeFieldsSize) parts
-      ∙ take-at (twoOf c) (padded longestPath (pathText (c .names))) changeFieldsSize refl
+      first-listed s at changeSize changeFieldsSize (twoOf c) (padded longestPath (pathText (c .names))) (lit≤ tt) place-within refl parts
 
   pub removed-read : leb 128 (getD s at 0) ≡ c .removal
   removed-read =

@@ -1,30 +1,27 @@
 -- A transaction's changes as bytes: when they re-encode to themselves, one by one and part by part.
 use mathlib.Core.Path.{_≡_, refl, sym, ap, ap₂, _∙_}
 use mathlib.Core.Bool.{Bool, true, false, _&&_, true≢false}
-use mathlib.Core.List.{List, [], _∷_, _++_, map, flatMap}
-use mathlib.Core.Option.{Option, none, some}
+use mathlib.Core.List.{List, [], _∷_, _++_}
 use Prim.Native.Nat.{ℕ, _+_, _*_, _-_, _/_, _%_, _≤_, _<_}
-use native.Mathlib.Nat.{add-zero, add-sub-cancel-left, div-add-mod', mod-lt}
+use native.Mathlib.Nat.{add-zero, div-add-mod', mod-lt}
 use native.Mathlib.Omega.{arith}
-use lib.ListN.{length, getD, take, drop, replicate, length-append, length-drop}
+use lib.ListN.{length, getD, take, drop, replicate, length-append}
 use lib.Seq.{take-add, take-take, take-at, drop-at, drop-drop, length-take-le}
 use lib.Dec.{eqb, lit≤, lit<}
 use Rattle.rules.specs.Size.{changeFieldsSize, changeSize, longestPath}
-use Rattle.rules.specs.Octets.{Octets, same, padded, chunks, field, bitsAt, bit}
+use Rattle.rules.specs.Octets.{Octets, same, padded, field, bitsAt, bit}
 use Rattle.rules.specs.Path.{Given, malformed, absolute, relative, special, given, namesIn, allNames, isFull, pathText}
 use Rattle.rules.specs.Answer.{Change}
 use Rattle.rules.specs.Layout.{textAt, changeBytes, changeIn}
-use Rattle.rules.proofs.Compare.{same-eq, eq-same}
-use Rattle.rules.proofs.Places.{is-false}
+use Rattle.rules.proofs.Compare.{eq-same}
 use Rattle.rules.proofs.PathLaws.{Means, means, full, text-full}
 use Rattle.rules.proofs.Fields.{take-drop-take, field-part, field-two, bit-small}
 use Rattle.rules.proofs.Slots.{text-short, length-padded}
 use Rattle.rules.proofs.Reencoding.{same-append}
 use Rattle.octets.specs.Two.{Bytes}
-use Rattle.domains.specs.Kept.{keptAt}
 use Rattle.octets.specs.Numbers.{restZero}
-use Rattle.transactions.specs.Checks.{changeKept, changesKept}
-use Rattle.domains.proofs.Rows.{same-padded, partAt, listed-from, text-part, keptFrom, kept-start, kept-next, kept-end}
+use Rattle.transactions.specs.Checks.{changeKept}
+use Rattle.domains.proofs.Rows.{partAt, part-length, listed-from, text-part, text-field, same-field, differ}
 use Rattle.octets.proofs.Bytes.{bit-of}
 use Rattle.transactions.proofs.ChangeLaws.{twoOf, change-parts}
 
@@ -78,45 +75,12 @@ change-long r =
     ∙ length-append (twoOf (changeIn r)) (padded longestPath (pathText (changeIn r .names)))
     ∙ ap (λ (n : ℕ). changeFieldsSize + n) (length-padded longestPath (pathText (changeIn r .names)) (read-short r))
 
--- ── n changes ──
+-- ── n changes from `at` on ──
 
-abbrev pub encode : Option Change → Octets
-encode none = []
-encode (some c) = changeBytes c
-
-abbrev pub decode : Octets → Option Change
-decode r = some (changeIn r)
-
-pub wide : (r : Octets) → length (encode (decode r)) ≡ changeSize
-wide r = change-long r
-
-wrapped : (rs : List Octets) → flatMap encode (map decode rs) ≡ flatMap changeBytes (map changeIn rs)
-unfolding flatMap
-wrapped [] = refl
-wrapped (r ∷ rs) = ap (λ (t : Octets). changeBytes (changeIn r) ++ t) (wrapped rs)
-
-abbrev pub changesRest : ℕ → Octets → ℕ → Bool
-changesRest n d j = keptFrom encode decode changeSize wide n d j
-
-pub changes-start : (n : ℕ) (d : Octets) → changesKept n d ≡ changesRest n d 0
-unfolding changesKept
-changes-start n d = ap (λ (t : Octets). same t d) (sym (wrapped (chunks n changeSize d))) ∙ kept-start encode decode changeSize wide n d
-
--- change j of those from `at` on
-pub changes-next : (s : Octets) (at n : ℕ) → at + n * changeSize ≤ length s → (j : ℕ) → j < n
-    → let d = take (n * changeSize) (drop at s) in changesRest n d j ≡ (changeKept (take changeSize (drop (at + j * changeSize) s)) && changesRest n d (j + 1))
-unfolding changeKept keptAt
-changes-next s at n h j l =
-    let d = take (n * changeSize) (drop at s) in
-    let whole : length d ≡ n * changeSize = length-take-le (n * changeSize) (drop at s) (rw length-drop (omega arith)) in
-    let row : take changeSize (drop (j * changeSize) d) ≡ take changeSize (drop (at + j * changeSize) s) =
-    take-drop-take changeSize (j * changeSize) (n * changeSize) (drop at s) (omega arith) ∙ ap (take changeSize) (drop-drop (j * changeSize) at s) in
-    kept-next encode decode changeSize wide n d whole j l ∙ ap (λ (r : Octets). same (changeBytes (changeIn r)) r && changesRest n d (j + 1)) row
-
-pub changes-end : (s : Octets) (at n : ℕ) → at + n * changeSize ≤ length s → (j : ℕ) → n ≤ j → changesRest n (take (n * changeSize) (drop at s)) j ≡ true
-changes-end s at n h j l =
-    kept-end encode decode changeSize wide n (take (n * changeSize) (drop at s))
-    (length-take-le (n * changeSize) (drop at s) (rw length-drop (omega arith))) j l
+pub change-row : (s : Octets) (at n j : ℕ) → j < n
+    → take changeSize (drop (j * changeSize) (take (n * changeSize) (drop at s))) ≡ take changeSize (drop (at + j * changeSize) s)
+change-row s at n j l =
+    take-drop-take changeSize (j * changeSize) (n * changeSize) (drop at s) (omega arith) ∙ ap (take changeSize) (drop-drop (j * changeSize) at s)
 
 -- ── the parts of a change ──
 
@@ -181,7 +145,7 @@ module _ (s : Octets) (at : ℕ) (bytes : Bytes s) (h : at + changeSize ≤ leng
   names-are = ap (λ (n : ℕ). namesIn (textAt row changeFieldsSize longestPath n)) (fields .1)
 
   first-two : take changeFieldsSize row ≡ getD s at 0 ∷ getD s (at + 1) 0 ∷ []
-  first-two = take-take changeFieldsSize changeSize (drop at s) (lit≤ tt) ∙ listed-from s at changeFieldsSize (omega arith) ∙ rw add-zero
+  first-two = take-take changeFieldsSize changeSize (drop at s) (lit≤ tt) ∙ listed-from s at changeFieldsSize (omega arith)
 
   -- a change whose bytes are its own
   module _ (own : changeBytes c ≡ row) where
@@ -221,7 +185,7 @@ module _ (s : Octets) (at : ℕ) (bytes : Bytes s) (h : at + changeSize ≤ leng
 
   not-kept : (changeBytes c ≡ row → ⊥) → changeKept row ≡ false
   unfolding changeKept
-  not-kept f = is-false (changeKept row) λ e. f (same-eq (changeBytes c) row e)
+  not-kept = differ (changeBytes c) row
 
   pub change-marked : (number / 512 % 64 ≡ 0 → ⊥) → changeKept row ≡ false
   change-marked z = not-kept λ own. z (said own .zeros)
@@ -236,23 +200,18 @@ module _ (s : Octets) (at : ℕ) (bytes : Bytes s) (h : at + changeSize ≤ leng
 
   module _ (z : number / 512 % 64 ≡ 0) (l : number % 512 ≤ longestPath) (f : isFull (partAt s (at + changeFieldsSize) (number % 512)) ≡ true) where
     abbrev part : Octets
-    part = take longestPath (drop (at + 2) s)
-
-    part-long : length part ≡ longestPath
-    part-long = length-take-le longestPath (drop (at + 2) s) (rw length-drop (omega arith))
+    part = take longestPath (drop (at + changeFieldsSize) s)
 
     text-is : text ≡ take (number % 512) part
-    text-is =
-        sym (text-part s at changeSize changeFieldsSize longestPath (number % 512) l (lit≤ tt))
-        ∙ ap (λ (m : ℕ). take m (drop (at + 2) s)) (add-sub-cancel-left (at + 2) (number % 512))
-        ∙ sym (take-take (number % 512) longestPath (drop (at + 2) s) l)
+    text-is = text-field s at changeSize changeFieldsSize longestPath (number % 512) l (lit≤ tt)
 
     path-is : pathText (c .names) ≡ text
-    path-is = ap pathText names-are
-        ∙ sym (full text (ap isFull (sym (text-part s at changeSize changeFieldsSize longestPath (number % 512) l (lit≤ tt))) ∙ f) .text)
+    path-is =
+        let same-text = text-part s at changeSize changeFieldsSize longestPath (number % 512) l (lit≤ tt) in
+        ap pathText names-are ∙ sym (full text (ap isFull (sym same-text) ∙ f) .text)
 
     path-long : length (pathText (c .names)) ≡ number % 512
-    path-long = ap length (path-is ∙ text-is) ∙ length-take-le (number % 512) part (rw part-long l)
+    path-long = ap length (path-is ∙ text-is) ∙ length-take-le (number % 512) part (rw (part-length s (at + changeFieldsSize) longestPath (omega arith)) l)
 
     two-is : twoOf c ≡ take changeFieldsSize row
     two-is =
@@ -267,10 +226,11 @@ module _ (s : Octets) (at : ℕ) (bytes : Bytes s) (h : at + changeSize ≤ leng
         take-add changeFieldsSize longestPath (drop at s)
         ∙ ap₂ _++_ (sym (take-take changeFieldsSize changeSize (drop at s) (lit≤ tt))) (ap (take longestPath) (drop-drop changeFieldsSize at s))
 
-    pub change-rest : changeKept row ≡ restZero s (at + 2) (number % 512) longestPath
+    pub change-rest : changeKept row ≡ restZero s (at + changeFieldsSize) (number % 512) longestPath
     unfolding changeKept
     change-rest =
-        let a = same-padded (number % 512) part in
         ap₂ same (change-parts c (read-short row)) row-is
         ∙ same-append (twoOf c) (padded longestPath (pathText (c .names))) (take changeFieldsSize row) part (ap length two-is)
-        ∙ ap₂ _&&_ (eq-same two-is) (ap (λ (t : Octets). same (padded longestPath t) part) (path-is ∙ text-is) ∙ (rw part-long at a))
+        ∙ ap₂ _&&_ (eq-same two-is)
+        (ap (λ (t : Octets). same (padded longestPath t) part) (path-is ∙ text-is)
+        ∙ same-field s (at + changeFieldsSize) longestPath (number % 512) (omega arith) l)

@@ -3,26 +3,25 @@ use mathlib.Core.Path.{_≡_, refl, sym, ap, _∙_}
 use mathlib.Core.Bool.{Bool, true, false, not, _&&_}
 use mathlib.Core.List.{List, [], _∷_}
 use mathlib.Core.Option.{Option, none, some}
-use Prim.Native.Nat.{ℕ, _+_, _≤_, _<_}
-use native.Mathlib.Numerals.{add-one}
+use Prim.Native.Nat.{ℕ}
 use native.Mathlib.Omega.{arith}
-use lib.ListN.{length, getD, drop, drop-of-length-le}
-use lib.Seq.{drop-cons}
+use lib.ListN.{length}
 use lib.Dec.{eqb}
-use borrow.Author.Tests.{eqb-true}
-use Rattle.rules.specs.Size.{transactionsSize}
+use Rattle.rules.specs.Size.{mostTransactions, transactionSize, transactionsSize}
 use Rattle.rules.specs.Octets.{Octets, same}
 use Rattle.rules.specs.Path.{domainOf, fits, pathText, namesIn, isFull}
 use Rattle.rules.specs.Answer.{Change}
-use Rattle.rules.specs.Layout.{opened, Domains, Transaction, Transactions, transactionsBytes, transactionsOf}
+use Rattle.rules.specs.Layout.{opened, Domains, Transaction, Transactions, transactionBytes, transactionIn, transactionsBytes, transactionsOf}
 use Rattle.rules.specs.Sound.{known, goodChange, goodChanges, goodTransactions, soundTransactions, soundTable}
-use Rattle.rules.proofs.Compare.{both-true, same-eq}
 use Rattle.rules.proofs.PathLaws.{text-full, text-names}
 use Rattle.rules.proofs.TransactionLayouts.{ChangeFits}
 use Rattle.domains.specs.Entry.{taken, entryOr}
 use Rattle.transactions.specs.Transaction.{KeptTransactions, noChange}
 use Rattle.transactions.specs.Checks.{goodOpen, allOpenGood, soundEntries, soundCopies}
+use Rattle.domains.proofs.Turns.{ListCheck}
 use Rattle.domains.proofs.Search.{free-none, taken-some}
+use Rattle.domains.proofs.Rows.{same-kept, checked-kept}
+use Rattle.transactions.proofs.Laws.{transaction-wide}
 
 -- ── a change ──
 
@@ -45,13 +44,16 @@ module _ (c : Change) (f : ChangeFits c) (p : Octets) (e : p ≡ pathText (c .na
   unfolding goodChange
   change-removed h r n q = rw (ap fits (sym names-are) ∙ h, r, ← names-are, ← q)
 
-pub changes-next : (cs : List Change) (j : ℕ) → j < length cs → goodChanges (drop j cs) ≡ (goodChange (getD cs j noChange) && goodChanges (drop (j + 1) cs))
+pub changes-none : goodChanges [] ≡ true
 unfolding goodChanges
-changes-next cs j h = rw (drop-cons cs j noChange h, add-one) refl
+changes-none = refl
 
-pub changes-over : (cs : List Change) (j : ℕ) → length cs ≤ j → goodChanges (drop j cs) ≡ true
+pub changes-cons : (c : Change) (cs : List Change) → goodChanges (c ∷ cs) ≡ (goodChange c && goodChanges cs)
 unfolding goodChanges
-changes-over cs j h = rw (drop-of-length-le cs {i = j} h)
+changes-cons c cs = refl
+
+abbrev pub changesCheck : ListCheck Change
+changesCheck = record { stand = noChange; all = goodChanges; one = λ c cs. goodChange c; empty = changes-none; next = changes-cons }
 
 -- ── a transaction ──
 
@@ -71,24 +73,29 @@ module _ (ds : Domains) (x : Option Transaction) where
     pub open-known : known (domainOf (entryOr (opened 0) x .holder)) ds ≡ true → goodOpen ds x ≡ goodChanges (entryOr (opened 0) x .changes)
     open-known k = open-is ∙ rw k
 
-pub entries-next : (ds : Domains) (xs : Transactions) (i : ℕ) → i < length xs → allOpenGood ds (drop i xs) ≡ (goodOpen ds (getD xs i none) && allOpenGood ds (drop (i + 1) xs))
+pub entries-none : (ds : Domains) → allOpenGood ds [] ≡ true
 unfolding allOpenGood
-entries-next ds xs i h = rw (drop-cons xs i none h, add-one) refl
+entries-none ds = refl
 
-pub entries-over : (ds : Domains) (xs : Transactions) (i : ℕ) → length xs ≤ i → allOpenGood ds (drop i xs) ≡ true
+pub entries-cons : (ds : Domains) (x : Option Transaction) (xs : Transactions) → allOpenGood ds (x ∷ xs) ≡ (goodOpen ds x && allOpenGood ds xs)
 unfolding allOpenGood
-entries-over ds xs i h = rw (drop-of-length-le xs {i = i} h)
+entries-cons ds x xs = refl
+
+abbrev pub entriesCheck : Domains → ListCheck (Option Transaction)
+entriesCheck ds = record { stand = none; all = allOpenGood ds; one = λ x xs. goodOpen ds x; empty = entries-none ds; next = entries-cons ds }
 
 -- ── entries and copies ──
 
 -- a copy for each place
-pub entries-copies : (ds : Domains) (xs : Transactions) (copies : List Octets) → length copies ≡ length xs → goodTransactions ds xs copies ≡ (allOpenGood ds xs && soundCopies xs copies)
+pub entries-copies : (ds : Domains) (xs : Transactions) (copies : List Octets) → length copies ≡ length xs
+    → goodTransactions ds xs copies ≡ (allOpenGood ds xs && soundCopies xs copies)
 unfolding goodTransactions allOpenGood goodOpen soundCopies
 entries-copies ds [] copies h = refl
 entries-copies ds (x ∷ xs) [] h = absurd (omega arith)
 entries-copies ds (none ∷ xs) (copy ∷ copies) h = entries-copies ds xs copies (omega arith)
 entries-copies ds (some x ∷ xs) (copy ∷ copies) h =
-    rw (entries-copies ds xs copies (omega arith)) (regroup (known (domainOf (x .holder)) ds) (goodChanges (x .changes)) (soundTable copy) (allOpenGood ds xs) (soundCopies xs copies))
+    rw (entries-copies ds xs copies (omega arith))
+    (regroup (known (domainOf (x .holder)) ds) (goodChanges (x .changes)) (soundTable copy) (allOpenGood ds xs) (soundCopies xs copies))
   where
     regroup : (a b c d e : Bool) → (a && (b && (c && (d && e)))) ≡ ((a && b && d) && (c && e))
     regroup true true true d e = refl
@@ -102,7 +109,9 @@ pub sound-parts : (ds : Domains) (copies : List Octets) (s : Octets) → length 
     → soundTransactions ds copies s ≡ (soundEntries ds s && soundCopies (transactionsOf s) copies)
 unfolding soundTransactions soundEntries
 sound-parts ds copies s h =
-    rw (entries-copies ds (transactionsOf s) copies h) (regroup (eqb (length s) transactionsSize) (same (transactionsBytes (transactionsOf s)) s) (allOpenGood ds (transactionsOf s)) (soundCopies (transactionsOf s) copies))
+    let xs = transactionsOf s in
+    rw (entries-copies ds xs copies h)
+    (regroup (eqb (length s) transactionsSize) (same (transactionsBytes xs) s) (allOpenGood ds xs) (soundCopies xs copies))
   where
     regroup : (a b c d : Bool) → (a && (b && (c && d))) ≡ ((a && (b && c)) && d)
     regroup true true c d = refl
@@ -111,11 +120,9 @@ sound-parts ds copies s h =
 
 pub kept-of : (s : Octets) → length s ≡ transactionsSize → same (transactionsBytes (transactionsOf s)) s ≡ true → KeptTransactions s
 unfolding transactionsOf transactionsBytes
-kept-of s w e = record { whole = w; same = same-eq (transactionsBytes (transactionsOf s)) s e }
+kept-of s w e = same-kept transactionBytes transactionIn transactionSize transaction-wide mostTransactions s w e
 
 pub sound-kept : (ds : Domains) (s : Octets) → soundEntries ds s ≡ true → KeptTransactions s
-unfolding soundEntries
+unfolding soundEntries transactionsOf transactionsBytes
 sound-kept ds s h =
-    let p = both-true (eqb (length s) transactionsSize) (same (transactionsBytes (transactionsOf s)) s && allOpenGood ds (transactionsOf s)) h in
-    let q = both-true (same (transactionsBytes (transactionsOf s)) s) (allOpenGood ds (transactionsOf s)) (p .1) in
-    kept-of s (eqb-true (length s) transactionsSize (p .0)) (q .0)
+    checked-kept transactionBytes transactionIn transactionSize transaction-wide mostTransactions s (allOpenGood ds (transactionsOf s)) h

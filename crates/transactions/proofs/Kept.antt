@@ -1,50 +1,33 @@
 -- Whether the bytes of transactions are those of what they mean, by tests of their parts.
 use mathlib.Core.Path.{_≡_, refl, sym, ap, ap₂, _∙_}
-use mathlib.Core.Bool.{Bool, true, false, _&&_}
+use mathlib.Core.Bool.{Bool, false, _&&_}
 use mathlib.Core.List.{List, [], _∷_, _++_, map, flatMap}
 use mathlib.Core.Option.{none, some}
 use Prim.Native.Nat.{ℕ, zero, suc, _+_, _*_, _-_, _/_, _%_, _≤_, _<_}
-use native.Mathlib.Nat.{add-zero, add-comm, add-sub-cancel-left, suc-mul}
+use native.Mathlib.Nat.{add-comm, add-sub-cancel-left, suc-mul}
 use native.Mathlib.Omega.{arith}
 use lib.ListN.{length, getD, take, drop, replicate, length-append, length-drop, length-map, take-append-drop}
-use lib.Seq.{take-add, take-take, take-at, drop-drop, length-take-le}
+use lib.Seq.{take-add, take-take, drop-drop}
 use lib.Dec.{eqb, lit≤}
 use borrow.Author.Tests.{le-leb, lt-leb}
 use Rattle.rules.specs.Size.{mostTransactions, changesAt, transactionSize, transactionsSize, mostChanges, changeSize, changesSize}
 use Rattle.rules.specs.Octets.{Octets, same, allZero, padded, chunks, field, bitsAt, bit}
 use Rattle.rules.specs.Answer.{Change}
-use Rattle.rules.specs.Layout.{opened, Transaction, changeBytes, changeIn, transactionBytes, transactionIn, transactionAt, transactionsBytes, transactionsOf}
-use Rattle.rules.proofs.Compare.{same-eq, eq-same}
-use Rattle.rules.proofs.Places.{is-false}
+use Rattle.rules.specs.Layout.{opened, Transaction, changeBytes, changeIn, transactionBytes, transactionIn, transactionAt, transactionsOf}
+use Rattle.rules.proofs.Compare.{eq-same}
 use Rattle.rules.proofs.Fields.{field-three, bit-small}
 use Rattle.rules.proofs.Tables.{length-chunks}
-use Rattle.rules.proofs.TransactionLayouts.{TransactionFits, transaction-at}
+use Rattle.rules.proofs.TransactionLayouts.{TransactionFits}
 use Rattle.octets.specs.Two.{Bytes}
 use Rattle.domains.specs.Kept.{keptAt}
 use Rattle.octets.specs.Numbers.{restZero}
 use Rattle.transactions.specs.Checks.{changesKept}
-use Rattle.domains.proofs.Search.{free-none, taken-some}
 use Rattle.rules.proofs.Reencoding.{same-zeros, same-append}
-use Rattle.domains.proofs.Rows.{listed-from, keptFrom, kept-start, kept-next, kept-end}
+use Rattle.domains.proofs.Rows.{partAt, part-length, listed-from, first-listed, differ, free-kept, used-kept}
 use Rattle.octets.proofs.Padding.{drop-take}
 use Rattle.octets.proofs.Bytes.{bit-of, pair-forward}
 use Rattle.transactions.proofs.Laws.{threeOf, transaction-parts, transaction-wide, read-fits, used-byte, is-read}
 use Rattle.transactions.proofs.ChangesKept.{change-long}
-
--- ── the loop over the places ──
-
-abbrev pub keptRest : Octets → ℕ → Bool
-keptRest s i = keptFrom transactionBytes transactionIn transactionSize transaction-wide mostTransactions s i
-
-pub rest-start : (s : Octets) → same (transactionsBytes (transactionsOf s)) s ≡ keptRest s 0
-unfolding transactionsBytes transactionsOf
-rest-start s = kept-start transactionBytes transactionIn transactionSize transaction-wide mostTransactions s
-
-pub rest-next : (s : Octets) → length s ≡ transactionsSize → (i : ℕ) → i < mostTransactions → keptRest s i ≡ (keptAt mostTransactions transactionSize transactionBytes transactionIn s i && keptRest s (i + 1))
-rest-next s h i l = kept-next transactionBytes transactionIn transactionSize transaction-wide mostTransactions s h i l
-
-pub rest-end : (s : Octets) → length s ≡ transactionsSize → (i : ℕ) → mostTransactions ≤ i → keptRest s i ≡ true
-rest-end s h i l = kept-end transactionBytes transactionIn transactionSize transaction-wide mostTransactions s h i l
 
 -- ── the parts of a place ──
 
@@ -76,7 +59,8 @@ rows-long (r ∷ rs) =
 first-forward : (b : ℕ) → 128 ≤ b → b < 256 → b / 16 % 4 ≡ 0 → 128 + 64 * bit (eqb (b / 64 % 2) 1) + b % 16 ≡ b
 first-forward b l h z = rw (bit-of (b / 64 % 2) (omega arith)) (omega arith)
 
-three-fields : (a b d : ℕ) → a < 256 → b < 256 → d < 256 → let m = (a * 256 + b) * 256 + d in (bitsAt m 22 1 ≡ a / 64 % 2) × (bitsAt m 16 4 ≡ a % 16) × (bitsAt m 0 16 ≡ b * 256 + d)
+three-fields : (a b d : ℕ) → a < 256 → b < 256 → d < 256
+    → let m = (a * 256 + b) * 256 + d in (bitsAt m 22 1 ≡ a / 64 % 2) × (bitsAt m 16 4 ≡ a % 16) × (bitsAt m 0 16 ≡ b * 256 + d)
 unfolding bitsAt
 three-fields a b d ha hb hd =
     let m = (a * 256 + b) * 256 + d in
@@ -107,24 +91,27 @@ module _ (s : Octets) (k : ℕ) (h : k < mostTransactions) (bytes : Bytes s) (wh
   abbrev first : ℕ
   first = getD s at 0
 
+  none-bytes : transactionBytes none ≡ replicate transactionSize 0
+  unfolding transactionBytes
+  none-bytes = refl
+
   -- a closed place is all zero
-  pub free-kept : first < 128 → allZero (take (at + transactionSize - at) (drop at s)) ≡ kept
-  unfolding keptAt transactionBytes
-  free-kept u =
-      let f = sym (used-byte s k h bytes whole) ∙ lt-leb 128 _ u in
-      let e = sym (transaction-at s k h) ∙ free-none (getD (transactionsOf s) k none) f in
-      rw (e, add-sub-cancel-left) (sym (same-zeros transactionSize place (length-take-le transactionSize (drop at s) (rw length-drop (omega arith)))))
+  pub free-same : first < 128 → allZero (partAt s at transactionSize) ≡ kept
+  unfolding transactionsOf
+  free-same u =
+      free-kept transactionBytes transactionIn transactionSize transaction-wide mostTransactions s k h whole none-bytes
+      (sym (used-byte s k h bytes whole) ∙ lt-leb 128 _ u)
 
   first-three : take changesAt (drop at s) ≡ first ∷ getD s (at + 1) 0 ∷ getD s (at + 2) 0 ∷ []
-  first-three = listed-from s at changesAt (omega arith) ∙ rw add-zero
+  first-three = listed-from s at changesAt (omega arith)
 
   module _ (u : 128 ≤ first) where
     kept-is : kept ≡ same (transactionBytes (some x)) place
-    unfolding keptAt
+    unfolding transactionsOf
     kept-is =
         let t = sym (used-byte s k h bytes whole) ∙ le-leb 128 _ u in
-        let e : transactionIn place ≡ some x = sym (transaction-at s k h) ∙ (taken-some (opened 0) (getD (transactionsOf s) k none) t ∙ ap some (is-read s k h t)) in
-        rw e
+        used-kept transactionBytes transactionIn transactionSize transaction-wide mostTransactions s k h (opened 0) t
+        ∙ ap (λ (y : Transaction). same (transactionBytes (some y)) place) (is-read s k h t)
 
     x-fits : TransactionFits x
     x-fits = read-fits place head
@@ -134,17 +121,15 @@ module _ (s : Octets) (k : ℕ) (h : k < mostTransactions) (bytes : Bytes s) (wh
 
     marks-said : transactionBytes (some x) ≡ place → (first / 16 % 4 ≡ 0) × (first % 16 ≤ mostChanges)
     marks-said own =
+        let rest = padded changesSize (flatMap changeBytes (x .changes)) in
         let e : first ∷ getD s (at + 1) 0 ∷ getD s (at + 2) 0 ∷ [] ≡ threeOf x =
-        sym first-three
-        ∙ sym (take-take changesAt transactionSize (drop at s) (lit≤ tt))
-        ∙ ap (take changesAt) (sym own ∙ x-parts)
-        ∙ take-at (threeOf x) (padded changesSize (flatMap changeBytes (x .changes))) changesAt refl in
+        first-listed s at transactionSize changesAt (threeOf x) rest (lit≤ tt) (omega arith) refl (sym own ∙ x-parts) in
         let b : first ≡ 128 + 64 * bit (x .stale) + length (x .changes) = cc in
         let m = marks-back _ _ _ b (bit-small (x .stale)) (x-fits .few) in
         (m .0, rw (m .1) (x-fits .few))
 
     not-own : (transactionBytes (some x) ≡ place → ⊥) → kept ≡ false
-    not-own f = is-false kept λ e. f (same-eq (transactionBytes (some x)) place (sym kept-is ∙ e))
+    not-own f = kept-is ∙ differ (transactionBytes (some x)) place f
 
     pub kept-marked : (first / 16 % 4 ≡ 0 → ⊥) → kept ≡ false
     kept-marked z = not-own λ own. z (marks-said own .0)
@@ -195,7 +180,7 @@ module _ (s : Octets) (k : ℕ) (h : k < mostTransactions) (bytes : Bytes s) (wh
           rw (few, head-fields .0, head-fields .2, first-forward first u (bytes at) z, p .0, p .1) (sym first-three)
 
       front-long : length front ≡ n * changeSize
-      front-long = length-take-le (n * changeSize) (drop (at + changesAt) s) (rw length-drop (omega arith))
+      front-long = part-length s (at + changesAt) (n * changeSize) (omega arith)
 
       all-long : length (flatMap changeBytes (map changeIn rows)) ≡ n * changeSize
       unfolding rows
@@ -206,11 +191,12 @@ module _ (s : Octets) (k : ℕ) (h : k < mostTransactions) (bytes : Bytes s) (wh
       kept-parts =
           let all = flatMap changeBytes (map changeIn rows) in
           let e : length all ≡ n * changeSize = all-long in
-          let bl : length body ≡ changesSize = length-take-le changesSize (drop (at + changesAt) s) (rw length-drop (omega arith)) in
+          let bl : length body ≡ changesSize = part-length s (at + changesAt) changesSize (omega arith) in
           kept-is
           ∙ ap₂ same (x-parts ∙ ap (λ (cs : List Change). threeOf x ++ padded changesSize (flatMap changeBytes cs)) changes-are) place-body
           ∙ same-append (threeOf x) (padded changesSize all) (take changesAt (drop at s)) body (ap length three-is)
           ∙ ap₂ _&&_ (eq-same three-is)
-          (ap (same (padded changesSize all)) (sym (take-append-drop (n * changeSize) body) ∙ ap (λ (r : Octets). r ++ drop (n * changeSize) body) front-is))
+          (ap (same (padded changesSize all))
+          (sym (take-append-drop (n * changeSize) body) ∙ ap (λ (r : Octets). r ++ drop (n * changeSize) body) front-is))
           ∙ same-append all (replicate (changesSize - length all) 0) front (drop (n * changeSize) body) (e ∙ sym front-long)
           ∙ ap (λ (b : Bool). same all front && b) (same-zeros (changesSize - length all) (drop (n * changeSize) body) (rw (length-drop, bl, e)))

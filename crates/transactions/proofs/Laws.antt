@@ -7,9 +7,7 @@ use Prim.Native.Nat.{ℕ, _+_, _*_, _/_, _%_, _≤_, _<_}
 use native.Mathlib.Nat.{add-zero, mod-lt}
 use native.Mathlib.Omega.{arith}
 use lib.ListN.{length, getD, take, drop}
-use lib.Seq.{take-at, take-take}
 use lib.Dec.{eqb, leb, lit<, lit≤}
-use borrow.Author.Tests.{eq-eqb, ne-eqb, leb-true, leb-false}
 use Rattle.rules.specs.Size.{mostTransactions, changesAt, transactionSize, transactionsSize, mostChanges, changesSize}
 use Rattle.rules.specs.Octets.{Octets, field, bitsAt, bigEndian, bit, padded, pack, packFrom, _bits_}
 use Rattle.rules.specs.Layout.{opened, Transaction, changeBytes, transactionBytes, transactionIn, transactionAt, transactionsOf}
@@ -17,13 +15,12 @@ use Rattle.rules.proofs.Fields.{field-part, field-three, bit-small, bit-back}
 use Rattle.rules.proofs.Cases.{cond-case}
 use Rattle.rules.proofs.DecodedEntries.{transaction-decoded}
 use Rattle.rules.proofs.TransactionLayouts.{TransactionFits, MaybeTransaction, transaction-width, transaction-at}
-use Rattle.domains.specs.Entry.{taken, entryOr}
+use Rattle.domains.specs.Entry.{taken}
 use Rattle.octets.specs.Two.{Bytes, Two}
 use Rattle.transactions.specs.Transaction.{KeptTransactions, transactionOf}
-use Rattle.domains.proofs.Tests.{taken-cond, entry-cond}
-use Rattle.octets.proofs.Bytes.{agree}
-use Rattle.domains.proofs.Search.{taken-some}
-use Rattle.domains.proofs.Rows.{length-table, listed-from, place-bytes}
+use Rattle.domains.proofs.Tests.{taken-cond, entry-is}
+use Rattle.octets.proofs.PlaceLaws.{first-bit}
+use Rattle.domains.proofs.Rows.{length-table, first-listed, entry-bytes}
 
 -- ── the bytes of a transaction ──
 
@@ -31,7 +28,8 @@ use Rattle.domains.proofs.Rows.{length-table, listed-from, place-bytes}
 abbrev pub threeBytes : ℕ → ℕ → ℕ → Octets
 threeBytes m n o = (128 + 64 * m + n) ∷ (o / 256 % 256) ∷ (o % 256) ∷ []
 
-three : (m n o : ℕ) → m < 2 → n < 16 → o < 65536 → bigEndian changesAt (pack (1 bits 1 ∷ 1 bits m ∷ 2 bits 0 ∷ 4 bits n ∷ 16 bits o ∷ [])) ≡ threeBytes m n o
+three : (m n o : ℕ) → m < 2 → n < 16 → o < 65536
+    → bigEndian changesAt (pack (1 bits 1 ∷ 1 bits m ∷ 2 bits 0 ∷ 4 bits n ∷ 16 bits o ∷ [])) ≡ threeBytes m n o
 unfolding bigEndian pack packFrom
 three m n o hm hn ho =
     let p = pack (1 bits 1 ∷ 1 bits m ∷ 2 bits 0 ∷ 4 bits n ∷ 16 bits o ∷ []) in
@@ -85,13 +83,11 @@ module _ (s : Octets) (k : ℕ) (h : k < mostTransactions) where
   place-is = transaction-at s k h ∙ rw (field-part s at transactionSize 0 changesAt (omega arith), add-zero)
 
   pub is-read : taken (getD (transactionsOf s) k none) ≡ true → transactionOf s k ≡ transactionAt row head
-  is-read u =
-      ap (entryOr (opened 0)) place-is
-      ∙ entry-cond (eqb (bitsAt head 23 1) 1) (transactionAt row head) (opened 0) (sym (taken-cond _ (transactionAt row head)) ∙ ap taken (sym place-is) ∙ u)
+  is-read u = entry-is (eqb (bitsAt head 23 1) 1) (transactionAt row head) (opened 0) place-is u
 
   pub own-bytes : KeptTransactions s → taken (getD (transactionsOf s) k none) ≡ true → row ≡ transactionBytes (some (transactionOf s k))
   unfolding transactionsOf
-  own-bytes c u = place-bytes transactionBytes transactionIn transactionSize transaction-wide mostTransactions s c k h ∙ ap transactionBytes (taken-some (opened 0) (getD (transactionsOf s) k none) u)
+  own-bytes c u = entry-bytes transactionBytes transactionIn transactionSize transaction-wide mostTransactions s c k h (opened 0) u
 
   -- what fits of an open transaction
   pub open-fits : taken (getD (transactionsOf s) k none) ≡ true → TransactionFits (transactionOf s k)
@@ -102,14 +98,7 @@ module _ (s : Octets) (k : ℕ) (h : k < mostTransactions) where
     head-bytes = field-three s at (omega arith)
 
     pub used-byte : leb 128 (getD s at 0) ≡ taken (getD (transactionsOf s) k none)
-    unfolding bitsAt
-    used-byte =
-        let b = getD s at 0 in
-        let x = bytes at in
-        let y = bytes (at + 1) in
-        let z = bytes (at + 2) in
-        rw (place-is, taken-cond)
-        (agree (λ p. eq-eqb (bitsAt head 23 1) 1 (omega (arith, leb-true 128 b p, head-bytes))) (λ p. ne-eqb (bitsAt head 23 1) 1 (λ q. omega (arith, leb-false 128 b p, q, head-bytes))))
+    used-byte = rw (place-is, taken-cond) (first-bit s bytes at 2 23 refl (omega arith))
 
     pub holder-read : taken (getD (transactionsOf s) k none) ≡ true → (r : ℕ) → Two s (at + 1) r → r ≡ transactionOf s k .holder
     unfolding transactionAt bitsAt
@@ -131,10 +120,7 @@ module _ (s : Octets) (k : ℕ) (h : k < mostTransactions) where
     first-three : getD s at 0 ∷ getD s (at + 1) 0 ∷ getD s (at + 2) 0 ∷ [] ≡ threeOf x
     first-three =
         let whole = c .whole in
-        sym (listed-from s at changesAt (omega arith) ∙ rw add-zero)
-        ∙ sym (take-take changesAt transactionSize (drop at s) (lit≤ tt))
-        ∙ ap (take changesAt) row-parts
-        ∙ take-at (threeOf x) (padded changesSize (flatMap changeBytes (x .changes))) changesAt refl
+        first-listed s at transactionSize changesAt (threeOf x) (padded changesSize (flatMap changeBytes (x .changes))) (lit≤ tt) (omega arith) refl row-parts
 
     pub first-is : getD s at 0 ≡ 128 + 64 * bit (x .stale) + length (x .changes)
     first-is = let e = first-three in cc

@@ -30,7 +30,10 @@ paste-row s at k p ys h hp =
     let rest = drop (at + k) s in
     let l : length row ≡ k = length-take-le k (drop at s) (rw length-drop (omega arith)) in
     let f : length (take at s) ≡ at = length-take-le at s (omega arith) in
-    let whole : take at s ++ (row ++ rest) ≡ s = ap (λ (r : Octets). take at s ++ (row ++ r)) (sym (drop-drop k at s)) ∙ ap (λ (r : Octets). take at s ++ r) (take-append-drop k (drop at s)) ∙ take-append-drop at s in
+    let whole : take at s ++ (row ++ rest) ≡ s =
+    ap (λ (r : Octets). take at s ++ (row ++ r)) (sym (drop-drop k at s))
+    ∙ ap (λ (r : Octets). take at s ++ r) (take-append-drop k (drop at s))
+    ∙ take-append-drop at s in
     let past = paste-past (take at s) (row ++ rest) ys p in
     pasted s at k (paste p ys row) (length-paste p ys row (rw l hp) ∙ l)
     ∙ ap (λ (r : Octets). take at s ++ r) (sym (paste-front p ys row rest (rw l hp)))

@@ -21,8 +21,8 @@ use Rattle.rules.proofs.TransactionLayouts.{TransactionFits, MaybeTransaction, 
 use Rattle.rules.proofs.Joined.{set-paste}
 use Rattle.domains.specs.Entry.{taken, passes, droppedIf}
 use Rattle.transactions.specs.Transaction.{KeptTransactions, transactionOf, staleOf}
-use Rattle.domains.proofs.Search.{free-none, taken-some, swept, swept-all}
-use Rattle.domains.proofs.Rows.{Writable, wrote, wrote-kept, swept-kept, freed, left, dropped-kept, without-kept}
+use Rattle.domains.proofs.Search.{free-none, taken-some, sweptBefore}
+use Rattle.domains.proofs.Rows.{Writable, wrote, wrote-kept, swept-kept, swept-end, freed, left, dropped-kept, dropped-end, without-kept}
 use Rattle.transactions.proofs.Parts.{paste-row}
 use Rattle.transactions.proofs.Laws.{threeOf, transaction-parts, transaction-wide, length-transactionsOf, row-parts, changes-read, open-fits}
 
@@ -62,9 +62,6 @@ staled-map [] = refl
 staled-map (none ∷ xs) = ap (_∷_ none) (staled-map xs)
 staled-map (some x ∷ xs) = ap (_∷_ (some (record { holder = x .holder; stale = true; changes = x .changes }))) (staled-map xs)
 
-pub staled-swept : (i : ℕ) (xs : Transactions) → length xs ≤ i → swept staleOf i xs ≡ staled xs
-staled-swept i xs h = swept-all staleOf i xs h ∙ staled-map xs
-
 pub kept-transactions : (s : Octets) → KeptTransactions s → transactionsBytes (transactionsOf s) ≡ s
 unfolding transactionsOf transactionsBytes
 kept-transactions s c = c .same
@@ -88,14 +85,15 @@ module _ (s : Octets) (c : KeptTransactions s) (k : ℕ) (h : k < mostTransactio
   unfolding transactionsOf transactionsBytes
   left-transaction test = left transactionBytes transactionIn transactionSize transaction-wide mostTransactions s c k h (writable none tt) test
 
-  pub swept-transaction : (test : Transaction → Bool) (xs : Transactions) → transactionsOf s ≡ swept (droppedIf test) k xs
+  pub swept-transaction : (test : Transaction → Bool) (xs : Transactions) → transactionsOf s ≡ sweptBefore (droppedIf test) k xs
       → (t : Octets) → t ≡ transactionsBytes (set (transactionsOf s) k (droppedIf test (getD (transactionsOf s) k none)))
-      → KeptTransactions t × (transactionsOf t ≡ swept (droppedIf test) (k + 1) xs)
+      → KeptTransactions t × (transactionsOf t ≡ sweptBefore (droppedIf test) (k + 1) xs)
   unfolding transactionsOf transactionsBytes
   swept-transaction test = dropped-kept transactionBytes transactionIn transactionSize transaction-wide mostTransactions s c k h (writable none tt) test
 
   -- what the bytes are and mean after a place is closed, or opened for connection o
-  pub close-kept : (t : Octets) → t ≡ transactionsBytes (set (transactionsOf s) k none) → KeptTransactions t × (transactionsOf t ≡ set (transactionsOf s) k none)
+  pub close-kept : (t : Octets) → t ≡ transactionsBytes (set (transactionsOf s) k none)
+      → KeptTransactions t × (transactionsOf t ≡ set (transactionsOf s) k none)
   unfolding transactionsOf transactionsBytes
   close-kept = wrote-kept transactionBytes transactionIn transactionSize transaction-wide mostTransactions s c k none (writable none tt)
 
@@ -113,11 +111,13 @@ module _ (s : Octets) (c : KeptTransactions s) (k : ℕ) (h : k < mostTransactio
       let l : length x ≡ length s = length-paste (at + changesAt) zeros s (rw length-replicate (omega arith)) in
       let one : at + 1 ≡ suc at = omega arith in
       let two : at + 2 ≡ suc (suc at) = omega arith in
-      let sets : set (set (set x at 128) (at + 1) (o / 256 % 256)) (at + 2) (o % 256) ≡ paste at head x = rw (one, two) (paste-sets at head x (rw l (omega arith))) in
+      let sets : set (set (set x at 128) (at + 1) (o / 256 % 256)) (at + 2) (o % 256) ≡ paste at head x =
+      rw (one, two) (paste-sets at head x (rw l (omega arith))) in
+      let y = some (opened o) in
       sets
       ∙ sym (paste-append at head zeros s (omega arith))
       ∙ ap (λ (b : Octets). paste at b s) (sym (opened-bytes o ho))
-      ∙ sym (wrote transactionBytes transactionIn transactionSize transaction-wide mostTransactions s c k (some (opened o)) h (transaction-width (some (opened o)) (opened-fits o ho)))
+      ∙ sym (wrote transactionBytes transactionIn transactionSize transaction-wide mostTransactions s c k y h (transaction-width y (opened-fits o ho)))
 
   -- ── stale ──
 
@@ -139,21 +139,37 @@ module _ (s : Octets) (c : KeptTransactions s) (k : ℕ) (h : k < mostTransactio
       set-paste s at b (omega arith)
       ∙ ap (λ (p : ℕ). paste p (b ∷ []) s) (sym (add-zero at))
       ∙ sym (paste-row s at transactionSize 0 (b ∷ []) (omega arith) (lit≤ tt))
-      ∙ ap (λ (r : Octets). paste at r s) (ap (paste 0 (b ∷ [])) (row-parts s k h c u) ∙ stale-bytes x (open-fits s k h u) b (ap (λ (n : ℕ). 192 + n) (changes-read s k h c u)))
+      ∙ ap (λ (r : Octets). paste at r s)
+      (ap (paste 0 (b ∷ [])) (row-parts s k h c u) ∙ stale-bytes x (open-fits s k h u) b (ap (λ (n : ℕ). 192 + n) (changes-read s k h c u)))
       ∙ sym (wrote transactionBytes transactionIn transactionSize transaction-wide mostTransactions s c k (staleOf (some x)) h w)
       ∙ ap (λ (m : Option Transaction). transactionsBytes (set (transactionsOf s) k (staleOf m))) (sym e)
 
   place-fits : MaybeTransaction (getD (transactionsOf s) k none)
   place-fits = each-at MaybeTransaction (transactionsOf s) k none (decoded-transactions-fit s) (rw (length-transactionsOf s) h)
 
-  pub swept-stale : (xs : Transactions) → transactionsOf s ≡ swept staleOf k xs
+  pub swept-stale : (xs : Transactions) → transactionsOf s ≡ sweptBefore staleOf k xs
       → (t : Octets) → t ≡ transactionsBytes (set (transactionsOf s) k (staleOf (getD (transactionsOf s) k none)))
-      → KeptTransactions t × (transactionsOf t ≡ swept staleOf (k + 1) xs)
+      → KeptTransactions t × (transactionsOf t ≡ sweptBefore staleOf (k + 1) xs)
   unfolding transactionsOf transactionsBytes
-  swept-stale xs = swept-kept transactionBytes transactionIn transactionSize transaction-wide mostTransactions s c k _ (stale-writable (getD (transactionsOf s) k none) place-fits) staleOf xs refl
+  swept-stale xs =
+      swept-kept transactionBytes transactionIn transactionSize transaction-wide mostTransactions s c k _
+      (stale-writable (getD (transactionsOf s) k none) place-fits) staleOf xs refl
+
+-- the ends of the sweeps
+pub swept-stales : (s t : Octets) → KeptTransactions s → (i : ℕ) → mostTransactions ≤ i → transactionsOf s ≡ sweptBefore staleOf i (transactionsOf t)
+    → s ≡ transactionsBytes (staled (transactionsOf t))
+unfolding transactionsOf transactionsBytes
+swept-stales s t c i h e =
+    swept-end transactionBytes transactionIn transactionSize transaction-wide mostTransactions s c staleOf t i h e
+    ∙ ap (flatMap transactionBytes) (staled-map _)
+
+pub swept-transactions : (test : Transaction → Bool) (s t : Octets) → KeptTransactions s → (i : ℕ) → mostTransactions ≤ i
+    → transactionsOf s ≡ sweptBefore (droppedIf test) i (transactionsOf t) → s ≡ transactionsBytes (without test (transactionsOf t))
+unfolding transactionsOf transactionsBytes
+swept-transactions test s t c = dropped-end transactionBytes transactionIn transactionSize transaction-wide mostTransactions s c test t
 
 -- what the bytes are and mean after entries are closed, or all made stale
-pub without-transactions : (s : Octets) → KeptTransactions s → (test : Transaction → Bool) (t : Octets) → t ≡ transactionsBytes (without test (transactionsOf s))
-    → KeptTransactions t × (transactionsOf t ≡ without test (transactionsOf s))
+pub without-transactions : (s : Octets) → KeptTransactions s → (test : Transaction → Bool) (t : Octets)
+    → t ≡ transactionsBytes (without test (transactionsOf s)) → KeptTransactions t × (transactionsOf t ≡ without test (transactionsOf s))
 unfolding transactionsOf transactionsBytes
 without-transactions s c = without-kept transactionBytes transactionIn transactionSize transaction-wide mostTransactions s c (writable none tt)

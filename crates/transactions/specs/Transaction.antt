@@ -56,7 +56,7 @@ unfoldable pub changedBy : Transaction → Bool → Octets → Transaction
 changedBy x removed text = record { holder = x .holder; stale = x .stale; changes = x .changes ++ (changeGiven removed text ∷ []) }
 
 -- a place with room for one more change on a full path
-pub record Room (s : Octets) (k : ℕ) (text : Octets) : Type 0 where
+pub record RoomForChange (s : Octets) (k : ℕ) (text : Octets) : Type 0 where
   pub place : OpenTransaction s k
   pub few : length (transactionOf s k .changes) < mostChanges
   pub full : isFull text ≡ true

@@ -11,7 +11,7 @@ ghost use Rattle.rules.specs.Layout.{opened, changeBytes, transactionsBytes, tr
 ghost use Rattle.rules.specs.Path.{isFull};
 ghost use Rattle.rules.specs.World.{staled, withoutTransactions};
 ghost use Rattle.domains.specs.Entry.{droppedIf};
-ghost use Rattle.transactions.specs.Transaction.{KeptTransactions, transactionOf, heldBy, staleOf, changeGiven, changedBy, Room};
+ghost use Rattle.transactions.specs.Transaction.{KeptTransactions, transactionOf, heldBy, staleOf, changeGiven, changedBy, RoomForChange};
 use crate::places::changes;
 use crate::places::held;
 use crate::places::is_open;
@@ -68,7 +68,7 @@ fn put_change(s: &mut [u8], at: usize, removed: bool, path: &[u8])
 
 // Adds a change to the transaction in place k.
 pub fn add_change(s: &mut [u8], k: usize, removed: bool, path: &[u8])
-    requires { ⌜ Room (now s) k (now path) ⌝ }
+    requires { ⌜ RoomForChange (now s) k (now path) ⌝ }
     ensures { λ _. ⌜ now (s .exit) ≡ transactionsBytes
         (set (transactionsOf (now (s .entry))) k (some (changedBy (transactionOf (now (s .entry)) k) removed (now (path .entry))))) ⌝ }
 {

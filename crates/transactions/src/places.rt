@@ -81,12 +81,5 @@ pub fn lowest_free(s: &[u8]) -> usize
     requires { ⌜ length (now s) ≡ transactionsSize ⌝ }
     ensures { λ r. ⌜ r ≡ lowest (transactionsOf (now (s .entry))) ⌝ }
 {
-    let mut i = 0;
-    while i < TRANSACTIONS {
-        if !is_open(s, i) {
-            return i;
-        }
-        i += 1;
-    }
-    i
+    octets::places::lowest_free(s, TRANSACTION_SIZE, TRANSACTIONS)
 }

@@ -6,7 +6,7 @@ use mathlib.Core.Option.{Option, none, some}
 use Prim.Native.Nat.{ℕ, _+_, _*_, _/_, _%_, _≤_, _<_, zero-le}
 use native.Mathlib.Nat.{mod-lt, div-add-mod'}
 use native.Mathlib.Omega.{arith}
-use lib.ListN.{length, length-replicate, length-append}
+use lib.ListN.{length, replicate, length-replicate, length-append}
 use lib.Dec.{eqb, lit<}
 use Rattle.rules.specs.Size.{mostWatches, watchFieldsSize, tokenAt, watchSize, longestPath, longestToken}
 use Rattle.rules.specs.Octets.{Octets, field, bitsAt, bigEndian, bit, padded, pack, packFrom, _bits_}
@@ -94,7 +94,8 @@ unfolding watchBytes watchBits
 watch-parts w f =
     rw depth-bits
     (ap (λ (a : Octets). a ++ (padded longestPath (placeText (w .place)) ++ padded longestToken (w .token)))
-    (six _ _ _ _ _ _ (bit-small (isRelative (w .place))) (bit-small (taken (w .depth))) (f .depth) (f .owner) (omega (arith, f .path)) (omega (arith, f .token))))
+    (six _ _ _ _ _ _ (bit-small (isRelative (w .place))) (bit-small (taken (w .depth))) (f .depth) (f .owner)
+    (omega (arith, f .path)) (omega (arith, f .token))))
 
 pub narrow-width : (w : Watch) → Narrow w → length (watchBytes (some w)) ≡ watchSize
 narrow-width w f =
@@ -120,15 +121,19 @@ read-narrow r head =
       token = text-short r tokenAt longestToken (bitsAt head 0 6);
     }
 
+pub none-bytes : watchBytes none ≡ replicate watchSize 0
+unfolding watchBytes
+none-bytes = refl
+
+pub none-width : length (watchBytes none) ≡ watchSize
+none-width = ap length none-bytes ∙ length-replicate {A = ℕ} watchSize 0
+
 pub watch-wide : (r : Octets) → length (watchBytes (watchIn r)) ≡ watchSize
-unfolding watchIn watchBytes
+unfolding watchIn
 watch-wide r =
     let head = field r 0 watchFieldsSize in
     cond-case (λ (m : Option Watch). length (watchBytes m) ≡ watchSize) (eqb (bitsAt head 47 1) 1) (some (watchAt r head)) none
     (narrow-width _ (read-narrow r head)) none-width
-  where
-    none-width : length (watchBytes none) ≡ watchSize
-    none-width = length-replicate {A = ℕ} watchSize 0
 
 pub length-watchesOf : (s : Octets) → length (watchesOf s) ≡ mostWatches
 unfolding watchesOf

@@ -5,12 +5,11 @@ use mathlib.Core.List.{[], _∷_, _++_, append-nil}
 use mathlib.Core.Option.{Option, none, some}
 use Prim.Native.Nat.{ℕ, _+_, _≤_, _<_}
 use native.Mathlib.Nat.{zero-add}
-use native.Mathlib.Numerals.{add-one}
 use native.Mathlib.Omega.{arith}
-use lib.ListN.{length, getD, take, drop, length-append, drop-of-length-le}
-use lib.Seq.{take-at, drop-cons}
+use lib.ListN.{length, getD, take, drop, length-append}
+use lib.Seq.{take-at}
 use lib.Dec.{eqb}
-use borrow.Author.Tests.{eq-eqb, ne-eqb, le-leb}
+use borrow.Author.Tests.{le-leb}
 use Rattle.rules.specs.Size.{longestAbsolute, mostWatches}
 use Rattle.rules.specs.Octets.{Octets, same, begins, paste, text}
 use Rattle.rules.specs.Domain.{Domain, Connection, domainOf, isControl}
@@ -30,20 +29,24 @@ use Rattle.octets.specs.Two.{Bytes}
 use Rattle.watches.specs.Watch.{nobody, depthMeant, watchOf, KeptWatches}
 use Rattle.watches.specs.declared.Depth.{Depth}
 use Rattle.watches.specs.Checks.{goodWatchAt, placeSame}
-use Rattle.domains.proofs.Search.{free-none, taken-some, goods-next}
+use Rattle.domains.proofs.Search.{free-none, taken-some}
+use Rattle.domains.proofs.Turns.{ListCheck}
 use Rattle.watches.proofs.Bytes.{place-given, empty-is}
 use Rattle.watches.proofs.Laws.{place-again}
 use Rattle.watches.proofs.Kept.{same-place, special-long, place-malformed}
 
 -- ── a token ──
 
-pub nul-next : (t : Octets) (i : ℕ) → i < length t → noNul (drop i t) ≡ (not (eqb (getD t i 0) 0) && noNul (drop (i + 1) t))
+pub nul-none : noNul [] ≡ true
 unfolding noNul
-nul-next t i h = rw (drop-cons t i 0 h, add-one) refl
+nul-none = refl
 
-pub nul-over : (t : Octets) (i : ℕ) → length t ≤ i → noNul (drop i t) ≡ true
+pub nul-cons : (x : ℕ) (t : Octets) → noNul (x ∷ t) ≡ (not (eqb x 0) && noNul t)
 unfolding noNul
-nul-over t i h = rw (drop-of-length-le t {i = i} h)
+nul-cons x t = refl
+
+abbrev pub nulCheck : ListCheck ℕ
+nulCheck = record { stand = 0; all = noNul; one = λ x t. not (eqb x 0); empty = nul-none; next = nul-cons }
 
 -- ── below the base ──
 
@@ -146,7 +149,8 @@ read-same s k h bytes c u {r} {p} er ep =
 
 -- what the code asks of the fields that it read
 pub place-agree : (d : Depth) (s : Octets) (k : ℕ) → (h : k < mostWatches) → Bytes s → KeptWatches s → taken (getD (watchesOf s) k none) ≡ true
-    → {o : ℕ} {r : Bool} {p : Octets} → o ≡ watchOf s k .owner → depthMeant d ≡ watchOf s k .depth → r ≡ isRelative (watchOf s k .place) → p ≡ placeText (watchOf s k .place)
+    → {o : ℕ} {r : Bool} {p : Octets} → o ≡ watchOf s k .owner → depthMeant d ≡ watchOf s k .depth
+    → r ≡ isRelative (watchOf s k .place) → p ≡ placeText (watchOf s k .place)
     → goodPlace (watchOf s k .owner) (watchOf s k .depth) (watchOf s k .place) ≡ goodPlace o (depthMeant d) (placeIn r p)
 place-agree d s k h bytes c u eo ed er ep =
     ap (goodPlace (watchOf s k .owner) (watchOf s k .depth)) (sym (place-again s k h bytes c u)) ∙ rw (eo, ed, er, ep)
@@ -162,36 +166,43 @@ module _ (ds : Domains) (x : Option Watch) (ws : Watches) where
     abbrev w : Watch
     w = entryOr nobody x
 
-    good-is : goodWatchAt ds x ws
-        ≡ (known (domainOf (w .owner)) ds && (noNul (w .token) && (goodPlace (w .owner) (w .depth) (w .place) && not (watched (w .owner) (placeText (w .place)) (w .token) ws))))
+    abbrev ownerKnown : Bool
+    ownerKnown = known (domainOf (w .owner)) ds
+
+    abbrev placeGood : Bool
+    placeGood = goodPlace (w .owner) (w .depth) (w .place)
+
+    abbrev again : Bool
+    again = watched (w .owner) (placeText (w .place)) (w .token) ws
+
+    good-is : goodWatchAt ds x ws ≡ (ownerKnown && (noNul (w .token) && (placeGood && not again)))
     unfolding goodWatchAt goodWatch
     good-is =
-        let n = noNul (w .token) in
-        let g = goodPlace (w .owner) (w .depth) (w .place) in
-        let f = not (watched (w .owner) (placeText (w .place)) (w .token) ws) in
-        ap (λ (y : Option Watch). goodWatchAt ds y ws) (taken-some nobody x t) ∙ and-assoc (known (domainOf (w .owner)) ds) (n && g) f ∙ ap (λ (b : Bool). known (domainOf (w .owner)) ds && b) (and-assoc n g f)
+        let clean = noNul (w .token) in
+        ap (λ (y : Option Watch). goodWatchAt ds y ws) (taken-some nobody x t)
+        ∙ and-assoc ownerKnown (clean && placeGood) (not again)
+        ∙ ap (λ (b : Bool). ownerKnown && b) (and-assoc clean placeGood (not again))
 
-    pub good-unknown : known (domainOf (w .owner)) ds ≡ false → goodWatchAt ds x ws ≡ false
+    pub good-unknown : ownerKnown ≡ false → goodWatchAt ds x ws ≡ false
     good-unknown k = good-is ∙ rw k
 
-    pub good-nul : known (domainOf (w .owner)) ds ≡ true → noNul (w .token) ≡ false → goodWatchAt ds x ws ≡ false
+    pub good-nul : ownerKnown ≡ true → noNul (w .token) ≡ false → goodWatchAt ds x ws ≡ false
     good-nul k n = good-is ∙ rw (k, n)
 
-    pub good-misplaced : known (domainOf (w .owner)) ds ≡ true → noNul (w .token) ≡ true → goodPlace (w .owner) (w .depth) (w .place) ≡ false → goodWatchAt ds x ws ≡ false
+    pub good-misplaced : ownerKnown ≡ true → noNul (w .token) ≡ true → placeGood ≡ false → goodWatchAt ds x ws ≡ false
     good-misplaced k n p = good-is ∙ rw (k, n, p)
 
-    pub good-placed : known (domainOf (w .owner)) ds ≡ true → noNul (w .token) ≡ true → goodPlace (w .owner) (w .depth) (w .place) ≡ true
-        → goodWatchAt ds x ws ≡ not (watched (w .owner) (placeText (w .place)) (w .token) ws)
+    pub good-placed : ownerKnown ≡ true → noNul (w .token) ≡ true → placeGood ≡ true → goodWatchAt ds x ws ≡ not again
     good-placed k n p = good-is ∙ rw (k, n, p)
 
-good-cons : (ds : Domains) (x : Option Watch) (ws : Watches) → goodWatches ds (x ∷ ws) ≡ (goodWatchAt ds x ws && goodWatches ds ws)
+pub good-cons : (ds : Domains) (x : Option Watch) (ws : Watches) → goodWatches ds (x ∷ ws) ≡ (goodWatchAt ds x ws && goodWatches ds ws)
 unfolding goodWatches goodWatchAt
 good-cons ds none ws = refl
 good-cons ds (some w) ws = sym (and-assoc (goodWatch ds w) (not (watched (w .owner) (placeText (w .place)) (w .token) ws)) (goodWatches ds ws))
 
-pub good-next : (ds : Domains) (ws : Watches) (i : ℕ) → i < length ws → goodWatches ds (drop i ws) ≡ (goodWatchAt ds (getD ws i none) (drop (i + 1) ws) && goodWatches ds (drop (i + 1) ws))
-good-next ds = goods-next (goodWatches ds) (goodWatchAt ds) (good-cons ds)
-
-pub good-over : (ds : Domains) (ws : Watches) (i : ℕ) → length ws ≤ i → goodWatches ds (drop i ws) ≡ true
+pub good-none : (ds : Domains) → goodWatches ds [] ≡ true
 unfolding goodWatches
-good-over ds ws i h = rw (drop-of-length-le ws {i = i} h)
+good-none ds = refl
+
+abbrev pub goodCheck : Domains → ListCheck (Option Watch)
+goodCheck ds = record { stand = none; all = goodWatches ds; one = goodWatchAt ds; empty = good-none ds; next = good-cons ds }

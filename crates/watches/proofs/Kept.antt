@@ -3,11 +3,10 @@ use mathlib.Core.Path.{_≡_, refl, sym, ap, ap₂, _∙_}
 use mathlib.Core.Bool.{Bool, true, false, cond, not, _&&_, _||_, true≢false, or-false}
 use mathlib.Core.List.{[], _∷_, _++_}
 use mathlib.Core.Option.{none, some}
-use Prim.Native.Nat.{ℕ, _+_, _*_, _-_, _/_, _%_, _≤_, _<_}
-use native.Mathlib.Nat.{add-sub-cancel-left}
+use Prim.Native.Nat.{ℕ, _+_, _*_, _/_, _%_, _≤_, _<_}
 use native.Mathlib.Omega.{arith}
-use lib.ListN.{length, getD, take, drop, length-drop}
-use lib.Seq.{take-add, take-take, drop-drop, length-take-le}
+use lib.ListN.{length, getD, take, drop}
+use lib.Seq.{take-add, drop-drop, length-take-le}
 use lib.Dec.{eqb, leb, lit≤}
 use borrow.Author.Tests.{le-leb, lt-leb, eqb-true, leb-true}
 use Rattle.rules.specs.Size.{mostWatches, watchFieldsSize, tokenAt, watchSize, watchesSize, longestPath, longestToken}
@@ -15,11 +14,9 @@ use Rattle.rules.specs.Octets.{Octets, same, allZero, padded, field, bitsAt, bi
 use Rattle.rules.specs.Path.{Names, Given, malformed, absolute, relative, special, given, introduceName, releaseName, namesIn, isFull, split}
 use Rattle.rules.specs.Payload.{Place, event}
 use Rattle.rules.specs.Event.{Watch, placeText}
-use Rattle.rules.specs.Layout.{textAt, isRelative, placeIn, watchBytes, watchIn, watchAt, watchesBytes, watchesOf}
+use Rattle.rules.specs.Layout.{textAt, isRelative, placeIn, watchBytes, watchIn, watchAt, watchesOf}
 use Rattle.rules.proofs.Compare.{both-true, same-length, same-eq, eq-same, same-refl}
 use Rattle.rules.proofs.PathLaws.{full, full-given, full-slash, given-is-full, given-event}
-use Rattle.rules.proofs.Places.{is-false}
-use Rattle.rules.proofs.EntryLayouts.{watch-at}
 use Rattle.domains.specs.Entry.{taken, entryOr}
 use Rattle.octets.specs.Two.{Bytes}
 use Rattle.domains.specs.Kept.{keptAt}
@@ -27,28 +24,11 @@ use Rattle.watches.specs.Watch.{nobody, pathLength, tokenLength}
 use Rattle.watches.specs.Checks.{placeSame, depthSame, fieldsSame}
 use Rattle.octets.specs.Numbers.{restZero}
 use Rattle.octets.proofs.Bytes.{bit-of, pair-forward}
-use Rattle.domains.proofs.Search.{free-none, taken-some}
-use Rattle.rules.proofs.Reencoding.{same-zeros, same-append}
+use Rattle.rules.proofs.Reencoding.{same-append}
 use Rattle.rules.proofs.Slots.{length-padded}
-use Rattle.domains.proofs.Rows.{same-padded, partAt, text-part, keptFrom, kept-start, kept-next, kept-end}
-use Rattle.watches.proofs.Bytes.{meantBy, place-given, empty-is, watch-wide, sixOf, watch-parts, read-narrow}
+use Rattle.domains.proofs.Rows.{partAt, text-part, text-field, part-length, same-field, differ, free-kept, used-kept}
+use Rattle.watches.proofs.Bytes.{meantBy, place-given, empty-is, none-bytes, watch-wide, sixOf, watch-parts, read-narrow}
 use Rattle.watches.proofs.Laws.{used-byte, is-read, OwnBytes, six-listed, path-within, path-text, relative-said, fields-said, lengths, marks, owner-is}
-
--- ── the loop over the places ──
-
--- those from place i on are
-abbrev pub keptRest : Octets → ℕ → Bool
-keptRest s i = keptFrom watchBytes watchIn watchSize watch-wide mostWatches s i
-
-pub rest-start : (s : Octets) → same (watchesBytes (watchesOf s)) s ≡ keptRest s 0
-unfolding watchesBytes watchesOf
-rest-start s = kept-start watchBytes watchIn watchSize watch-wide mostWatches s
-
-pub rest-next : (s : Octets) → length s ≡ watchesSize → (i : ℕ) → i < mostWatches → keptRest s i ≡ (keptAt mostWatches watchSize watchBytes watchIn s i && keptRest s (i + 1))
-rest-next s h i l = kept-next watchBytes watchIn watchSize watch-wide mostWatches s h i l
-
-pub rest-end : (s : Octets) → length s ≡ watchesSize → (i : ℕ) → mostWatches ≤ i → keptRest s i ≡ true
-rest-end s h i l = kept-end watchBytes watchIn watchSize watch-wide mostWatches s h i l
 
 -- ── a place ──
 
@@ -194,24 +174,20 @@ module _ (s : Octets) (k : ℕ) (h : k < mostWatches) (bytes : Bytes s) (whole :
   kept = keptAt mostWatches watchSize watchBytes watchIn s k
 
   -- a free place is all zero
-  pub free-kept : getD s at 0 < 128 → allZero (take (at + watchSize - at) (drop at s)) ≡ kept
-  unfolding keptAt watchBytes
-  free-kept u =
-      let f = sym (used-byte s k h bytes whole) ∙ lt-leb 128 _ u in
-      let e = sym (watch-at s k h) ∙ free-none (getD (watchesOf s) k none) f in
-      rw (e, add-sub-cancel-left) (sym (same-zeros watchSize row (length-take-le watchSize (drop at s) (rw length-drop (omega arith)))))
+  pub free-same : getD s at 0 < 128 → allZero (partAt s at watchSize) ≡ kept
+  unfolding watchesOf
+  free-same u = free-kept watchBytes watchIn watchSize watch-wide mostWatches s k h whole none-bytes (sym (used-byte s k h bytes whole) ∙ lt-leb 128 _ u)
 
   module _ (u : 128 ≤ getD s at 0) where
     kept-is : kept ≡ same (watchBytes (some v)) row
-    unfolding keptAt
+    unfolding watchesOf
     kept-is =
         let t = sym (used-byte s k h bytes whole) ∙ le-leb 128 _ u in
-        let e : watchIn row ≡ some v = sym (watch-at s k h) ∙ (taken-some nobody (getD (watchesOf s) k none) t ∙ ap some (is-read s k h t)) in
-        rw e
+        used-kept watchBytes watchIn watchSize watch-wide mostWatches s k h nobody t ∙ ap (λ (w : Watch). same (watchBytes (some w)) row) (is-read s k h t)
 
     -- a place whose bytes are another watch's
     not-kept : (OwnBytes s k h → ⊥) → kept ≡ false
-    not-kept f = is-false kept λ e. f (sym (same-eq (watchBytes (some v)) row (sym kept-is ∙ e)))
+    not-kept f = kept-is ∙ differ (watchBytes (some v)) row λ e. f (sym e)
 
     pub kept-long : longestPath < pathLength s k → kept ≡ false
     kept-long l = not-kept λ own. omega (arith, path-within s k h bytes whole own)
@@ -247,16 +223,6 @@ module _ (s : Octets) (k : ℕ) (h : k < mostWatches) (bytes : Bytes s) (whole :
         ∙ take-add longestPath longestToken (drop (at + watchFieldsSize) s)
         ∙ ap (λ (r : Octets). pathPart ++ take longestToken r) (drop-drop longestPath (at + watchFieldsSize) s ∙ ap (λ (n : ℕ). drop n s) e))
 
-    part-long : (p n : ℕ) → p + n ≤ watchesSize → length (take n (drop p s)) ≡ n
-    part-long p n l = length-take-le n (drop p s) (rw length-drop (omega arith))
-
-    -- a text of the place, taken from its field
-    text-of : (j n size : ℕ) → j + size ≤ watchSize → n ≤ size → textAt row j size n ≡ take n (take size (drop (at + j) s))
-    text-of j n size hj hn =
-        sym (text-part s at watchSize j size n hn hj)
-        ∙ ap (λ (m : ℕ). take m (drop (at + j) s)) (add-sub-cancel-left (at + j) n)
-        ∙ sym (take-take n size (drop (at + j) s) hn)
-
     module _ (l : pathLength s k ≤ longestPath)
         (ps : placeSame (eqb (getD s at 0 / 64 % 2) 1) (partAt s (at + watchFieldsSize) (pathLength s k)) ≡ true)
         (fs : fieldsSame s k ≡ true) where
@@ -286,17 +252,17 @@ module _ (s : Octets) (k : ℕ) (h : k < mostWatches) (bytes : Bytes s) (whole :
           record { low = eqb-true _ _ (a .0); middle = eqb-true _ _ (b .0); few = leb-true _ _ (c .0); depth = c .1 }
 
       path-is : placeText (v .place) ≡ take (pathLength s k) pathPart
-      path-is = placed .0 ∙ text-of watchFieldsSize (pathLength s k) longestPath (lit≤ tt) l
+      path-is = placed .0 ∙ text-field s at watchSize watchFieldsSize longestPath (pathLength s k) l (lit≤ tt)
 
       token-is : v .token ≡ take (tokenLength s k) tokenPart
       unfolding watchAt tokenLength
-      token-is = text-of tokenAt (tokenLength s k) longestToken (lit≤ tt) (tests .few)
+      token-is = text-field s at watchSize tokenAt longestToken (tokenLength s k) (tests .few) (lit≤ tt)
 
       path-long : length (placeText (v .place)) ≡ pathLength s k
-      path-long = ap length path-is ∙ length-take-le (pathLength s k) pathPart (rw (part-long (at + watchFieldsSize) longestPath (omega arith)) l)
+      path-long = ap length path-is ∙ length-take-le (pathLength s k) pathPart (rw (part-length s (at + watchFieldsSize) longestPath (omega arith)) l)
 
       token-long : length (v .token) ≡ tokenLength s k
-      token-long = ap length token-is ∙ length-take-le (tokenLength s k) tokenPart (rw (part-long (at + tokenAt) longestToken (omega arith)) (tests .few))
+      token-long = ap length token-is ∙ length-take-le (tokenLength s k) tokenPart (rw (part-length s (at + tokenAt) longestToken (omega arith)) (tests .few))
 
       depth-byte : (taken (v .depth) ≡ eqb (getD s at 0 / 32 % 2) 1) × (entryOr 0 (v .depth) ≡ getD s (at + 1) 0)
       unfolding watchAt depthSame taken entryOr
@@ -324,15 +290,14 @@ module _ (s : Octets) (k : ℕ) (h : k < mostWatches) (bytes : Bytes s) (whole :
       pub kept-rests : kept ≡ (restZero s (at + watchFieldsSize) (pathLength s k) longestPath && restZero s (at + tokenAt) (tokenLength s k) longestToken)
       kept-rests =
           let n = read-narrow row head in
-          let pl = part-long (at + watchFieldsSize) longestPath (omega arith) in
-          let tl = part-long (at + tokenAt) longestToken (omega arith) in
-          let a = same-padded (pathLength s k) pathPart in
-          let b = same-padded (tokenLength s k) tokenPart in
+          let pl = part-length s (at + watchFieldsSize) longestPath (omega arith) in
           kept-is
           ∙ ap₂ same (watch-parts v n) row-parts
           ∙ same-append (sixOf v) _ (take watchFieldsSize (drop at s)) (pathPart ++ tokenPart) (ap length six-is)
           ∙ ap₂ _&&_ (eq-same six-is)
           (same-append (padded longestPath (placeText (v .place))) (padded longestToken (v .token)) pathPart tokenPart
           (length-padded longestPath _ (n .path) ∙ sym pl))
-          ∙ ap₂ _&&_ (ap (λ (z : Octets). same (padded longestPath z) pathPart) path-is ∙ (rw pl at a))
-          (ap (λ (z : Octets). same (padded longestToken z) tokenPart) token-is ∙ (rw tl at b))
+          ∙ ap₂ _&&_ (ap (λ (z : Octets). same (padded longestPath z) pathPart) path-is
+          ∙ same-field s (at + watchFieldsSize) longestPath (pathLength s k) (omega arith) l)
+          (ap (λ (z : Octets). same (padded longestToken z) tokenPart) token-is
+          ∙ same-field s (at + tokenAt) longestToken (tokenLength s k) (omega arith) (tests .few))

@@ -3,13 +3,12 @@ use mathlib.Core.Path.{_≡_, refl, sym, ap, ap₂, _∙_}
 use mathlib.Core.Bool.{true, false, cond, _&&_, _||_}
 use mathlib.Core.List.{[], _∷_, _++_}
 use mathlib.Core.Option.{Option, none, some}
-use Prim.Native.Nat.{ℕ, _+_, _*_, _-_, _/_, _%_, _≤_, _<_}
+use Prim.Native.Nat.{ℕ, _+_, _*_, _/_, _%_, _≤_, _<_}
 use native.Mathlib.Nat.{add-zero}
 use native.Mathlib.Omega.{arith}
 use lib.ListN.{length, getD, take, drop}
-use lib.Seq.{take-at, take-take}
 use lib.Dec.{eqb, leb, lit≤}
-use borrow.Author.Tests.{le-leb, eq-eqb, ne-eqb, leb-true, leb-false}
+use borrow.Author.Tests.{le-leb}
 use Rattle.rules.specs.Size.{mostWatches, watchFieldsSize, tokenAt, watchSize, watchesSize, longestPath, longestToken}
 use Rattle.rules.specs.Octets.{Octets, same, field, bitsAt, bit, padded}
 use Rattle.rules.specs.Path.{Connection, relative, given}
@@ -24,17 +23,16 @@ use Rattle.domains.specs.Entry.{taken, passes, entryOr}
 use Rattle.octets.specs.Two.{Bytes, Two}
 use Rattle.watches.specs.Watch.{KeptWatches, nobody, ownedBy, watchOf, pathLength, tokenLength}
 use Rattle.watches.specs.Checks.{depthSame, fieldsSame}
-use Rattle.domains.proofs.Tests.{taken-cond, entry-cond}
-use Rattle.octets.proofs.Bytes.{agree}
-use Rattle.domains.proofs.Search.{taken-some}
-use Rattle.domains.proofs.Rows.{listed-from, partAt, text-part, place-bytes}
+use Rattle.domains.proofs.Tests.{taken-cond, entry-is}
+use Rattle.octets.proofs.PlaceLaws.{first-bit}
+use Rattle.domains.proofs.Rows.{listed-from, first-listed, partAt, text-part, entry-bytes}
 use Rattle.watches.proofs.Bytes.{place-short, place-whole, marks-back, lengths-back, sixOf, watch-parts, read-narrow, watch-wide}
 
 -- ── place k of a table ──
 
 pub six-listed : (s : Octets) (p : ℕ) → p + watchFieldsSize ≤ length s
     → take watchFieldsSize (drop p s) ≡ getD s p 0 ∷ getD s (p + 1) 0 ∷ getD s (p + 2) 0 ∷ getD s (p + 3) 0 ∷ getD s (p + 4) 0 ∷ getD s (p + 5) 0 ∷ []
-six-listed s p h = listed-from s p watchFieldsSize (omega arith) ∙ rw add-zero
+six-listed s p h = listed-from s p watchFieldsSize (omega arith)
 
 module _ (s : Octets) (k : ℕ) (h : k < mostWatches) where
   -- where place k begins
@@ -52,8 +50,7 @@ module _ (s : Octets) (k : ℕ) (h : k < mostWatches) where
   place-is = watch-at s k h ∙ rw (field-part s at watchSize 0 watchFieldsSize (omega arith), add-zero)
 
   pub is-read : taken (getD (watchesOf s) k none) ≡ true → watchOf s k ≡ watchAt row head
-  is-read u =
-      ap (entryOr nobody) place-is ∙ entry-cond (eqb (bitsAt head 47 1) 1) (watchAt row head) nobody (sym (taken-cond _ (watchAt row head)) ∙ ap taken (sym place-is) ∙ u)
+  is-read u = entry-is (eqb (bitsAt head 47 1) 1) (watchAt row head) nobody place-is u
 
   module _ (bytes : Bytes s) (whole : length s ≡ watchesSize) where
     record HeadBytes : Type 0 where
@@ -82,12 +79,7 @@ module _ (s : Octets) (k : ℕ) (h : k < mostWatches) where
         }
 
     pub used-byte : leb 128 (getD s at 0) ≡ taken (getD (watchesOf s) k none)
-    unfolding bitsAt
-    used-byte =
-        let b = getD s at 0 in
-        let f = head-bytes in
-        rw (place-is, taken-cond)
-        (agree (λ p. eq-eqb (bitsAt head 47 1) 1 (omega (arith, leb-true 128 b p))) (λ p. ne-eqb (bitsAt head 47 1) 1 (λ q. omega (arith, leb-false 128 b p, q))))
+    used-byte = rw (place-is, taken-cond) (first-bit s bytes at 5 47 refl (omega arith))
 
     pub owner-is : getD s (at + 2) 0 * 256 + getD s (at + 3) 0 ≡ bitsAt head 16 16
     unfolding bitsAt
@@ -132,7 +124,7 @@ module _ (s : Octets) (k : ℕ) (h : k < mostWatches) where
   pub own-bytes : KeptWatches s → taken (getD (watchesOf s) k none) ≡ true → OwnBytes
   unfolding watchesOf
   own-bytes c u =
-      place-bytes watchBytes watchIn watchSize watch-wide mostWatches s c k h ∙ ap watchBytes (taken-some nobody (getD (watchesOf s) k none) u ∙ ap some (is-read u))
+      entry-bytes watchBytes watchIn watchSize watch-wide mostWatches s c k h nobody u ∙ ap (λ (w : Watch). watchBytes (some w)) (is-read u)
 
   module _ (bytes : Bytes s) (whole : length s ≡ watchesSize) (own : OwnBytes) where
     abbrev v : Watch
@@ -140,10 +132,9 @@ module _ (s : Octets) (k : ℕ) (h : k < mostWatches) where
 
     first-six : getD s at 0 ∷ getD s (at + 1) 0 ∷ getD s (at + 2) 0 ∷ getD s (at + 3) 0 ∷ getD s (at + 4) 0 ∷ getD s (at + 5) 0 ∷ [] ≡ sixOf v
     first-six =
-        sym (six-listed s at (omega arith))
-        ∙ sym (take-take watchFieldsSize watchSize (drop at s) (lit≤ tt))
-        ∙ ap (take watchFieldsSize) (own ∙ watch-parts v (read-narrow row head))
-        ∙ take-at (sixOf v) (padded longestPath (placeText (v .place)) ++ padded longestToken (v .token)) watchFieldsSize refl
+        let texts = padded longestPath (placeText (v .place)) ++ padded longestToken (v .token) in
+        first-listed s at watchSize watchFieldsSize (sixOf v) texts (lit≤ tt) (omega arith) refl
+        (own ∙ watch-parts v (read-narrow row head))
 
     record Said : Type 0 where
       path : pathLength s k ≡ length (placeText (v .place))
@@ -164,7 +155,14 @@ module _ (s : Octets) (k : ℕ) (h : k < mostWatches) where
         let m = marks-back _ _ _ b0 (bit-small (isRelative (v .place))) (bit-small (taken (v .depth))) in
         let l = lengths-back _ _ _ _ b4 b5 (n .path) (n .token) in
         let f = lengths bytes whole in
-        record { path = sym (f .0) ∙ l .0; token = sym (f .1) ∙ l .1; relative = sym (marks bytes whole .0) ∙ m .0; zeros = (m .1, l .2); depth = b1; given = m .2 }
+        record {
+          path = sym (f .0) ∙ l .0;
+          token = sym (f .1) ∙ l .1;
+          relative = sym (marks bytes whole .0) ∙ m .0;
+          zeros = (m .1, l .2);
+          depth = b1;
+          given = m .2;
+        }
 
     pub fields-said : fieldsSame s k ≡ true
     unfolding fieldsSame depthSame taken entryOr
@@ -246,7 +244,8 @@ module _ (c : Connection) (p t : Octets) (x : Option Watch) where
     unfolding passes ownedBy twin entryOr
     twin-is = go x o
       where
-        go : (x : Option Watch) → passes (ownedBy c) x ≡ true → passes (twin c p t) x ≡ (same p (placeText (entryOr nobody x .place)) && same t (entryOr nobody x .token))
+        go : (x : Option Watch) → passes (ownedBy c) x ≡ true
+            → passes (twin c p t) x ≡ (same p (placeText (entryOr nobody x .place)) && same t (entryOr nobody x .token))
         go none e = let z : _≡_ {A = ℕ} 0 1 = cc in absurd (omega arith)
         go (some w) e = rw e
 

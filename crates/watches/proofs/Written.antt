@@ -1,13 +1,11 @@
 -- Watches added and taken out: what a written place leaves.
 use mathlib.Core.Path.{_≡_, sym, ap, _∙_}
-use mathlib.Core.Bool.{Bool, true, false, _&&_}
+use mathlib.Core.Bool.{Bool, true, false}
 use mathlib.Core.List.{[], _∷_, _++_}
 use mathlib.Core.Option.{none, some}
 use Prim.Native.Nat.{ℕ, suc, _+_, _*_, _/_, _%_, _≤_, _<_}
 use native.Mathlib.Omega.{arith}
-use lib.Dec.{eqb}
-use lib.ListN.{length, getD, set, replicate, length-replicate}
-use borrow.Author.Tests.{eqb-true}
+use lib.ListN.{length, getD, set, replicate}
 use Rattle.rules.specs.Size.{mostWatches, watchFieldsSize, tokenAt, watchSize, watchesSize, longestPath, longestToken}
 use Rattle.rules.specs.Octets.{Octets, same, paste, padded, bit}
 use Rattle.rules.specs.Entries.{without}
@@ -15,7 +13,6 @@ use Rattle.rules.specs.Path.{Connection, absolute, special, namesIn}
 use Rattle.rules.specs.Event.{Watch, Watches, placeText}
 use Rattle.rules.specs.Layout.{Domains, isRelative, placeIn, watchBytes, watchIn, watchesBytes, watchesOf}
 use Rattle.rules.specs.Sound.{goodWatches, soundWatches}
-use Rattle.rules.proofs.Compare.{both-true, same-eq}
 use Rattle.rules.proofs.PathLaws as P
 use Rattle.rules.proofs.PathLaws.{full-given}
 use Rattle.rules.proofs.Paste.{paste-sets, paste-append}
@@ -24,10 +21,10 @@ use Rattle.domains.specs.Entry.{taken, passes, entryOr, droppedIf}
 use Rattle.watches.specs.Watch.{KeptWatches, depthMeant, Placed, full, named, FitWatch, watchGiven}
 use Rattle.watches.specs.declared.Depth.{Depth}
 use Rattle.watches.specs.declared.Depth.the-variants.{To, Any}
-use Rattle.domains.proofs.Search.{swept}
+use Rattle.domains.proofs.Search.{sweptBefore}
 use Rattle.rules.proofs.Slots.{length-padded}
-use Rattle.domains.proofs.Rows.{Writable, wrote, wrote-kept, freed, left, dropped-kept, without-kept}
-use Rattle.watches.proofs.Bytes.{place-given, Narrow, watch-parts, narrow-width, watch-wide}
+use Rattle.domains.proofs.Rows.{Writable, wrote, wrote-kept, freed, left, dropped-kept, dropped-end, without-kept, same-kept, checked-kept}
+use Rattle.watches.proofs.Bytes.{place-given, Narrow, watch-parts, narrow-width, none-width, watch-wide}
 
 -- ── what a place can hold ──
 
@@ -85,8 +82,7 @@ module _ (c : Connection) (x : Octets) (r : Bool) (d : Depth) (t : Octets) (f : 
   given-back = watch-read (some w) (record { owner = f .owner; depth = depth-fits d below; token = f .few; place = placed r x (f .placed) .fits (f .path) })
 
 empty : Writable watchBytes watchIn watchSize watch-wide none
-unfolding watchBytes
-empty = record { width = length-replicate {A = ℕ} watchSize 0; back = watch-read none tt }
+empty = record { width = none-width; back = watch-read none tt }
 
 module _ (s : Octets) (c : KeptWatches s) (k : ℕ) (h : k < mostWatches) where
   -- where place k begins
@@ -104,9 +100,9 @@ module _ (s : Octets) (c : KeptWatches s) (k : ℕ) (h : k < mostWatches) where
   unfolding watchesOf watchesBytes
   left-watch test = left watchBytes watchIn watchSize watch-wide mostWatches s c k h empty test
 
-  pub swept-watch : (test : Watch → Bool) (ws : Watches) → watchesOf s ≡ swept (droppedIf test) k ws
+  pub swept-watch : (test : Watch → Bool) (ws : Watches) → watchesOf s ≡ sweptBefore (droppedIf test) k ws
       → (t : Octets) → t ≡ watchesBytes (set (watchesOf s) k (droppedIf test (getD (watchesOf s) k none)))
-      → KeptWatches t × (watchesOf t ≡ swept (droppedIf test) (k + 1) ws)
+      → KeptWatches t × (watchesOf t ≡ sweptBefore (droppedIf test) (k + 1) ws)
   unfolding watchesOf watchesBytes
   swept-watch test = dropped-kept watchBytes watchIn watchSize watch-wide mostWatches s c k h empty test
 
@@ -130,22 +126,25 @@ module _ (s : Octets) (c : KeptWatches s) (k : ℕ) (h : k < mostWatches) where
         ∙ ap (paste at six) (rw (l, e) at inner))
 
     -- what the bytes are and mean after a watch is put in
-    pub put-kept : (b : Octets) → b ≡ watchesBytes (set (watchesOf s) k (some (watchGiven o x r d t))) → KeptWatches b × (watchesOf b ≡ set (watchesOf s) k (some (watchGiven o x r d t)))
+    pub put-kept : (b : Octets) → b ≡ watchesBytes (set (watchesOf s) k (some (watchGiven o x r d t)))
+        → KeptWatches b × (watchesOf b ≡ set (watchesOf s) k (some (watchGiven o x r d t)))
     unfolding watchesOf watchesBytes
     put-kept =
         wrote-kept watchBytes watchIn watchSize watch-wide mostWatches s c k (some (watchGiven o x r d t))
         (record { width = narrow-width _ (given-narrow o x r d t f below); back = given-back o x r d t f below })
 
+pub swept-watches : (test : Watch → Bool) (s t : Octets) → KeptWatches s → (i : ℕ) → mostWatches ≤ i
+    → watchesOf s ≡ sweptBefore (droppedIf test) i (watchesOf t) → s ≡ watchesBytes (without test (watchesOf t))
+unfolding watchesOf watchesBytes
+swept-watches test s t c = dropped-end watchBytes watchIn watchSize watch-wide mostWatches s c test t
+
 pub kept-of : (s : Octets) → length s ≡ watchesSize → same (watchesBytes (watchesOf s)) s ≡ true → KeptWatches s
 unfolding watchesOf watchesBytes
-kept-of s w e = record { whole = w; same = same-eq (watchesBytes (watchesOf s)) s e }
+kept-of s w e = same-kept watchBytes watchIn watchSize watch-wide mostWatches s w e
 
 pub sound-kept : (ds : Domains) (s : Octets) → soundWatches ds s ≡ true → KeptWatches s
-unfolding soundWatches
-sound-kept ds s h =
-    let p = both-true (eqb (length s) watchesSize) (same (watchesBytes (watchesOf s)) s && goodWatches ds (watchesOf s)) h in
-    let q = both-true (same (watchesBytes (watchesOf s)) s) (goodWatches ds (watchesOf s)) (p .1) in
-    kept-of s (eqb-true (length s) watchesSize (p .0)) (q .0)
+unfolding soundWatches watchesOf watchesBytes
+sound-kept ds s h = checked-kept watchBytes watchIn watchSize watch-wide mostWatches s (goodWatches ds (watchesOf s)) h
 
 pub kept-watches : (s : Octets) → KeptWatches s → watchesBytes (watchesOf s) ≡ s
 unfolding watchesOf watchesBytes

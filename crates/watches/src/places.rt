@@ -150,12 +150,5 @@ pub fn lowest_free(s: &[u8]) -> usize
     requires { ⌜ length (now s) ≡ watchesSize ⌝ }
     ensures { λ r. ⌜ r ≡ lowest (watchesOf (now (s .entry))) ⌝ }
 {
-    let mut i = 0;
-    while i < WATCHES {
-        if !used(s, i) {
-            return i;
-        }
-        i += 1;
-    }
-    i
+    octets::places::lowest_free(s, WATCH_SIZE, WATCHES)
 }

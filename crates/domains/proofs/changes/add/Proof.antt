@@ -1,3 +1,4 @@
+-- The three bytes of a place are those of its domain.
 use native.Mathlib.Omega.{arith}
 use lib.ListN.{length-set}
 use borrow.Author.Needs.{needs}

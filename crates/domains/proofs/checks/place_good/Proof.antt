@@ -1,3 +1,4 @@
+-- The tests are those of a good domain, in its order.
 use mathlib.Core.Path.{sym, ap, _∙_}
 use mathlib.Core.Bool.{not}
 use Prim.Native.Nat.{_+_}
@@ -18,13 +19,25 @@ returns : tie.Need-returns
 returns c = sym (good-free _ _ (sym (c .before .used .ensures) ∙ not-true _ (c .if1 .taken)))
 
 domain-requires : tie.Need-domain-requires
-domain-requires c κs = let b = c .before .before .before in (b .pre .0, b .pre .1, sym (c .before .used .ensures) ∙ not-false _ (c .if1 .left))
+domain-requires c κs =
+    let at-used = c .before in
+    let pre = at-used .before .before .pre in
+    (pre .0, pre .1, sym (at-used .used .ensures) ∙ not-false _ (c .if1 .left))
 
 returns-2 : tie.Need-returns-2
-returns-2 c = sym (good-zero _ _ (sym (c .before .before .before .used .ensures) ∙ not-false _ (c .before .before .if1 .left)) (omega (arith, c .if2 .taken, c .before .domain .ensures)))
+returns-2 c =
+    let at-domain = c .before in
+    let at-if = at-domain .before in
+    let taken = sym (at-if .before .used .ensures) ∙ not-false _ (at-if .if1 .left) in
+    sym (good-zero _ _ taken (omega (arith, c .if2 .taken, at-domain .domain .ensures)))
 
 returns-3 : tie.Need-returns-3
-returns-3 c = sym (good-large _ _ (sym (c .before .before .before .before .used .ensures) ∙ not-false _ (c .before .before .before .if1 .left)) (omega (arith, c .before .if2 .left, c .before .before .domain .ensures)) (omega (arith, c .if3 .taken, c .before .before .domain .ensures)))
+returns-3 c =
+    let at-domain = c .before .before in
+    let at-if = at-domain .before in
+    let d = at-domain .domain .ensures in
+    let taken = sym (at-if .before .used .ensures) ∙ not-false _ (at-if .if1 .left) in
+    sym (good-large _ _ taken (omega (arith, c .before .if2 .left, d)) (omega (arith, c .if3 .taken, d)))
 
 add-introduced-from : tie.Need-add-introduced-from
 add-introduced-from c = search needs
@@ -35,12 +48,14 @@ introduced-from-requires c κs = search needs
 returns-4 : tie.Need-returns-4
 unfolding introduced
 returns-4 c =
-    let a = c .before .before .before .before .before .before .before .args in
-    let d = c .before .before .before .domain .ensures in
-    ap not (c .introduced-from .ensures)
-    ∙ sym
-    (good-ranged _ _ (sym (c .before .before .before .before .before .used .ensures) ∙ not-false _ (c .before .before .before .before .if1 .left)) (omega (arith, c .before .before .if2 .left, d)) (omega (arith, c .before .if3 .left, d))
-    ∙ ap (λ d. not (introduced d (drop (a .k + 1) (domainsOf (a .s .now))))) (sym d))
+    let at-range = c .before in
+    let at-domain = at-range .before .before in
+    let at-if = at-domain .before in
+    let args = at-if .before .before .before .args in
+    let d = at-domain .domain .ensures in
+    let taken = sym (at-if .before .used .ensures) ∙ not-false _ (at-if .if1 .left) in
+    let good = good-ranged _ _ taken (omega (arith, at-range .before .if2 .left, d)) (omega (arith, at-range .if3 .left, d)) in
+    ap not (c .introduced-from .ensures) ∙ sym (good ∙ ap (λ d. not (introduced d (drop (args .k + 1) (domainsOf (args .s .now))))) (sym d))
 
 pub place-good-spec : {M : Type 1} → statement M
 place-good-spec =

@@ -1,7 +1,8 @@
+-- A used place has nothing but its id, and a free one is zero.
 use mathlib.Core.Path.{_∙_}
 use borrow.Author.Needs.{needs}
 use Rattle.octets.proofs.Bytes.{bytes-known}
-use Rattle.domains.proofs.Laws.{used-kept, free-kept}
+use Rattle.domains.proofs.Laws.{used-same, free-same}
 use Rattle.domains.proofs.checks.place_kept.Statement.{statement}
 use Rattle.domains.proofs.checks.place_kept.Tie as tie
 
@@ -16,8 +17,9 @@ shared-slice-read-result c = search needs
 
 returns : tie.Need-returns
 returns c =
-    let b = c .before .before .before .before in
-    used-kept (b .args .s .now) (bytes-known (b .args .s .now) (c .shared-slice-known3 .given)) (b .pre .1) (b .args .k) (b .pre .0) (c .before .if1 .taken)
+    let start = c .before .before .before .before in
+    let s = start .args .s .now in
+    used-same s (bytes-known s (c .shared-slice-known3 .given)) (start .pre .1) _ (start .pre .0) (c .before .if1 .taken)
 
 add-all-zero : tie.Need-add-all-zero
 add-all-zero c = search needs
@@ -36,9 +38,11 @@ all-zero-requires c κs = search needs
 
 returns-2 : tie.Need-returns-2
 returns-2 c =
-    let b = c .before .before .before .before .before in
-    c .all-zero .ensures
-    ∙ free-kept (b .args .s .now) (bytes-known (b .args .s .now) (c .before .before .before .shared-slice-known2 .given)) (b .pre .1) (b .args .k) (b .pre .0) (c .before .before .if1 .left)
+    let at-if = c .before .before in
+    let start = at-if .before .before .before in
+    let s = start .args .s .now in
+    let bytes = bytes-known s (at-if .before .shared-slice-known2 .given) in
+    c .all-zero .ensures ∙ free-same s bytes (start .pre .1) _ (start .pre .0) (at-if .if1 .left)
 
 pub place-kept-spec : {M : Type 1} → statement M
 place-kept-spec =

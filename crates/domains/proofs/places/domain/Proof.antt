@@ -1,3 +1,4 @@
+-- The id is the number of the two bytes behind the first.
 use borrow.Author.Needs.{needs}
 use Rattle.domains.proofs.Laws.{domain-two}
 use Rattle.domains.proofs.places.domain.Statement.{statement}
@@ -14,8 +15,10 @@ two-requires c κs = search needs
 
 returns : tie.Need-returns
 returns c =
-    let b = c .before .before in
-    domain-two (b .args .s .now) (c .two .ensures .bytes) (b .pre .1) (b .args .k) (b .pre .0) _ (c .two .ensures) (b .pre .2)
+    let start = c .before .before in
+    let args = start .args in
+    let said = c .two .ensures in
+    domain-two (args .s .now) (said .bytes) (start .pre .1) (args .k) (start .pre .0) _ said (start .pre .2)
 
 pub domain-spec : {M : Type 1} → statement M
 domain-spec = tie.close (tie.spec mul-two add-two two-requires returns)

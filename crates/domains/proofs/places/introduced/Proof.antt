@@ -1,3 +1,4 @@
+-- Introduced is what a place from the first on has.
 use borrow.Author.Needs.{needs}
 use Rattle.rules.specs.Sound.{introduced}
 use Rattle.domains.proofs.places.introduced.Statement.{statement}

@@ -1,3 +1,4 @@
+-- The first bit of the place says it.
 use borrow.Author.Needs.{needs}
 use Rattle.octets.proofs.Bytes.{bytes-known}
 use Rattle.domains.proofs.Laws.{used-byte}
@@ -11,7 +12,9 @@ shared-slice-read-result : tie.Need-shared-slice-read-result
 shared-slice-read-result c = search needs
 
 returns : tie.Need-returns
-returns c = let a = c .before .args .s .now in used-byte a (bytes-known a (c .shared-slice-known .given)) (c .before .pre .1) _ (c .before .pre .0)
+returns c =
+    let s = c .before .args .s .now in
+    used-byte s (bytes-known s (c .shared-slice-known .given)) (c .before .pre .1) _ (c .before .pre .0)
 
 pub used-spec : {M : Type 1} → statement M
 used-spec = tie.close (tie.spec mul-result shared-slice-read-result returns)

@@ -1,3 +1,4 @@
+-- What is counted so far and the free slots from there on make the whole count.
 use mathlib.Core.Logic.{⊎-elim}
 use mathlib.Core.Path.{sym, _∙_, _≡_}
 use Prim.Native.Nat.{_<_, _+_, _-_, _≤_}
@@ -36,14 +37,15 @@ loop-less c = search needs
 
 loop-again : tie.Need-loop-again Inv-loop μ-loop
 loop-again c =
-    let p = c .before .before .before in
-    let b = p .before .before in
-    let ts = tableOf (b .args .t .now) in
-    let h : p .loop .i < length ts = omega (arith, length-tableOf (b .args .t .now)) in
-    let u = c .before .used .ensures in
+    let at-turn = c .before .before .before in
+    let i = at-turn .loop .i in
+    let s = at-turn .before .before .args .t .now in
+    let ts = tableOf s in
+    let h : i < length ts = omega (arith, length-tableOf s) in
+    let used = c .before .used .ensures in
     ⊎-elim
-    (λ w. omega (arith, count-here ts (p .loop .i) h (sym u ∙ not-true _ (w .0 .taken))))
-    (λ w. omega (arith, count-further ts (p .loop .i) h (sym u ∙ not-false _ (w .0 .left))))
+    (λ w. omega (arith, count-here ts i h (sym used ∙ not-true _ (w .0 .taken))))
+    (λ w. omega (arith, count-further ts i h (sym used ∙ not-false _ (w .0 .left))))
     (c .if1 .came)
 
 returns : tie.Need-returns Inv-loop μ-loop

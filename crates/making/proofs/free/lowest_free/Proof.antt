@@ -1,64 +1,27 @@
-use mathlib.Core.Path.{sym, _∙_, _≡_}
-use Prim.Native.Nat.{_<_, _+_, _-_, _≤_}
-use native.Mathlib.Omega.{arith}
-use lib.ListN.{length, drop}
+-- A node is in a slot where the first bit of the slot is set.
+use mathlib.Core.Path.{refl, _∙_}
+use lib.Dec.{lit≤}
 use borrow.Author.Needs.{needs}
-use borrow.Author.Tests.{not-true, not-false}
-use Rattle.rules.proofs.Slots.{length-tableOf}
-use Rattle.rules.specs.Entries.{lowest}
+use Rattle.rules.specs.Size.{slotSize, slots}
 use Rattle.rules.specs.Layout.{tableOf}
-use Rattle.rules.specs.Size.{slots}
-use Rattle.making.proofs.FreeSlots.{lowest-here, lowest-further, lowest-over}
+use Rattle.rules.proofs.Slots.{length-tableOf}
+use Rattle.octets.proofs.Bytes.{bytes-known}
+use Rattle.octets.proofs.PlaceLaws.{lowest-is}
+use Rattle.slots.specs.Slot.{isUsed}
+use Rattle.slots.proofs.Reading.{used-byte}
 use Rattle.making.proofs.free.lowest_free.Statement.{statement}
 use Rattle.making.proofs.free.lowest_free.Tie as tie
 
-abbrev Inv-loop : tie.InvT-loop
-Inv-loop t i₀ i = (i ≤ slots) × (lowest (tableOf t) ≡ i + lowest (drop i (tableOf t)))
+lowest-free-requires : tie.Need-lowest-free-requires
+lowest-free-requires c κs = search needs
 
-abbrev μ-loop : tie.MeasureT-loop
-μ-loop t i₀ i = slots - i
-
-loop-holds : tie.Need-loop-holds Inv-loop μ-loop
-loop-holds c = search needs
-
-used-requires : tie.Need-used-requires Inv-loop μ-loop
-used-requires c κs = search needs
-
-returns : tie.Need-returns Inv-loop μ-loop
+returns : tie.Need-returns
 returns c =
-    let p = c .before .before .before in
-    let s = p .before .before .args .t .now in
-    let h : p .loop .i < length (tableOf s) = omega (arith, length-tableOf s) in
-    omega (arith, lowest-here (tableOf s) (p .loop .i) h (sym (c .before .used .ensures) ∙ not-true _ (c .if1 .taken)))
-
-add-i : tie.Need-add-i Inv-loop μ-loop
-add-i c = search needs
-
-loop-less : tie.Need-loop-less Inv-loop μ-loop
-loop-less c = search needs
-
-loop-again : tie.Need-loop-again Inv-loop μ-loop
-loop-again c =
-    let p = c .before .before .before in
-    let s = p .before .before .args .t .now in
-    let h : p .loop .i < length (tableOf s) = omega (arith, length-tableOf s) in
-    omega (arith, lowest-further (tableOf s) (p .loop .i) h (sym (c .before .used .ensures) ∙ not-false _ (c .if1 .left)))
-
-returns-2 : tie.Need-returns-2 Inv-loop μ-loop
-returns-2 c =
-    let s = c .before .before .before .args .t .now in
-    omega (arith, lowest-over (tableOf s) (c .before .loop .i) (rw (length-tableOf s) (c .loop-test .left)))
+    let start = c .before .before in
+    let t = start .args .t .now in
+    let bytes = bytes-known t (c .before .shared-slice-known .given) in
+    c .lowest-free .ensures
+    ∙ lowest-is isUsed refl (λ x. refl) slotSize (lit≤ tt) t (tableOf t) slots (length-tableOf t) (λ i h. used-byte t bytes (start .pre) i h)
 
 pub lowest-free-spec : {M : Type 1} → statement M
-lowest-free-spec =
-    tie.close
-    (tie.spec
-    Inv-loop
-    μ-loop
-    loop-holds
-    used-requires
-    returns
-    add-i
-    loop-less
-    loop-again
-    returns-2)
+lowest-free-spec = tie.close (tie.spec lowest-free-requires returns)

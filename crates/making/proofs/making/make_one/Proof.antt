@@ -1,3 +1,4 @@
+-- Where a slot is free, the lowest free one is a slot.
 use native.Mathlib.Omega.{arith}
 use borrow.Author.Needs.{needs}
 use Rattle.rules.proofs.Fitting.{lowest-below}
@@ -10,8 +11,12 @@ lowest-free-requires c κs = search needs
 
 put-node-requires : tie.Need-put-node-requires
 put-node-requires c κs =
-    let b = c .before .before .before .before .before .before in
-    (rw (c .before .lowest-free .ensures) (omega (arith, lowest-below _ (b .pre .4), length-tableOf (b .args .t .now))), b .pre .0, b .pre .1, b .pre .2, b .pre .3)
+    let at-lowest = c .before in
+    let start = at-lowest .before .before .before .before .before in
+    let pre = start .pre in
+    let low = lowest-below _ (pre .4) in
+    let long = length-tableOf (start .args .t .now) in
+    (rw (at-lowest .lowest-free .ensures) (omega arith), pre .0, pre .1, pre .2, pre .3)
 
 same-length : tie.Need-same-length
 same-length c = search needs

@@ -1,3 +1,4 @@
+-- A slot lies below another where it is met on the way up, which is as long as a path at most.
 use mathlib.Core.Path.{sym, _∙_, _≡_, refl}
 use Prim.Native.Nat.{_≤_, _<_}
 use native.Mathlib.Omega.{arith}
@@ -19,10 +20,12 @@ loop-holds : tie.Need-loop-holds Inv-loop μ-loop
 loop-holds c = (omega arith, omega arith, refl)
 
 returns : tie.Need-returns Inv-loop μ-loop
-returns c = let p = c .before .before in within-here _ _ (p .loop .k) (p .loop .at) (c .if1 .taken) ∙ sym (p .loop .inv .2)
+returns c = let turn = c .before .before .loop in within-here _ _ (turn .k) (turn .at) (c .if1 .taken) ∙ sym (turn .inv .2)
 
 returns-2 : tie.Need-returns-2 Inv-loop μ-loop
-returns-2 c = let p = c .before .before .before in within-root _ _ (p .loop .k) (p .loop .at) (c .before .if1 .left) (c .if2 .taken) ∙ sym (p .loop .inv .2)
+returns-2 c =
+    let turn = c .before .before .before .loop in
+    within-root _ _ (turn .k) (turn .at) (c .before .if1 .left) (c .if2 .taken) ∙ sym (turn .inv .2)
 
 above-requires : tie.Need-above-requires Inv-loop μ-loop
 above-requires c κs = search needs
@@ -35,14 +38,13 @@ loop-less c = search needs
 
 loop-again : tie.Need-loop-again Inv-loop μ-loop
 loop-again c =
-    let p = c .before .before .before .before in (
-      omega arith,
-      c .above .ensures .0,
-      p .loop .inv .2 ∙ within-up _ _ (p .loop .k) (p .loop .at) (omega arith) (c .before .before .if1 .left) (c .before .if2 .left) (c .above .ensures .1),
-    )
+    let if-here = c .before .before in
+    let turn = if-here .before .before .loop in
+    let up = within-up _ _ (turn .k) (turn .at) (omega arith) (if-here .if1 .left) (c .before .if2 .left) (c .above .ensures .1) in
+    (omega arith, c .above .ensures .0, turn .inv .2 ∙ up)
 
 returns-3 : tie.Need-returns-3 Inv-loop μ-loop
-returns-3 c = let p = c .before in within-end _ _ (p .loop .k) (p .loop .at) (omega arith) ∙ sym (p .loop .inv .2)
+returns-3 c = let turn = c .before .loop in within-end _ _ (turn .k) (turn .at) (omega arith) ∙ sym (turn .inv .2)
 
 pub is-within-spec : {M : Type 1} → statement M
 is-within-spec =

@@ -1,3 +1,4 @@
+-- The marks before the one in turn are right.
 use mathlib.Core.Bool.{false}
 use mathlib.Core.Path.{_≡_, refl}
 use Prim.Native.Nat.{ℕ, _-_, _≤_, _<_}
@@ -34,14 +35,16 @@ loop-less c = search needs
 
 loop-again : tie.Need-loop-again Inv-loop μ-loop
 loop-again c =
-    let p = c .before .before in
-    let b = p .before .before in
-    (omega arith, simp length-set (p .loop .inv .1), mark-more (p .loop .marks) (within deepest (tableOf (b .args .t .now)) (b .args .i)) (p .loop .j) (omega arith) (c .is-within .ensures) (p .loop .inv .2))
+    let at-turn = c .before .before in
+    let turn = at-turn .loop in
+    let args = at-turn .before .before .args in
+    let below = within deepest (tableOf (args .t .now)) (args .i) in
+    (omega arith, simp length-set (turn .inv .1), mark-more (turn .marks) below (turn .j) (omega arith) (c .is-within .ensures) (turn .inv .2))
 
 returns : tie.Need-returns Inv-loop μ-loop
 returns c =
-    let v = c .before .loop .inv in
-    record { long = v .1; right = λ j h. v .2 j (omega arith) }
+    let inv = c .before .loop .inv in
+    record { long = inv .1; right = λ j h. inv .2 j (omega arith) }
 
 pub marked-spec : {M : Type 1} → statement M
 marked-spec =

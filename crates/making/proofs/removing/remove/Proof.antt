@@ -1,3 +1,4 @@
+-- The slot and all below it are marked, and the marked ones freed.
 use borrow.Author.Needs.{needs}
 use Rattle.making.proofs.SweptLaws.{swept-removed}
 use Rattle.making.proofs.removing.remove.Statement.{statement}
@@ -14,8 +15,9 @@ same-length c = search needs
 
 returns : tie.Need-returns
 returns c =
-    let b = c .before .before .before .before .before .before .before .before in
-    swept-removed (b .args .t .now) (b .args .i) _ (c .before .before .before .before .before .marked .ensures) (c .before .before .sweep .ensures)
+    let at-marked = c .before .before .before .before .before in
+    let args = at-marked .before .before .before .args in
+    swept-removed (args .t .now) (args .i) _ (at-marked .marked .ensures) (c .before .before .sweep .ensures)
 
 pub remove-spec : {M : Type 1} → statement M
 remove-spec = tie.close (tie.spec marked-requires sweep-requires same-length returns)

@@ -1,3 +1,4 @@
+-- The slots before the one in turn are removed; the rest of the list is still to be.
 use mathlib.Core.Path.{_≡_, refl, sym, ap, _∙_}
 use Prim.Native.Nat.{ℕ, _-_, _≤_}
 use native.Mathlib.Omega.{arith}
@@ -16,7 +17,7 @@ abbrev μ-loop : tie.MeasureT-loop
 μ-loop t₀ list n k₀ t k = n - k
 
 loop-holds : tie.Need-loop-holds Inv-loop μ-loop
-loop-holds c = let b = c .before .before in (omega arith, refl, to-remove _ _ (b .pre .0))
+loop-holds c = (omega arith, refl, to-remove _ _ (c .before .before .pre .0))
 
 shared-slice-read-remove : tie.Need-shared-slice-read-remove Inv-loop μ-loop
 shared-slice-read-remove c = omega arith
@@ -35,24 +36,25 @@ loop-less c = omega arith
 
 loop-again : tie.Need-loop-again Inv-loop μ-loop
 loop-again c =
-    let p = c .before .before .before .before .before .before in
-    let b = c .before .before .before .before .before .before .before .before .before in
-    let e = c .before .before .remove .ensures in
-    let l = length-take-le (b .args .n) (b .args .list .now) (b .pre .1) in
-    let i = getD-take (b .args .n) (b .args .list .now) (p .loop .k) 0 (omega arith) in (
-      omega arith,
-      c .before .before .remove .kept .0 ∙ p .loop .inv .1,
-      removed-next _ _ (p .loop .k) _ (p .loop .inv .2) (omega arith) (e ∙ ap (λ (j : ℕ). tableBytes (removed (tableOf (p .loop .t)) j)) (sym i)),
-    )
+    let at-remove = c .before .before in
+    let at-turn = at-remove .before .before .before .before in
+    let turn = at-turn .loop in
+    let start = at-turn .before .before .before in
+    let args = start .args in
+    let long = length-take-le (args .n) (args .list .now) (start .pre .1) in
+    let slot = getD-take (args .n) (args .list .now) (turn .k) 0 (omega arith) in
+    let bytes = at-remove .remove .ensures ∙ ap (λ (j : ℕ). tableBytes (removed (tableOf (turn .t)) j)) (sym slot) in
+    (omega arith, at-remove .remove .kept .0 ∙ turn .inv .1, removed-next _ _ (turn .k) _ (turn .inv .2) (omega arith) bytes)
 
 same-length : tie.Need-same-length Inv-loop μ-loop
 same-length c = c .before .loop .inv .1
 
 returns : tie.Need-returns Inv-loop μ-loop
 returns c =
-    let b = c .before .before .before .before in
-    let l = length-take-le (b .args .n) (b .args .list .now) (b .pre .1) in
-    removed-all _ _ (c .before .loop .k) _ (c .before .loop .inv .2) (omega arith)
+    let turn = c .before .loop in
+    let start = c .before .before .before .before in
+    let long = length-take-le (start .args .n) (start .args .list .now) (start .pre .1) in
+    removed-all _ _ (turn .k) _ (turn .inv .2) (omega arith)
 
 pub remove-all-spec : {M : Type 1} → statement M
 remove-all-spec =

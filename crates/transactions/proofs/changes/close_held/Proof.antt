@@ -1,3 +1,4 @@
+-- A place that the connection holds is cleared, another stays as it is.
 use mathlib.Core.Path.{sym, _∙_}
 use native.Mathlib.Omega.{arith}
 use borrow.Author.Needs.{needs}
@@ -7,30 +8,34 @@ use Rattle.transactions.proofs.changes.close_held.Statement.{statement}
 use Rattle.transactions.proofs.changes.close_held.Tie as tie
 
 held-requires : tie.Need-held-requires
-held-requires c κs = let b = c .before .before in (b .pre .0, b .pre .1)
+held-requires c κs = let pre = c .before .before .pre in (pre .0, pre .1)
 
 mul-clear : tie.Need-mul-clear
 mul-clear c = search needs
 
 clear-requires : tie.Need-clear-requires
-clear-requires c κs = let b = c .before .before .before .before .before in omega (arith, b .pre .1 .whole)
+clear-requires c κs = let pre = c .before .before .before .before .before .pre in omega (arith, pre .1 .whole)
 
 same-length : tie.Need-same-length
 same-length c = search needs
 
 returns : tie.Need-returns
 returns c =
-    let b = c .before .before .before .before .before .before .before .before in
-    c .before .before .clear .ensures
-    ∙ freed-transaction (b .args .s .now) (b .pre .1) (b .args .k) (b .pre .0) (heldBy (b .args .c)) (sym (c .before .before .before .before .before .held .ensures) ∙ c .before .before .before .before .if1 .taken)
+    let at-if = c .before .before .before .before in
+    let at-held = at-if .before in
+    let start = at-held .before .before .before in
+    let args = start .args in
+    let there = sym (at-held .held .ensures) ∙ at-if .if1 .taken in
+    c .before .before .clear .ensures ∙ freed-transaction (args .s .now) (start .pre .1) (args .k) (start .pre .0) (heldBy (args .c)) there
 
 same-length-2 : tie.Need-same-length-2
 same-length-2 c = search needs
 
 returns-2 : tie.Need-returns-2
 returns-2 c =
-    let b = c .before .before .before .before in
-    left-transaction (b .args .s .now) (b .pre .1) (b .args .k) (b .pre .0) (heldBy (b .args .c)) (sym (c .before .held .ensures) ∙ c .if1 .left)
+    let start = c .before .before .before .before in
+    let args = start .args in
+    left-transaction (args .s .now) (start .pre .1) (args .k) (start .pre .0) (heldBy (args .c)) (sym (c .before .held .ensures) ∙ c .if1 .left)
 
 pub close-held-spec : {M : Type 1} → statement M
 close-held-spec =

@@ -1,3 +1,4 @@
+-- An open transaction keeps its changes and its holder; a closed place stays as it is.
 use mathlib.Core.Path.{sym, _∙_}
 use native.Mathlib.Omega.{arith}
 use borrow.Author.Needs.{needs}
@@ -6,7 +7,7 @@ use Rattle.transactions.proofs.changes.make_stale.Statement.{statement}
 use Rattle.transactions.proofs.changes.make_stale.Tie as tie
 
 is-open-requires : tie.Need-is-open-requires
-is-open-requires c κs = let b = c .before .before in (b .pre .0, b .pre .1 .whole)
+is-open-requires c κs = let pre = c .before .before .pre in (pre .0, pre .1 .whole)
 
 mul-at : tie.Need-mul-at
 mul-at c = search needs
@@ -24,13 +25,20 @@ same-length : tie.Need-same-length
 same-length c = search needs
 
 returns : tie.Need-returns
-returns c = let b = c .before .before .before .before .before in put-stale (b .args .s .now) (b .pre .1) (b .args .k) (b .pre .0) (sym (c .before .before .is-open .ensures) ∙ c .before .if1 .taken)
+returns c =
+    let at-open = c .before .before in
+    let start = at-open .before .before .before in
+    let args = start .args in
+    put-stale (args .s .now) (start .pre .1) (args .k) (start .pre .0) (sym (at-open .is-open .ensures) ∙ c .before .if1 .taken)
 
 same-length-2 : tie.Need-same-length-2
 same-length-2 c = search needs
 
 returns-2 : tie.Need-returns-2
-returns-2 c = let b = c .before .before .before .before in left-stale (b .args .s .now) (b .pre .1) (b .args .k) (b .pre .0) (sym (c .before .is-open .ensures) ∙ c .if1 .left)
+returns-2 c =
+    let start = c .before .before .before .before in
+    let args = start .args in
+    left-stale (args .s .now) (start .pre .1) (args .k) (start .pre .0) (sym (c .before .is-open .ensures) ∙ c .if1 .left)
 
 pub make-stale-spec : {M : Type 1} → statement M
 make-stale-spec =

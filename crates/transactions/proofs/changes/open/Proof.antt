@@ -1,3 +1,4 @@
+-- A transaction that was just opened is its fields and zeros.
 use mathlib.Core.Path.{ap, _∙_}
 use Prim.Native.Nat.{_+_, _*_, _/_, _%_}
 use native.Mathlib.Omega.{arith}
@@ -16,7 +17,7 @@ add-clear : tie.Need-add-clear
 add-clear c = search needs
 
 clear-requires : tie.Need-clear-requires
-clear-requires c κs = let b = c .before .before in omega (arith, b .pre .0, b .pre .2 .whole)
+clear-requires c κs = let pre = c .before .before .pre in omega (arith, pre .0, pre .2 .whole)
 
 slice-write-s : tie.Need-slice-write-s
 slice-write-s c = let w = c .before .before .before .before .before .pre .2 .whole in omega arith
@@ -44,10 +45,13 @@ same-length c = simp length-set (omega arith)
 
 returns : tie.Need-returns
 returns c =
-    let b = c .before .before .before .before .before in
-    let at = b .args .k * transactionSize in
-    let o = b .args .c in
-    ap (λ (l : Octets). set (set (set l at 128) (at + 1) (o / 256 % 256)) (at + 2) (o % 256)) (c .before .before .clear .ensures) ∙ put-open (b .args .s .now) (b .pre .2) (b .args .k) (b .pre .0) o (b .pre .1)
+    let at-clear = c .before .before in
+    let start = at-clear .before .before .before in
+    let args = start .args in
+    let at = args .k * transactionSize in
+    let o = args .c in
+    ap (λ (l : Octets). set (set (set l at 128) (at + 1) (o / 256 % 256)) (at + 2) (o % 256)) (at-clear .clear .ensures)
+    ∙ put-open (args .s .now) (start .pre .2) (args .k) (start .pre .0) o (start .pre .1)
 
 pub open-spec : {M : Type 1} → statement M
 open-spec =

@@ -1,3 +1,4 @@
+-- A change is its fields and its path's field.
 use mathlib.Core.Path.{ap, _∙_}
 use Prim.Native.Nat.{_+_, _/_, _%_}
 use native.Mathlib.Omega.{arith}
@@ -12,7 +13,7 @@ add-put-text : tie.Need-add-put-text
 add-put-text c = search needs
 
 put-text-requires : tie.Need-put-text-requires
-put-text-requires c κs = let b = c .before .before .before in (omega (arith, b .pre .0), b .pre .2)
+put-text-requires c κs = let pre = c .before .before .before .pre in (omega (arith, pre .0), pre .2)
 
 removal-mark-requires : tie.Need-removal-mark-requires
 removal-mark-requires c κs = search needs
@@ -21,7 +22,9 @@ cast-s : tie.Need-cast-s
 cast-s c = search needs
 
 add-s : tie.Need-add-s
-add-s c = omega (arith, c .removal-mark .ensures, mark-small (c .before .before .before .before .before .before .before .args .removed))
+add-s c =
+    let args = c .before .before .before .before .before .before .before .args in
+    omega (arith, c .removal-mark .ensures, mark-small (args .removed))
 
 slice-write-s : tie.Need-slice-write-s
 slice-write-s c = omega arith
@@ -40,11 +43,15 @@ same-length c = simp length-set (omega arith)
 
 returns : tie.Need-returns
 returns c =
-    let b = c .before .before .before .before .before .before .before in
-    let at = b .args .at in
-    let n = length (b .args .path .now) in
-    ap (λ (l : Octets). set (set l at (c .removal-mark .result + n / 256 % 2)) (at + 1) (n % 256)) (c .before .before .before .put-text .ensures)
-    ∙ put-two (b .args .s .now) at (b .args .removed) (b .args .path .now) (b .pre .0) (b .pre .1) (b .pre .2) (c .removal-mark .result) (c .removal-mark .ensures)
+    let at-text = c .before .before .before in
+    let start = at-text .before .before .before .before in
+    let args = start .args in
+    let pre = start .pre in
+    let at = args .at in
+    let path = args .path .now in
+    let mark = c .removal-mark .result in
+    ap (λ (l : Octets). set (set l at (mark + length path / 256 % 2)) (at + 1) (length path % 256)) (at-text .put-text .ensures)
+    ∙ put-two (args .s .now) at (args .removed) path (pre .0) (pre .1) (pre .2) mark (c .removal-mark .ensures)
 
 pub put-change-spec : {M : Type 1} → statement M
 put-change-spec =

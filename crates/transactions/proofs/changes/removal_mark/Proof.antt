@@ -1,3 +1,4 @@
+-- A removal has the first bit of its byte.
 use mathlib.Core.Path.{sym, ap}
 use mathlib.Core.Bool.{Bool}
 use Prim.Native.Nat.{_*_}

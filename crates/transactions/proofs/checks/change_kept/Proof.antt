@@ -1,3 +1,4 @@
+-- A change is its fields and its full path, and zero behind that.
 use mathlib.Core.Path.{sym, _∙_}
 use native.Mathlib.Omega.{arith}
 use borrow.Author.Tests.{not-true, not-false}
@@ -10,13 +11,20 @@ two-requires : tie.Need-two-requires
 two-requires c κs = omega (arith, c .before .pre)
 
 returns : tie.Need-returns
-returns c = let v = c .before .two .ensures .value in sym (change-marked (c .before .before .before .args .s .now) (c .before .before .before .args .at) (c .before .two .ensures .bytes) (c .before .before .before .pre) (rw v at (c .if1 .taken)))
+returns c =
+    let start = c .before .before .before in
+    let fields = c .before .two .ensures in
+    sym (change-marked (start .args .s .now) (start .args .at) (fields .bytes) (start .pre) (rw (fields .value) at (c .if1 .taken)))
 
 cast-n : tie.Need-cast-n
 cast-n c = search needs
 
 returns-2 : tie.Need-returns-2
-returns-2 c = let v = c .before .before .two .ensures .value in sym (change-over (c .before .before .before .before .args .s .now) (c .before .before .before .before .args .at) (c .before .before .two .ensures .bytes) (c .before .before .before .before .pre) (rw v at (c .if2 .taken)))
+returns-2 c =
+    let at-two = c .before .before in
+    let start = at-two .before .before in
+    let fields = at-two .two .ensures in
+    sym (change-over (start .args .s .now) (start .args .at) (fields .bytes) (start .pre) (rw (fields .value) at (c .if2 .taken)))
 
 add-from : tie.Need-add-from
 add-from c = omega (arith, c .before .before .before .before .pre)
@@ -38,19 +46,33 @@ is-full-requires c κs = search needs
 
 returns-3 : tie.Need-returns-3
 returns-3 c =
-    let v = c .before .before .before .before .before .two .ensures .value in
-    let f = sym (c .before .is-full .ensures) ∙ not-true _ (c .if3 .taken) in
-    sym (change-unfull (c .before .before .before .before .before .before .before .args .s .now) (c .before .before .before .before .before .before .before .args .at) (c .before .before .before .before .before .two .ensures .bytes) (c .before .before .before .before .before .before .before .pre) (rw v at (c .before .before .before .if2 .left)) (rw v at f))
+    let if-long = c .before .before .before in
+    let at-two = if-long .before .before in
+    let start = at-two .before .before in
+    let fields = at-two .two .ensures in
+    let v = fields .value in
+    let full = sym (c .before .is-full .ensures) ∙ not-true _ (c .if3 .taken) in
+    sym (change-unfull (start .args .s .now) (start .args .at) (fields .bytes) (start .pre) (rw v at (if-long .if2 .left)) (rw v at full))
 
 rest-zero-requires : tie.Need-rest-zero-requires
-rest-zero-requires c κs = (c .before .before .before .if2 .left, omega (arith, c .before .before .before .before .before .before .before .pre))
+rest-zero-requires c κs =
+    let if-long = c .before .before .before in
+    (if-long .if2 .left, omega (arith, if-long .before .before .before .before .pre))
 
 returns-4 : tie.Need-returns-4
 returns-4 c =
-    let v = c .before .before .before .before .before .before .two .ensures .value in
-    let f = sym (c .before .before .is-full .ensures) ∙ not-false _ (c .before .if3 .left) in
-    let e = c .rest-zero .ensures in
-    (rw v at e) ∙ sym (change-rest (c .before .before .before .before .before .before .before .before .args .s .now) (c .before .before .before .before .before .before .before .before .args .at) (c .before .before .before .before .before .before .two .ensures .bytes) (c .before .before .before .before .before .before .before .before .pre) (rw v at (c .before .before .before .before .before .if1 .left)) (rw v at (c .before .before .before .before .if2 .left)) (rw v at f))
+    let at-full = c .before .before in
+    let if-long = at-full .before .before in
+    let if-marked = if-long .before in
+    let at-two = if-marked .before in
+    let start = at-two .before .before in
+    let fields = at-two .two .ensures in
+    let v = fields .value in
+    let full = sym (at-full .is-full .ensures) ∙ not-false _ (c .before .if3 .left) in
+    let rest = c .rest-zero .ensures in
+    (rw v at rest)
+    ∙ sym (change-rest (start .args .s .now) (start .args .at) (fields .bytes) (start .pre)
+    (rw v at (if-marked .if1 .left)) (rw v at (if-long .if2 .left)) (rw v at full))
 
 pub change-kept-spec : {M : Type 1} → statement M
 change-kept-spec =

@@ -1,3 +1,4 @@
+-- A text is a full path where its form is absolute.
 use mathlib.Core.Path.{sym, _∙_}
 use borrow.Author.Needs.{needs}
 use Rattle.paths.proofs.FormLaws.{form-absolute, form-special, form-relative, form-malformed}

@@ -1,3 +1,4 @@
+-- The last four bits of the first byte say how many.
 use native.Mathlib.Omega.{arith}
 use borrow.Author.Needs.{needs}
 use Rattle.transactions.proofs.Laws.{changes-read, open-fits}
@@ -15,9 +16,11 @@ cast-result c = search needs
 
 returns : tie.Need-returns
 returns c =
-    let b = c .before in
-    let e = changes-read (b .args .s .now) (b .args .k) (b .pre .below) (b .pre .kept) (b .pre .used) in
-    (e, rw e (open-fits (b .args .s .now) (b .args .k) (b .pre .below) (b .pre .used) .few))
+    let s = c .before .args .s .now in
+    let k = c .before .args .k in
+    let pre = c .before .pre in
+    let e = changes-read s k (pre .below) (pre .kept) (pre .used) in
+    (e, rw e (open-fits s k (pre .below) (pre .used) .few))
 
 pub changes-spec : {M : Type 1} → statement M
 changes-spec = tie.close (tie.spec mul-result shared-slice-read-result cast-result returns)

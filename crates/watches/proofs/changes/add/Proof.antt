@@ -1,3 +1,4 @@
+-- A place is its fields, the path's field and the token's.
 use mathlib.Core.Path.{ap, _∙_}
 use Prim.Native.Nat.{_+_, _*_}
 use native.Mathlib.Omega.{arith}
@@ -15,13 +16,15 @@ add-put-text : tie.Need-add-put-text
 add-put-text c = search needs
 
 put-text-requires : tie.Need-put-text-requires
-put-text-requires c κs = let b = c .before .before .before .before in (omega (arith, b .pre .1 .whole, b .pre .0), b .pre .2 .few)
+put-text-requires c κs = let pre = c .before .before .before .before .pre in (omega (arith, pre .1 .whole, pre .0), pre .2 .few)
 
 add-put-text-2 : tie.Need-add-put-text-2
 add-put-text-2 c = search needs
 
 put-text-requires-2 : tie.Need-put-text-requires-2
-put-text-requires-2 c κs = let b = c .before .before .before .before .before .before .before .before in (omega (arith, b .pre .1 .whole, b .pre .0), b .pre .2 .path)
+put-text-requires-2 c κs =
+    let pre = c .before .before .before .before .before .before .before .before .pre in
+    (omega (arith, pre .1 .whole, pre .0), pre .2 .path)
 
 marks-requires : tie.Need-marks-requires
 marks-requires c κs = search needs
@@ -30,21 +33,28 @@ levels-requires : tie.Need-levels-requires
 levels-requires c κs = search needs
 
 put-fields-requires : tie.Need-put-fields-requires
-put-fields-requires c κs = let b = c .before .before .before .before .before .before .before .before .before .before .before .before .before .before in (omega (arith, b .pre .1 .whole, b .pre .0), b .pre .2 .few)
+put-fields-requires c κs =
+    let pre = c .before .before .before .before .before .before .before .before .before .before .before .before .before .before .pre in
+    (omega (arith, pre .1 .whole, pre .0), pre .2 .few)
 
 same-length : tie.Need-same-length
 same-length c = search needs
 
 returns : tie.Need-returns
 returns c =
-    let b = c .before .before .before .before .before .before .before .before .before .before .before .before .before .before .before .before .before in
-    let l = c .before .before .before .levels .ensures in
-    let at = b .args .k * watchSize in
-    let p = c .before .before .before .before .before .before .before .before .put-text2 .ensures in
-    let t = c .before .before .before .before .before .before .before .before .before .before .before .before .put-text .ensures in
+    let at-levels = c .before .before .before in
+    let at-marks = at-levels .before in
+    let at-path = at-marks .before .before .before .before in
+    let at-token = at-path .before .before .before .before in
+    let start = at-token .before .before .before .before .before in
+    let args = start .args in
+    let pre = start .pre in
+    let levels = at-levels .levels .ensures in
+    let at = args .k * watchSize in
     c .before .before .put-fields .ensures
-    ∙ ap (paste at _) (p ∙ ap (paste (at + watchFieldsSize) _) t)
-    ∙ put-watch (b .args .s .now) (b .pre .1) (b .args .k) (b .pre .0) (b .args .c) (b .args .path .now) (b .args .relative) (b .args .depth) (b .args .token .now) (b .pre .2) (rw (← l .0) (l .1)) _ _ (c .before .before .before .before .marks .ensures) (l .0)
+    ∙ ap (paste at _) (at-path .put-text2 .ensures ∙ ap (paste (at + watchFieldsSize) _) (at-token .put-text .ensures))
+    ∙ put-watch (args .s .now) (pre .1) (args .k) (pre .0) (args .c) (args .path .now) (args .relative) (args .depth) (args .token .now) (pre .2)
+    (rw (← levels .0) (levels .1)) _ _ (at-marks .marks .ensures) (levels .0)
 
 pub add-spec : {M : Type 1} → statement M
 add-spec =

@@ -1,3 +1,4 @@
+-- A place that has a watch of the connection is cleared, another stays as it is.
 use mathlib.Core.Path.{sym, _∙_}
 use native.Mathlib.Omega.{arith}
 use borrow.Author.Needs.{needs}
@@ -7,30 +8,35 @@ use Rattle.watches.proofs.changes.free_owned.Statement.{statement}
 use Rattle.watches.proofs.changes.free_owned.Tie as tie
 
 owned-requires : tie.Need-owned-requires
-owned-requires c κs = let b = c .before .before in (b .pre .0, b .pre .1)
+owned-requires c κs = let pre = c .before .before .pre in (pre .0, pre .1)
 
 mul-clear : tie.Need-mul-clear
 mul-clear c = search needs
 
 clear-requires : tie.Need-clear-requires
-clear-requires c κs = let b = c .before .before .before .before .before in omega (arith, b .pre .1 .whole)
+clear-requires c κs = let pre = c .before .before .before .before .before .pre in omega (arith, pre .1 .whole)
 
 same-length : tie.Need-same-length
 same-length c = search needs
 
 returns : tie.Need-returns
 returns c =
-    let b = c .before .before .before .before .before .before .before .before in
-    c .before .before .clear .ensures
-    ∙ freed-watch (b .args .s .now) (b .pre .1) (b .args .k) (b .pre .0) (ownedBy (b .args .c)) (sym (c .before .before .before .before .before .owned .ensures) ∙ c .before .before .before .before .if1 .taken)
+    let at-if = c .before .before .before .before in
+    let at-owned = at-if .before in
+    let start = at-owned .before .before .before in
+    let args = start .args in
+    let there = sym (at-owned .owned .ensures) ∙ at-if .if1 .taken in
+    c .before .before .clear .ensures ∙ freed-watch (args .s .now) (start .pre .1) (args .k) (start .pre .0) (ownedBy (args .c)) there
 
 same-length-2 : tie.Need-same-length-2
 same-length-2 c = search needs
 
 returns-2 : tie.Need-returns-2
 returns-2 c =
-    let b = c .before .before .before .before in
-    left-watch (b .args .s .now) (b .pre .1) (b .args .k) (b .pre .0) (ownedBy (b .args .c)) (sym (c .before .owned .ensures) ∙ c .if1 .left)
+    let start = c .before .before .before .before in
+    let args = start .args in
+    let other = sym (c .before .owned .ensures) ∙ c .if1 .left in
+    left-watch (args .s .now) (start .pre .1) (args .k) (start .pre .0) (ownedBy (args .c)) other
 
 pub free-owned-spec : {M : Type 1} → statement M
 free-owned-spec =

@@ -1,3 +1,4 @@
+-- A place that has the twin is cleared, another stays as it is.
 use mathlib.Core.Path.{sym, _∙_}
 use native.Mathlib.Omega.{arith}
 use borrow.Author.Needs.{needs}
@@ -7,30 +8,36 @@ use Rattle.watches.proofs.changes.free_twin.Statement.{statement}
 use Rattle.watches.proofs.changes.free_twin.Tie as tie
 
 is-twin-requires : tie.Need-is-twin-requires
-is-twin-requires c κs = let b = c .before .before .before .before in (b .pre .0, b .pre .1)
+is-twin-requires c κs = let pre = c .before .before .before .before .pre in (pre .0, pre .1)
 
 mul-clear : tie.Need-mul-clear
 mul-clear c = search needs
 
 clear-requires : tie.Need-clear-requires
-clear-requires c κs = let b = c .before .before .before .before .before .before .before in omega (arith, b .pre .1 .whole)
+clear-requires c κs = let pre = c .before .before .before .before .before .before .before .pre in omega (arith, pre .1 .whole)
 
 same-length : tie.Need-same-length
 same-length c = search needs
 
 returns : tie.Need-returns
 returns c =
-    let b = c .before .before .before .before .before .before .before .before .before .before in
+    let at-if = c .before .before .before .before in
+    let at-is-twin = at-if .before in
+    let start = at-is-twin .before .before .before .before .before in
+    let args = start .args in
+    let there = sym (at-is-twin .is-twin .ensures) ∙ at-if .if1 .taken in
     c .before .before .clear .ensures
-    ∙ freed-watch (b .args .s .now) (b .pre .1) (b .args .k) (b .pre .0) (twin (b .args .c) (b .args .p .now) (b .args .t .now)) (sym (c .before .before .before .before .before .is-twin .ensures) ∙ c .before .before .before .before .if1 .taken)
+    ∙ freed-watch (args .s .now) (start .pre .1) (args .k) (start .pre .0) (twin (args .c) (args .p .now) (args .t .now)) there
 
 same-length-2 : tie.Need-same-length-2
 same-length-2 c = search needs
 
 returns-2 : tie.Need-returns-2
 returns-2 c =
-    let b = c .before .before .before .before .before .before in
-    left-watch (b .args .s .now) (b .pre .1) (b .args .k) (b .pre .0) (twin (b .args .c) (b .args .p .now) (b .args .t .now)) (sym (c .before .is-twin .ensures) ∙ c .if1 .left)
+    let start = c .before .before .before .before .before .before in
+    let args = start .args in
+    let other = sym (c .before .is-twin .ensures) ∙ c .if1 .left in
+    left-watch (args .s .now) (start .pre .1) (args .k) (start .pre .0) (twin (args .c) (args .p .now) (args .t .now)) other
 
 pub free-twin-spec : {M : Type 1} → statement M
 free-twin-spec =

@@ -1,3 +1,4 @@
+-- A depth that is given is its byte, and one that is not is 0.
 use mathlib.Core.Path.{sym, ap}
 use native.Mathlib.Omega.{arith}
 use borrow.Author.Needs.{needs}

@@ -1,3 +1,4 @@
+-- The first three bits by the two things that they say.
 use mathlib.Core.Path.{ap}
 use borrow.Author.Needs.{needs}
 use Rattle.domains.specs.Entry.{taken}

@@ -1,3 +1,4 @@
+-- Six stores in a row put six bytes in.
 use native.Mathlib.Omega.{arith}
 use lib.ListN.{length-set}
 use borrow.Author.Needs.{needs}

@@ -1,28 +1,28 @@
-use mathlib.Core.Path.{_≡_, refl, sym, ap, _∙_}
-use Prim.Native.Nat.{_≤_, _-_}
+-- The places before the one in turn are done, the others as they were.
+use mathlib.Core.Path.{_≡_, refl}
+use Prim.Native.Nat.{_-_}
 use native.Mathlib.Omega.{arith}
 use Rattle.rules.specs.Size.{mostWatches}
-use Rattle.rules.specs.Layout.{watchesOf, watchesBytes}
+use Rattle.rules.specs.Layout.{watchesOf}
 use Rattle.rules.specs.World.{withoutWatches}
 use Rattle.domains.specs.Entry.{droppedIf}
 use Rattle.watches.specs.Watch.{ownedBy, KeptWatches}
-use Rattle.domains.proofs.Search.{swept, without-swept}
-use Rattle.watches.proofs.Written.{kept-watches, swept-watch}
-use Rattle.watches.proofs.Bytes.{length-watchesOf}
+use Rattle.domains.proofs.Search.{sweptBefore}
+use Rattle.watches.proofs.Written.{swept-watch, swept-watches}
 use Rattle.watches.proofs.changes.remove_of.Statement.{statement}
 use Rattle.watches.proofs.changes.remove_of.Tie as tie
 
 abbrev Inv-loop : tie.InvT-loop
-Inv-loop s₀ c i₀ s i = (i ≤ mostWatches) × KeptWatches s × (watchesOf s ≡ swept (droppedIf (ownedBy c)) i (watchesOf s₀))
+Inv-loop s₀ c i₀ s i = KeptWatches s × (watchesOf s ≡ sweptBefore (droppedIf (ownedBy c)) i (watchesOf s₀))
 
 abbrev μ-loop : tie.MeasureT-loop
 μ-loop s₀ c i₀ s i = mostWatches - i
 
 loop-holds : tie.Need-loop-holds Inv-loop μ-loop
-loop-holds c = (omega arith, c .before .pre, refl)
+loop-holds c = (c .before .pre, refl)
 
 free-owned-requires : tie.Need-free-owned-requires Inv-loop μ-loop
-free-owned-requires c κs = (c .before .loop-test .taken, c .before .before .loop .inv .1)
+free-owned-requires c κs = (c .before .loop-test .taken, c .before .before .loop .inv .0)
 
 add-i : tie.Need-add-i Inv-loop μ-loop
 add-i c = omega arith
@@ -32,20 +32,23 @@ loop-less c = omega arith
 
 loop-again : tie.Need-loop-again Inv-loop μ-loop
 loop-again c =
-    let b = c .before .before .before .before .before in
-    let a = b .before .before .args in
-    let next = swept-watch (b .loop .s) (b .loop .inv .1) (b .loop .i) (c .before .before .before .before .loop-test .taken) (ownedBy (a .c)) (watchesOf (a .s .now)) (b .loop .inv .2) _ (c .before .before .free-owned .ensures) in
-    (omega arith, next .0, next .1)
+    let at-test = c .before .before .before .before in
+    let at-turn = at-test .before in
+    let args = at-turn .before .before .args in
+    let inv = at-turn .loop .inv in
+    let test = ownedBy (args .c) in
+    swept-watch _ (inv .0) _ (at-test .loop-test .taken) test (watchesOf (args .s .now)) (inv .1) _ (c .before .before .free-owned .ensures)
 
 same-length : tie.Need-same-length Inv-loop μ-loop
-same-length c = omega (arith, c .before .loop .inv .1 .whole, c .before .before .before .pre .whole)
+same-length c = omega (arith, c .before .loop .inv .0 .whole, c .before .before .before .pre .whole)
 
 returns : tie.Need-returns Inv-loop μ-loop
 unfolding withoutWatches ownedBy
 returns c =
-    let b = c .before in
-    let a = b .before .before .args in
-    sym (kept-watches (b .loop .s) (b .loop .inv .1)) ∙ ap watchesBytes (b .loop .inv .2 ∙ without-swept (ownedBy (a .c)) (b .loop .i) (watchesOf (a .s .now)) (rw (length-watchesOf (a .s .now)) (c .loop-test .left)))
+    let at-turn = c .before in
+    let args = at-turn .before .before .args in
+    let inv = at-turn .loop .inv in
+    swept-watches (ownedBy (args .c)) _ (args .s .now) (inv .0) _ (c .loop-test .left) (inv .1)
 
 pub remove-of-spec : {M : Type 1} → statement M
 remove-of-spec =

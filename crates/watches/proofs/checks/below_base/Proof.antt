@@ -1,3 +1,4 @@
+-- A path lies below a base where the base's text and a slash begin it.
 use mathlib.Core.Path.{sym, ap, _∙_}
 use lib.Seq.{length-take-le}
 use borrow.Author.Needs.{needs}
@@ -16,18 +17,25 @@ full-requires : tie.Need-full-requires
 full-requires c κs = search needs
 
 array-share-prefix-above : tie.Need-array-share-prefix-above
-array-share-prefix-above c = put-within (c .before .before .before .before .before .args .d) _ _ _ (c .before .full .ensures)
+array-share-prefix-above c =
+    let at-full = c .before in
+    put-within (at-full .before .before .before .before .args .d) _ _ _ (at-full .full .ensures)
 
 slice-aggregate-begins : tie.Need-slice-aggregate-begins
-slice-aggregate-begins c = sym (length-take-le _ _ (put-within (c .before .before .before .before .before .before .args .d) _ _ _ (c .before .before .full .ensures)))
+slice-aggregate-begins c =
+    let at-full = c .before .before in
+    sym (length-take-le _ _ (put-within (at-full .before .before .before .before .args .d) _ _ _ (at-full .full .ensures)))
 
 begins-requires : tie.Need-begins-requires
 begins-requires c κs = search needs
 
 returns : tie.Need-returns
 returns c =
-    let b = c .before .before .before .before .before .before .before in
-    c .begins .ensures ∙ ap (λ (l : Octets). begins l (b .args .x .now)) (put-base (b .args .d) _ _ _ (c .before .before .before .full .ensures)) ∙ base-below (b .args .d) (b .args .x .now) (b .pre)
+    let at-full = c .before .before .before in
+    let start = at-full .before .before .before .before in
+    let d = start .args .d in
+    let x = start .args .x .now in
+    c .begins .ensures ∙ ap (λ (l : Octets). begins l x) (put-base d _ _ _ (at-full .full .ensures)) ∙ base-below d x (start .pre)
 
 pub below-base-spec : {M : Type 1} → statement M
 below-base-spec =

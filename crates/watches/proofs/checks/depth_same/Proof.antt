@@ -1,3 +1,4 @@
+-- A depth is given, or its byte is asked.
 use mathlib.Core.Path.{sym}
 use borrow.Author.Tests.{eq-eqb, ne-eqb}
 use borrow.Author.Needs.{needs}

@@ -1,3 +1,4 @@
+-- The tests are those of the fields, in their order.
 use mathlib.Core.Path.{sym, _∙_}
 use borrow.Author.Tests.{eq-eqb, ne-eqb, le-leb, lt-leb}
 use borrow.Author.Needs.{needs}
@@ -30,14 +31,22 @@ token-length-requires c κs = search needs
 
 returns-3 : tie.Need-returns-3
 unfolding fieldsSame
-returns-3 c = sym (rw (eq-eqb _ _ (c .before .before .before .before .if1 .left), eq-eqb _ _ (c .before .before .if2 .left), ← c .before .token-length .ensures, lt-leb _ _ (c .if3 .taken)))
+returns-3 c =
+    let at-length = c .before in
+    let at-if = at-length .before in
+    sym (rw (eq-eqb _ _ (at-if .before .before .if1 .left), eq-eqb _ _ (at-if .if2 .left), ← at-length .token-length .ensures, lt-leb _ _ (c .if3 .taken)))
 
 depth-same-requires : tie.Need-depth-same-requires
 depth-same-requires c κs = search needs
 
 returns-4 : tie.Need-returns-4
 unfolding fieldsSame
-returns-4 c = c .depth-same .ensures ∙ sym (rw (eq-eqb _ _ (c .before .before .before .before .before .if1 .left), eq-eqb _ _ (c .before .before .before .if2 .left), ← c .before .before .token-length .ensures, le-leb _ _ (c .before .if3 .left)))
+returns-4 c =
+    let at-length = c .before .before in
+    let at-if = at-length .before in
+    let few = le-leb _ _ (c .before .if3 .left) in
+    c .depth-same .ensures
+    ∙ sym (rw (eq-eqb _ _ (at-if .before .before .if1 .left), eq-eqb _ _ (at-if .if2 .left), ← at-length .token-length .ensures, few))
 
 pub fields-same-spec : {M : Type 1} → statement M
 fields-same-spec =

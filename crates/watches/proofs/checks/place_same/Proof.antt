@@ -1,3 +1,4 @@
+-- A full path means itself, an event's name itself where it is not relative, and nothing else but the empty text means a place.
 use mathlib.Core.Path.{sym, _∙_}
 use borrow.Author.Needs.{needs}
 use Rattle.paths.proofs.FormLaws.{form-absolute, form-special, form-relative, form-malformed}

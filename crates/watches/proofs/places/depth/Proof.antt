@@ -1,3 +1,4 @@
+-- A bit says whether a depth was given, and the second byte is the depth.
 use mathlib.Core.Path.{sym, _∙_}
 use borrow.Author.Tests.{eq-eqb, ne-eqb}
 use borrow.Author.Needs.{needs}
@@ -23,13 +24,19 @@ shared-slice-read-t12 c = search needs
 
 returns : tie.Need-returns
 returns c =
-    let b = c .before .before .before in
-    sym (depth-read (b .args .s .now) (b .args .k) (b .pre .below) (bytes-known (b .args .s .now) (c .shared-slice-known2 .given)) (b .pre .kept .whole) (b .pre .used) ∙ rw (eq-eqb _ _ (c .before .if1 .taken)))
+    let start = c .before .before .before in
+    let pre = start .pre in
+    let s = start .args .s .now in
+    let bytes = bytes-known s (c .shared-slice-known2 .given) in
+    sym (depth-read s _ (pre .below) bytes (pre .kept .whole) (pre .used) ∙ rw (eq-eqb _ _ (c .before .if1 .taken)))
 
 returns-2 : tie.Need-returns-2
 returns-2 c =
-    let b = c .before .before in
-    sym (depth-read (b .args .s .now) (b .args .k) (b .pre .below) (bytes-known (b .args .s .now) (c .before .shared-slice-known .given)) (b .pre .kept .whole) (b .pre .used) ∙ rw (ne-eqb _ _ (c .if1 .left)))
+    let start = c .before .before in
+    let pre = start .pre in
+    let s = start .args .s .now in
+    let bytes = bytes-known s (c .before .shared-slice-known .given) in
+    sym (depth-read s _ (pre .below) bytes (pre .kept .whole) (pre .used) ∙ rw (ne-eqb _ _ (c .if1 .left)))
 
 pub depth-spec : {M : Type 1} → statement M
 depth-spec =

@@ -1,66 +1,28 @@
-use mathlib.Core.Path.{_≡_, sym, _∙_}
-use Prim.Native.Nat.{_≤_, _-_, _+_}
-use native.Mathlib.Nat.{zero-add}
-use native.Mathlib.Omega.{arith}
-use lib.ListN.{drop}
-use borrow.Author.Tests.{not-true, not-false}
-use Rattle.rules.specs.Size.{mostWatches}
-use Rattle.rules.specs.Entries.{lowest}
+-- A watch is in a place where the first bit of the place is set.
+use mathlib.Core.Path.{refl, _∙_}
+use lib.Dec.{lit≤}
+use borrow.Author.Needs.{needs}
+use Rattle.rules.specs.Size.{watchSize, mostWatches}
 use Rattle.rules.specs.Layout.{watchesOf}
-use Rattle.watches.specs.Watch.{nobody}
-use Rattle.domains.proofs.Search.{lowest-here, lowest-further, lowest-over}
+use Rattle.octets.proofs.Bytes.{bytes-known}
+use Rattle.octets.proofs.PlaceLaws.{lowest-is}
+use Rattle.domains.specs.Entry.{taken}
 use Rattle.watches.proofs.Bytes.{length-watchesOf}
+use Rattle.watches.proofs.Laws.{used-byte}
 use Rattle.watches.proofs.places.lowest_free.Statement.{statement}
 use Rattle.watches.proofs.places.lowest_free.Tie as tie
 
-abbrev Inv-loop : tie.InvT-loop
-Inv-loop s i₀ i = (i ≤ mostWatches) × (lowest (watchesOf s) ≡ i + lowest (drop i (watchesOf s)))
+lowest-free-requires : tie.Need-lowest-free-requires
+lowest-free-requires c κs = search needs
 
-abbrev μ-loop : tie.MeasureT-loop
-μ-loop s i₀ i = mostWatches - i
-
-loop-holds : tie.Need-loop-holds Inv-loop μ-loop
-loop-holds c = (omega arith, sym (zero-add _))
-
-used-requires : tie.Need-used-requires Inv-loop μ-loop
-used-requires c κs = (c .loop-test .taken, c .before .before .before .pre)
-
-returns : tie.Need-returns Inv-loop μ-loop
+returns : tie.Need-returns
+unfolding taken
 returns c =
-    let b = c .before .before .before in
-    let a = b .before .before .args in
-    sym (b .loop .inv .1 ∙ lowest-here (watchesOf (a .s .now)) (b .loop .i) (rw (length-watchesOf (a .s .now)) (c .before .before .loop-test .taken)) (sym (c .before .used .ensures) ∙ not-true _ (c .if1 .taken)))
-
-add-i : tie.Need-add-i Inv-loop μ-loop
-add-i c = omega arith
-
-loop-less : tie.Need-loop-less Inv-loop μ-loop
-loop-less c = omega arith
-
-loop-again : tie.Need-loop-again Inv-loop μ-loop
-loop-again c =
-    let b = c .before .before .before in
-    let a = b .before .before .args in (
-      omega arith,
-      b .loop .inv .1 ∙ lowest-further (watchesOf (a .s .now)) (b .loop .i) nobody (rw (length-watchesOf (a .s .now)) (c .before .before .loop-test .taken)) (sym (c .before .used .ensures) ∙ not-false _ (c .if1 .left)),
-    )
-
-returns-2 : tie.Need-returns-2 Inv-loop μ-loop
-returns-2 c =
-    let b = c .before in
-    let a = b .before .before .args in
-    sym (b .loop .inv .1 ∙ lowest-over (watchesOf (a .s .now)) (b .loop .i) (rw (length-watchesOf (a .s .now)) (c .loop-test .left)))
+    let start = c .before .before in
+    let s = start .args .s .now in
+    let bytes = bytes-known s (c .before .shared-slice-known .given) in
+    c .lowest-free .ensures
+    ∙ lowest-is taken refl (λ x. refl) watchSize (lit≤ tt) s (watchesOf s) mostWatches (length-watchesOf s) (λ i h. used-byte s i h bytes (start .pre))
 
 pub lowest-free-spec : {M : Type 1} → statement M
-lowest-free-spec =
-    tie.close
-    (tie.spec
-    Inv-loop
-    μ-loop
-    loop-holds
-    used-requires
-    returns
-    add-i
-    loop-less
-    loop-again
-    returns-2)
+lowest-free-spec = tie.close (tie.spec lowest-free-requires returns)

@@ -1,3 +1,4 @@
+-- The path stands behind the fields, as long as they say.
 use native.Mathlib.Omega.{arith}
 use borrow.Author.Needs.{needs}
 use Rattle.octets.proofs.Bytes.{bytes-known}
@@ -6,7 +7,7 @@ use Rattle.watches.proofs.places.path.Statement.{statement}
 use Rattle.watches.proofs.places.path.Tie as tie
 
 path-length-requires : tie.Need-path-length-requires
-path-length-requires c κs = let b = c .before in (b .pre .below, b .pre .kept .whole)
+path-length-requires c κs = let pre = c .before .pre in (pre .below, pre .kept .whole)
 
 mul-from : tie.Need-mul-from
 mul-from c = search needs
@@ -15,7 +16,12 @@ add-from : tie.Need-add-from
 add-from c = search needs
 
 add-result : tie.Need-add-result
-add-result c = let b = c .before .before in omega (arith, b .pre .below, c .path-length .ensures, path-length-within (b .args .s .now) (b .args .k) (b .pre .below) (bytes-known (b .args .s .now) (c .before .shared-slice-known .given)) (b .pre .kept) (b .pre .used))
+add-result c =
+    let start = c .before .before in
+    let pre = start .pre in
+    let s = start .args .s .now in
+    let bytes = bytes-known s (c .before .shared-slice-known .given) in
+    omega (arith, pre .below, c .path-length .ensures, path-length-within s (start .args .k) (pre .below) bytes (pre .kept) (pre .used))
 
 sub-result : tie.Need-sub-result
 sub-result c = search needs
@@ -24,12 +30,21 @@ part-result-start : tie.Need-part-result-start
 part-result-start c = search needs
 
 part-result-end : tie.Need-part-result-end
-part-result-end c = let b = c .before .before in omega (arith, b .pre .below, b .pre .kept .whole, c .path-length .ensures, path-length-within (b .args .s .now) (b .args .k) (b .pre .below) (bytes-known (b .args .s .now) (c .before .shared-slice-known .given)) (b .pre .kept) (b .pre .used))
+part-result-end c =
+    let start = c .before .before in
+    let pre = start .pre in
+    let s = start .args .s .now in
+    let bytes = bytes-known s (c .before .shared-slice-known .given) in
+    omega (arith, pre .below, pre .kept .whole, c .path-length .ensures, path-length-within s (start .args .k) (pre .below) bytes (pre .kept) (pre .used))
 
 returns : tie.Need-returns
 returns c =
-    let b = c .before .before .before in
-    rw (c .before .path-length .ensures) (path-part (b .args .s .now) (b .args .k) (b .pre .below) (bytes-known (b .args .s .now) (c .before .before .shared-slice-known .given)) (b .pre .kept) (b .pre .used))
+    let at-length = c .before in
+    let start = at-length .before .before in
+    let pre = start .pre in
+    let s = start .args .s .now in
+    let bytes = bytes-known s (at-length .before .shared-slice-known .given) in
+    rw (at-length .path-length .ensures) (path-part s (start .args .k) (pre .below) bytes (pre .kept) (pre .used))
 
 pub path-spec : {M : Type 1} → statement M
 path-spec =

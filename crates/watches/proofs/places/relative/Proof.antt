@@ -1,3 +1,4 @@
+-- The second bit says it.
 use native.Mathlib.Omega.{arith}
 use Rattle.octets.proofs.Bytes.{bytes-known}
 use Rattle.watches.proofs.Laws.{relative-read}
@@ -11,7 +12,10 @@ shared-slice-read-result : tie.Need-shared-slice-read-result
 shared-slice-read-result c = omega (arith, c .before .pre .below, c .before .pre .kept .whole)
 
 returns : tie.Need-returns
-returns c = let b = c .before in relative-read (b .args .s .now) (b .args .k) (b .pre .below) (bytes-known (b .args .s .now) (c .shared-slice-known .given)) (b .pre .kept) (b .pre .used)
+returns c =
+    let pre = c .before .pre in
+    let s = c .before .args .s .now in
+    relative-read s _ (pre .below) (bytes-known s (c .shared-slice-known .given)) (pre .kept) (pre .used)
 
 pub relative-spec : {M : Type 1} → statement M
 relative-spec = tie.close (tie.spec mul-result shared-slice-read-result returns)

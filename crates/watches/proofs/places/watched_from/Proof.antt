@@ -1,23 +1,24 @@
-use mathlib.Core.Path.{_≡_, refl, sym, _∙_}
-use Prim.Native.Nat.{_≤_, _-_}
+-- The first place that has the twin is found, if one from there on has it.
+use mathlib.Core.Path.{_≡_, refl}
+use Prim.Native.Nat.{_-_}
 use native.Mathlib.Omega.{arith}
 use lib.ListN.{drop}
 use Rattle.rules.specs.Size.{mostWatches}
 use Rattle.rules.specs.Layout.{watchesOf}
-use Rattle.rules.specs.Sound.{twin, watched}
-use Rattle.domains.proofs.Search.{has-here, has-further, has-over}
+use Rattle.rules.specs.Sound.{watched}
+use Rattle.domains.proofs.Search.{found, passed-by, not-found}
 use Rattle.watches.proofs.Bytes.{length-watchesOf}
 use Rattle.watches.proofs.places.watched_from.Statement.{statement}
 use Rattle.watches.proofs.places.watched_from.Tie as tie
 
 abbrev Inv-loop : tie.InvT-loop
-Inv-loop s from c p t i₀ i = (i ≤ mostWatches) × (watched c p t (drop from (watchesOf s)) ≡ watched c p t (drop i (watchesOf s)))
+Inv-loop s from c p t i₀ i = watched c p t (drop from (watchesOf s)) ≡ watched c p t (drop i (watchesOf s))
 
 abbrev μ-loop : tie.MeasureT-loop
 μ-loop s from c p t i₀ i = mostWatches - i
 
 loop-holds : tie.Need-loop-holds Inv-loop μ-loop
-loop-holds c = (omega arith, refl)
+loop-holds c = refl
 
 is-twin-requires : tie.Need-is-twin-requires Inv-loop μ-loop
 is-twin-requires c κs = (c .loop-test .taken, c .before .before .before .before .before .pre .1)
@@ -25,9 +26,10 @@ is-twin-requires c κs = (c .loop-test .taken, c .before .before .before .before
 returns : tie.Need-returns Inv-loop μ-loop
 unfolding watched
 returns c =
-    let b = c .before .before .before in
-    let a = b .before .before .before .before .args in
-    sym (b .loop .inv .1 ∙ has-here (twin (a .c) (a .p .now) (a .t .now)) (watchesOf (a .s .now)) (b .loop .i) (rw (length-watchesOf (a .s .now)) (c .before .before .loop-test .taken)) (sym (c .before .is-twin .ensures) ∙ c .if1 .taken))
+    let at-test = c .before .before in
+    let at-turn = at-test .before in
+    let s = at-turn .before .before .before .before .args .s .now in
+    found _ (watchesOf s) mostWatches (length-watchesOf s) _ (at-turn .loop .inv) (at-test .loop-test .taken) (c .before .is-twin .ensures) (c .if1 .taken)
 
 add-i : tie.Need-add-i Inv-loop μ-loop
 add-i c = omega arith
@@ -38,18 +40,17 @@ loop-less c = omega arith
 loop-again : tie.Need-loop-again Inv-loop μ-loop
 unfolding watched
 loop-again c =
-    let b = c .before .before .before in
-    let a = b .before .before .before .before .args in (
-      omega arith,
-      b .loop .inv .1 ∙ has-further (twin (a .c) (a .p .now) (a .t .now)) (watchesOf (a .s .now)) (b .loop .i) (rw (length-watchesOf (a .s .now)) (c .before .before .loop-test .taken)) (sym (c .before .is-twin .ensures) ∙ c .if1 .left),
-    )
+    let at-test = c .before .before in
+    let at-turn = at-test .before in
+    let s = at-turn .before .before .before .before .args .s .now in
+    passed-by _ (watchesOf s) mostWatches (length-watchesOf s) _ (at-turn .loop .inv) (at-test .loop-test .taken) (c .before .is-twin .ensures) (c .if1 .left)
 
 returns-2 : tie.Need-returns-2 Inv-loop μ-loop
 unfolding watched
 returns-2 c =
-    let b = c .before in
-    let a = b .before .before .before .before .args in
-    sym (b .loop .inv .1 ∙ has-over (twin (a .c) (a .p .now) (a .t .now)) (watchesOf (a .s .now)) (b .loop .i) (rw (length-watchesOf (a .s .now)) (c .loop-test .left)))
+    let at-turn = c .before in
+    let s = at-turn .before .before .before .before .args .s .now in
+    not-found _ (watchesOf s) mostWatches (length-watchesOf s) _ (at-turn .loop .inv) (c .loop-test .left)
 
 pub watched-from-spec : {M : Type 1} → statement M
 watched-from-spec =
