@@ -1,3 +1,4 @@
+-- Each row is written to its end.
 use Prim.Native.Nat.{_≤_, _-_}
 use borrow.Author.Needs.{needs}
 use Rattle.sheet.proofs.grid.Statement.{statement}

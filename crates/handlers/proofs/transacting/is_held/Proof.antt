@@ -1,3 +1,4 @@
+-- Only the ids 1 to 3 have a place, and the place knows its holder.
 use Rattle.handlers.specs.Transacting.{HeldOr}
 use Prim.Native.Nat.{ℕ}
 use mathlib.Core.Bool.{false}

@@ -1,3 +1,4 @@
+-- A name ends at each slash and at the end of the text.
 use mathlib.Core.Path.{_≡_}
 use native.Mathlib.Omega.{arith}
 use mathlib.Core.Logic.{⊎-elim}

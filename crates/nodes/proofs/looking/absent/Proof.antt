@@ -1,3 +1,4 @@
+-- The nearest ancestor that is there may be read, or not.
 use mathlib.Core.Path.{sym, _∙_}
 use Rattle.nodes.proofs.Outcomes.{known-absent, hidden-absent}
 use borrow.Author.Needs.{needs}

@@ -1,3 +1,4 @@
+-- An absolute path is its own text; a relative one stands behind its domain's base.
 use mathlib.Core.Path.{sym}
 use lib.ListN.{length-take}
 use native.Mathlib.Omega.{arith}

@@ -1,3 +1,4 @@
+-- The text of no names is a slash.
 use Rattle.requests.proofs.PlaceLaws.{root-put}
 use borrow.Author.Needs.{needs}
 use Rattle.requests.proofs.path.root.Statement.{statement}

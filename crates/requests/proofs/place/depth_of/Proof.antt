@@ -1,3 +1,4 @@
+-- A depth is 255 at most, so its byte is the depth.
 use native.Mathlib.Omega.{arith}
 use Prim.Native.Nat.{_%_}
 use mathlib.Core.Option.{some}

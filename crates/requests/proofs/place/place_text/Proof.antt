@@ -1,3 +1,4 @@
+-- An event's name is its own text; any other place is a full path.
 use mathlib.Core.Path.{sym, subst, _∙_}
 use lib.ListN.{length-take}
 use native.Mathlib.Omega.{arith}
