@@ -138,8 +138,8 @@ module _ (w : World) (ls : Logs) (o : OrderedAt w ls) where
       (λ h. left-turn (refused ENOSPC))
 
   -- a request in transaction k
-  in-transaction-turn : (c : Connection) (tx : ℕ) (x : Transaction) (a : Ask) (ns : Names) → getD (w .transactions) (tx - 1) none ≡ some x → domainOf c < 65536 →
-      AskFits a
+  in-transaction-turn : (c : Connection) (tx : ℕ) (x : Transaction) (a : Ask) (ns : Names) → getD (w .transactions) (tx - 1) none ≡ some x →
+      domainOf c < 65536 → AskFits a
       → let y = inTransaction w (tx - 1) x (answer (domainOf c) a ns (copyOf w (tx - 1))) in Turn w [] (noted w ls c tx (y .reply) a ns x) y
   unfolding inTransaction noted isNinth left to replay copyOf isEmpty
   in-transaction-turn c tx x a ns e h f = go (z .change) refl
@@ -189,7 +189,8 @@ module _ (w : World) (ls : Logs) (o : OrderedAt w ls) where
       room ch false = left-turn (refused ENOSPC)
 
       go : (m : Option Change) → z .change ≡ m
-          → let y = inTransaction w k x (record { reply = z .reply; table = z .table; change = m }) in Turn w [] (cond (isNinth x m) ls (set ls k (log (y .reply)))) y
+          → let y = inTransaction w k x (record { reply = z .reply; table = z .table; change = m }) in
+          Turn w [] (cond (isNinth x m) ls (set ls k (log (y .reply)))) y
       go none p =
           record {
             after = with-log k x (log (z .reply)) o e (at-below (w .transactions) k x e)

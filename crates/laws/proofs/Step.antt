@@ -131,7 +131,8 @@ module _ (w : World) (tx : ℕ) where
   unfolding inTransaction unchanged changed left to OK
   in-transaction-step d q ns t j x h = go (answer-shape d q ns t) refl
     where
-      go : {b : Bool} {a : Answer} → Shape d ns t b a → b ≡ alters t ns (a .reply) q → let o = inTransaction w j x a in Step (on-copy j (alters t ns (o .reply) q)) o
+      go : {b : Bool} {a : Answer} → Shape d ns t b a → b ≡ alters t ns (a .reply) q →
+          let o = inTransaction w j x a in Step (on-copy j (alters t ns (o .reply) q)) o
       go (stays r e) p = rw (← p) (stays-on-copy j r e)
       go (alters-to removal after) p =
           cond-case (λ (o : Outcome). Step (on-copy j (alters t ns (o .reply) q)) o) (ltb (length (x .changes)) mostChanges) _ _

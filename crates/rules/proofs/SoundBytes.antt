@@ -133,7 +133,8 @@ module _ (t : Tables) (l : Lendable t) where
   unfolding sizedTables
   sizes =
       let p = and-eq-true-iff (eqb (length (t .nodes)) tableSize) (eqb (length (t .copies)) copiesSize
-      && (eqb (length (t .watches)) watchesSize && (eqb (length (t .transactions)) transactionsSize && eqb (length (t .domains)) domainsSize))) .0 (l .sized) in (
+      && (eqb (length (t .watches)) watchesSize && (eqb (length (t .transactions)) transactionsSize && eqb (length (t .domains)) domainsSize))) .0
+      (l .sized) in (
         p .0,
         and-eq-true-iff (eqb (length (t .copies)) copiesSize)
             (eqb (length (t .watches)) watchesSize && (eqb (length (t .transactions)) transactionsSize && eqb (length (t .domains)) domainsSize)) .0 (p .1) .0,

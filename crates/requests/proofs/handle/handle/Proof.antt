@@ -18,22 +18,22 @@ enum-known-r c = search needs
 
 node-request-requires : tie.Need-node-request-requires
 node-request-requires c κs =
-    let start = c .before .before .before .before .before .before .before .before .before .before .before .before .before .before .before .before .before .before in
-    let v = start .pre in
-    let read = c .before .before .before .before .before .before .before .before .before .parse .ensures in (
+    let read = c .before .before .before .before .before .before .before .before .before in
+    let start = read .before .before .before .before .before .before .before .before .before in
+    let v = start .pre in (
       v .speaks,
       sender-low _ _ _ _ _ v,
-      sound-as (c .before .before .before .before .before .before .before .r .given .1) _ (read .sound),
+      sound-as (c .before .before .before .before .before .before .before .r .given .1) _ (read .parse .ensures .sound),
       v .payload,
       committable _ _ _ _ _ v,
     )
 
 other-request-requires : tie.Need-other-request-requires
 other-request-requires c κs =
-    let read = c .before .before .before .before .before .before .before .before .parse in (
-      c .before .before .before .before .before .before .before .before .before .before .before .before .before .before .before .before .before .pre,
-      read .ensures .sound,
-      asks-no-node (read .result) (c .before .before .before .before .before .before .before .match .keys2),
+    let read = c .before .before .before .before .before .before .before .before in (
+      read .before .before .before .before .before .before .before .before .before .pre,
+      read .parse .ensures .sound,
+      asks-no-node (read .parse .result) (c .before .before .before .before .before .before .before .match .keys2),
     )
 
 same-length : tie.Need-same-length

@@ -203,7 +203,8 @@ returns-5 : tie.Need-returns-5
 unfolding meant outcomeOf W.handle W.left W.to
 returns-5 c =
     let done = c .before .before .before .before .before .before .before .before in
-    let start = done .before .before .before .before .before .before .before .before .before .before .before .before .before .before .before .before .before .before in
+    let at-match = done .before .before .before .before .before .before .before .before .before in
+    let start = at-match .before .before .before .before .before .before .before .before .before in
     let v = start .pre .0 in
     let kind = done .before .before .before .before .before .before .before .before .r3 .given .1 in
     λ w l e.
@@ -258,7 +259,8 @@ returns-7 : tie.Need-returns-7
 unfolding meant outcomeOf W.handle W.left W.to
 returns-7 c =
     let done = c .before .before .before .before .before .before .before .before .before .before .before .before in
-    let start = done .before .before .before .before .before .before .before .before .before .before .before .before .before .before .before .before .before .before in
+    let at-match = done .before .before .before .before .before .before .before .before .before in
+    let start = at-match .before .before .before .before .before .before .before .before .before in
     let v = start .pre .0 in
     let kind = done .before .before .before .before .before .before .before .before .r5 .given .1 in
     λ w l e.
