@@ -54,8 +54,11 @@ eight-requires : tie.Need-eight-requires
 eight-requires c κs = search needs
 
 low-domains-requires : tie.Need-low-domains-requires
-low-domains-requires c κs = omega (arith, c .before .shared-slice-known2 .given
-    (c .before .before .before .before .before .before .args .i * slotSize + fieldsSize))
+low-domains-requires c κs = omega (
+  arith,
+  c .before .shared-slice-known2 .given
+      (c .before .before .before .before .before .before .args .i * slotSize + fieldsSize),
+)
 
 returns-3 : tie.Need-returns-3
 returns-3 c =
@@ -63,7 +66,7 @@ returns-3 c =
     let t = b .args .t .now in
     stop _ (sym (c .before .low-domains .ensures) ∙ not-true _ (c .if3 .taken))
     ∙ sym (entries-by t (bytes-known t (c .before .before .before .shared-slice-known2 .given)) (b .pre .0 .whole) (b .args .i) (b .pre .0 .below)
-    (b .pre .0 .used) (b .pre .1) _ _ _ refl (c .before .before .eight .ensures) refl)
+    (b .pre .0 .used) (b .pre .1) _ _ _ refl (c .before .before .eight .ensures .value) refl)
 
 zero-past-requires : tie.Need-zero-past-requires
 zero-past-requires c κs =
@@ -77,7 +80,7 @@ returns-4 c =
     c .zero-past .ensures
     ∙ pass (sym (c .before .before .low-domains .ensures) ∙ not-false _ (c .before .if3 .left)) refl
     ∙ sym (entries-by t (bytes-known t (c .before .before .before .before .shared-slice-known2 .given)) (b .pre .0 .whole) (b .args .i) (b .pre .0 .below)
-    (b .pre .0 .used) (b .pre .1) _ _ _ refl (c .before .before .before .eight .ensures)
+    (b .pre .0 .used) (b .pre .1) _ _ _ refl (c .before .before .before .eight .ensures .value)
     (c .before .before .before .before .before .before .before .entry-count .ensures))
 
 pub kept-entries-spec : {M : Type 1} → statement M

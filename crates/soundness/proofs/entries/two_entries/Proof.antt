@@ -116,7 +116,7 @@ returns-4 : tie.Need-returns-4
 returns-4 c =
     let b = c .before .before .before .before .before .before .before .before .before .before in
     let t = b .args .t .now in
-    ap (λ (n : ℕ). eqb n 0) (c .four .ensures .0)
+    ap (λ (n : ℕ). eqb n 0) (c .four .ensures .value)
     ∙ two-rest t (bytes-known t (c .before .before .before .before .shared-slice-known6 .given)) (b .args .at) (b .pre) (c .before .before .before .if1 .left)
     (c .before .before .if2 .left) (c .before .if3 .left)
 
