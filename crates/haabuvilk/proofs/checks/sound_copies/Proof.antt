@@ -43,9 +43,11 @@ loop-less c = omega arith
 loop-again : tie.Need-loop-again Inv-loop μ-loop
 loop-again c =
     let b = c .before .before .before in
-    let a = b .before .before .before .args in
-    (omega arith, b .loop .inv .1 ∙ (copies-next (a .copies .now) (a .transactions .now) (b .loop .i) (c .before .before .loop-test .taken)
-    ∙ and-rest _ _ (sym (c .before .sound-copy .ensures) ∙ not-false _ (c .if1 .left))))
+    let a = b .before .before .before .args in (
+      omega arith,
+      b .loop .inv .1 ∙ (copies-next (a .copies .now) (a .transactions .now) (b .loop .i) (c .before .before .loop-test .taken)
+          ∙ and-rest _ _ (sym (c .before .sound-copy .ensures) ∙ not-false _ (c .if1 .left))),
+    )
 
 returns-2 : tie.Need-returns-2 Inv-loop μ-loop
 returns-2 c =

@@ -58,9 +58,11 @@ loop-again c =
     let a = c .before .before .before .before .before .before .before .before .before in
     let b = c .before .before .before .before .before .before in
     let e = ap₂ less (sym (c .before .before .before .name .ensures)) (sym (c .before .before .name2 .ensures)) ∙ sym (c .before .less .ensures)
-    ∙ c .if1 .left in
-    (omega arith, not-placed (tableOf (a .args .t .now)) (a .args .j) (a .args .list .now) (a .args .n) (b .loop .k) (a .pre .0) (omega arith) (b .loop .inv .1)
-    e)
+    ∙ c .if1 .left in (
+      omega arith,
+      not-placed (tableOf (a .args .t .now)) (a .args .j) (a .args .list .now) (a .args .n) (b .loop .k) (a .pre .0) (omega arith) (b .loop .inv .1)
+          e,
+    )
 
 returns-2 : tie.Need-returns-2 Inv-loop μ-loop
 returns-2 c =

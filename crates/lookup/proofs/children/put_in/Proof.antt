@@ -42,9 +42,12 @@ loop-less c = omega arith
 loop-again : tie.Need-loop-again Inv-loop μ-loop
 loop-again c =
     let a = c .before .before .before in
-    let b = c .before .before in
-    (omega arith, omega arith, shifted (a .args .list .now) (a .args .n) (b .loop .m) (b .loop .list) (a .pre .0) (b .loop .inv .1) (omega arith)
-    (b .loop .inv .2))
+    let b = c .before .before in (
+      omega arith,
+      omega arith,
+      shifted (a .args .list .now) (a .args .n) (b .loop .m) (b .loop .list) (a .pre .0) (b .loop .inv .1) (omega arith)
+          (b .loop .inv .2),
+    )
 
 slice-write-list-2 : tie.Need-slice-write-list-2 Inv-loop μ-loop
 slice-write-list-2 c =

@@ -23,9 +23,11 @@ entry-count-requires c κs = (c .before .before .pre .0 .below, sound-canonical 
 
 loop-holds : tie.Need-loop-holds Inv-loop μ-loop
 loop-holds c =
-    let a = c .before .before .before in
-    (search needs, c .entry-count .ensures ∙ count-is (a .args .t .now) (a .args .i) (a .pre .0),
-    none-written (a .args .t .now) (a .args .i) (a .pre .0) (a .args .at) (a .args .into .now) (a .pre .1))
+    let a = c .before .before .before in (
+      search needs,
+      c .entry-count .ensures ∙ count-is (a .args .t .now) (a .args .i) (a .pre .0),
+      none-written (a .args .t .now) (a .args .i) (a .pre .0) (a .args .at) (a .args .into .now) (a .pre .1),
+    )
 
 entry-at-requires : tie.Need-entry-at-requires Inv-loop μ-loop
 entry-at-requires c κs =
@@ -54,10 +56,13 @@ loop-again : tie.Need-loop-again Inv-loop μ-loop
 loop-again c =
     let a = c .before .before .before .before .before .before .before .before .before .before in
     let b = c .before .before .before .before .before .before in
-    let e = c .before .before .before .before .entry-at in
-    (omega arith, b .loop .inv .1, one-more (a .args .t .now) (a .args .i) (a .pre .0) (a .args .at) (a .args .into .now) (a .pre .1) (b .loop .k)
-    (b .loop .into) (b .loop .to) (b .loop .inv .2) (omega arith) (e .result .access) (e .result .domain) (e .ensures .0) (e .ensures .1)
-    (c .before .before .put-entry .last .0) (c .before .before .put-entry .result) (c .before .before .put-entry .ensures))
+    let e = c .before .before .before .before .entry-at in (
+      omega arith,
+      b .loop .inv .1,
+      one-more (a .args .t .now) (a .args .i) (a .pre .0) (a .args .at) (a .args .into .now) (a .pre .1) (b .loop .k)
+          (b .loop .into) (b .loop .to) (b .loop .inv .2) (omega arith) (e .result .access) (e .result .domain) (e .ensures .0) (e .ensures .1)
+          (c .before .before .put-entry .last .0) (c .before .before .put-entry .result) (c .before .before .put-entry .ensures),
+    )
 
 same-length : tie.Need-same-length Inv-loop μ-loop
 same-length c =

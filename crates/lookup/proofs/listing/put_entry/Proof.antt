@@ -31,8 +31,11 @@ add-result c =
     let a = c .before .before .before .before .before .before in
     let l = c .before .before .before .before .letter in
     let d = c .before .before .put-decimal in
-    omega (arith, entry-next (a .args .into .now) (a .args .at) (a .args .access) (a .args .domain) (l .result) (l .ensures) (a .pre .1) (a .pre .2)
-    (d .last .0) (d .result) (d .ensures))
+    omega (
+      arith,
+      entry-next (a .args .into .now) (a .args .at) (a .args .access) (a .args .domain) (l .result) (l .ensures) (a .pre .1) (a .pre .2)
+          (d .last .0) (d .result) (d .ensures),
+    )
 
 same-length : tie.Need-same-length
 same-length c =

@@ -10,7 +10,16 @@ use Rattle.slots.proofs.Canonical.{sound-canonical}
 use Rattle.lookup.proofs.ChildrenLaws.{listed}
 use Rattle.lookup.specs.Walk.{ownedAmong}
 use Rattle.lookup.proofs.WalkLaws.{
-  below-none, below-own, below-others, among-over, among-next, among-length, entered-none, entered-one, entered-as, entered-join,
+  below-none,
+  below-own,
+  below-others,
+  among-over,
+  among-next,
+  among-length,
+  entered-none,
+  entered-one,
+  entered-as,
+  entered-join,
 }
 use borrow.Fn.Kinds.{In}
 use borrow.Fn.PlainCycle.{Measures, is, falls, and}
@@ -149,22 +158,40 @@ visit-list-visit-requires : (t : ℕ) → visit-list-lts.Need-visit-requires (vi
 visit-list-visit-requires t c κs =
     let s = c .before .before .before .before .before .before in (
       omega (arith, s .pre .0, c .before .before .if1 .left),
-      (listed (s .args .t .now) (s .args .list .now) (s .args .count) (s .args .k) (s .pre .1 .1) (c .before .before .if1 .left) (s .pre .1 .0),
-      omega (arith, s .pre .1 .2, among-length (s .args .depth) (tableOf (s .args .t .now)) (s .args .domain) (s .args .list .now) (s .args .count) (s .args .k)
-      (s .pre .1 .0) (c .before .before .if1 .left))),
+      (
+        listed (s .args .t .now) (s .args .list .now) (s .args .count) (s .args .k) (s .pre .1 .1) (c .before .before .if1 .left) (s .pre .1 .0),
+        omega (
+          arith,
+          s .pre .1 .2,
+          among-length (s .args .depth) (tableOf (s .args .t .now)) (s .args .domain) (s .args .list .now) (s .args .count) (s .args .k)
+              (s .pre .1 .0) (c .before .before .if1 .left),
+        ),
+      ),
     )
 
 visit-list-add-visit-list : (t : ℕ) → visit-list-lts.Need-add-visit-list (visit-list-calls t) (visit-list-at t) visit-list.Post
-visit-list-add-visit-list t c = omega (arith, c .before .before .before .before .before .before .before .before .before .pre .1 .0,
-    c .before .before .before .before .before .before .before .before .before .good)
+visit-list-add-visit-list t c = omega (
+  arith,
+  c .before .before .before .before .before .before .before .before .before .pre .1 .0,
+  c .before .before .before .before .before .before .before .before .before .good,
+)
 
 visit-list-visit-list-requires : (t : ℕ) → visit-list-lts.Need-visit-list-requires (visit-list-calls t) (visit-list-at t) visit-list.Post
 visit-list-visit-list-requires t c κs =
     let s = c .before .before .before .before .before .before .before .before .before .before in (
       omega (arith, s .pre .0, c .before .before .before .before .before .before .if1 .left),
-      (s .pre .1 .0, s .pre .1 .1, omega (arith, s .pre .1 .2, among-length (s .args .depth) (tableOf (s .args .t .now)) (s .args .domain) (s .args .list .now)
-      (s .args .count) (s .args .k) (s .pre .1 .0) (c .before .before .before .before .before .before .if1 .left),
-      c .before .before .before .visit .ensures .count, c .before .before .before .visit .kept .1 .1 .1 .1 .0)),
+      (
+        s .pre .1 .0,
+        s .pre .1 .1,
+        omega (
+          arith,
+          s .pre .1 .2,
+          among-length (s .args .depth) (tableOf (s .args .t .now)) (s .args .domain) (s .args .list .now)
+              (s .args .count) (s .args .k) (s .pre .1 .0) (c .before .before .before .before .before .before .if1 .left),
+          c .before .before .before .visit .ensures .count,
+          c .before .before .before .visit .kept .1 .1 .1 .1 .0,
+        ),
+      ),
     )
 
 visit-list-same-length : (t : ℕ) → visit-list-lts.Need-same-length (visit-list-calls t) (visit-list-at t) visit-list.Post

@@ -43,7 +43,7 @@ loop-again c =
     let a = b .before .before .before .args in (
       omega arith,
       b .loop .inv .1 ∙ child-further (a .p) (a .n .now) (tableOf (a .t .now)) (b .loop .i)
-      (rw (length-tableOf (a .t .now)) (c .before .before .loop-test .taken)) (sym (c .before .is-child .ensures) ∙ c .if1 .left),
+          (rw (length-tableOf (a .t .now)) (c .before .before .loop-test .taken)) (sym (c .before .is-child .ensures) ∙ c .if1 .left),
     )
 
 returns-2 : tie.Need-returns-2 Inv-loop μ-loop

@@ -56,7 +56,7 @@ loop-again c =
       omega arith,
       b .loop .inv .2,
       b .loop .inv .3 ∙ not-named-by (a .args .t .now) (a .args .i) (a .pre) (a .args .domain) (a .args .first) (b .loop .k) (b .loop .inv .0) (omega arith)
-      (e .result .domain) (e .ensures .1) (c .if1 .left),
+          (e .result .domain) (e .ensures .1) (c .if1 .left),
     )
 
 returns-2 : tie.Need-returns-2 Inv-loop μ-loop

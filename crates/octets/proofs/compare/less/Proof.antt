@@ -37,8 +37,14 @@ loop-less : tie.Need-loop-less Inv-loop μ-loop
 loop-less c = omega arith
 
 loop-again : tie.Need-loop-again Inv-loop μ-loop
-loop-again c = (omega arith, (omega arith, c .before .before .before .before .before .loop .inv .1 .1
-    ∙ less-next _ _ _ (c .before .before .before .before .loop-test .taken) (c .before .before .before .if1 .left) (c .if2 .left)))
+loop-again c = (
+  omega arith,
+  (
+    omega arith,
+    c .before .before .before .before .before .loop .inv .1 .1
+        ∙ less-next _ _ _ (c .before .before .before .before .loop-test .taken) (c .before .before .before .if1 .left) (c .if2 .left),
+  ),
+)
 
 returns-3 : tie.Need-returns-3 Inv-loop μ-loop
 returns-3 c = sym (c .before .loop .inv .1 .1 ∙ less-ended _ _ (c .before .loop .i) (omega arith) (c .before .loop .inv .1 .0))

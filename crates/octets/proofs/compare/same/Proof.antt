@@ -36,8 +36,11 @@ loop-less : tie.Need-loop-less Inv-loop μ-loop
 loop-less c = omega arith
 
 loop-again : tie.Need-loop-again Inv-loop μ-loop
-loop-again c = (omega arith, same-turn _ _ (c .before .before .before .loop .i) (c .before .before .before .loop .differ) (omega arith) (omega arith)
-    (c .before .before .before .loop .inv .1))
+loop-again c = (
+  omega arith,
+  same-turn _ _ (c .before .before .before .loop .i) (c .before .before .before .loop .differ) (omega arith) (omega arith)
+      (c .before .before .before .loop .inv .1),
+)
 
 returns-2 : tie.Need-returns-2 Inv-loop μ-loop
 returns-2 c = same-end _ _ (c .before .loop .i) (c .before .loop .differ) (omega arith) (omega arith) (c .before .loop .inv .1)

@@ -29,16 +29,22 @@ reaches-requires : tie.Need-reaches-requires
 reaches-requires c κs = search needs
 
 sub-depth : tie.Need-sub-depth
-sub-depth c = omega (arith, longer _ _ (c .before .before .before .before .before .before .before .before .before .pre .0)
-    (c .before .before .before .before .before .before .before .before .before .pre .1)
-    (sym (c .before .before .before .before .before .same .ensures) ∙ c .before .before .before .before .if1 .left)
-    (sym (c .before .reaches .ensures) ∙ c .if3 .taken))
+sub-depth c = omega (
+  arith,
+  longer _ _ (c .before .before .before .before .before .before .before .before .before .pre .0)
+      (c .before .before .before .before .before .before .before .before .before .pre .1)
+      (sym (c .before .before .before .before .before .same .ensures) ∙ c .before .before .before .before .if1 .left)
+      (sym (c .before .reaches .ensures) ∙ c .if3 .taken),
+)
 
 part-depth-start : tie.Need-part-depth-start
-part-depth-start c = omega (arith, longer _ _ (c .before .before .before .before .before .before .before .before .before .pre .0)
-    (c .before .before .before .before .before .before .before .before .before .pre .1)
-    (sym (c .before .before .before .before .before .same .ensures) ∙ c .before .before .before .before .if1 .left)
-    (sym (c .before .reaches .ensures) ∙ c .if3 .taken))
+part-depth-start c = omega (
+  arith,
+  longer _ _ (c .before .before .before .before .before .before .before .before .before .pre .0)
+      (c .before .before .before .before .before .before .before .before .before .pre .1)
+      (sym (c .before .before .before .before .before .same .ensures) ∙ c .before .before .before .before .if1 .left)
+      (sym (c .before .reaches .ensures) ∙ c .if3 .taken),
+)
 
 part-depth-end : tie.Need-part-depth-end
 part-depth-end c = search needs

@@ -16,9 +16,11 @@ number32-requires : tie.Need-number32-requires
 number32-requires c κs = search needs
 
 put-header-requires : tie.Need-put-header-requires
-put-header-requires c κs = (c .before .before .before .before .before .before .before .pre .0,
-    c .before .before .before .before .before .before .before .pre .1,
-    held-done _ _ (c .before .before .before .r .given .1) (c .before .before .before .before .before .before .before .pre .2))
+put-header-requires c κs = (
+  c .before .before .before .before .before .before .before .pre .0,
+  c .before .before .before .before .before .before .before .pre .1,
+  held-done _ _ (c .before .before .before .r .given .1) (c .before .before .before .before .before .before .before .pre .2),
+)
 
 enum-known-r-2 : tie.Need-enum-known-r-2
 enum-known-r-2 c = search needs
@@ -27,9 +29,12 @@ put-errno-requires : tie.Need-put-errno-requires
 put-errno-requires c κs = search needs
 
 put-header-requires-2 : tie.Need-put-header-requires-2
-put-header-requires-2 c κs = (c .before .before .before .before .before .before .before .before .before .before .pre .0, search needs,
-    written-fits _ _ _ _ (c .before .before .before .put-errno .ensures)
-    (c .before .before .before .before .before .before .before .before .before .before .pre .1) (search needs))
+put-header-requires-2 c κs = (
+  c .before .before .before .before .before .before .before .before .before .before .pre .0,
+  search needs,
+  written-fits _ _ _ _ (c .before .before .before .put-errno .ensures)
+      (c .before .before .before .before .before .before .before .before .before .before .pre .1) (search needs),
+)
 
 same-length : tie.Need-same-length
 same-length c = search needs

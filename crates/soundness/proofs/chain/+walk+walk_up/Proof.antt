@@ -6,7 +6,18 @@ use borrow.Author.Tests.{not-true, not-false}
 use lib.ListN.{length, length-set}
 use Rattle.rules.specs.Size.{longestName, longestPath, deepest}
 use Rattle.soundness.proofs.WalkLaws.{
-  walked-root, walked-none, walked-unused, walked-far, walked-near, walked-lost, walked-count, walked-bare, walked-place, walked-up, name-short, Step,
+  walked-root,
+  walked-none,
+  walked-unused,
+  walked-far,
+  walked-near,
+  walked-lost,
+  walked-count,
+  walked-bare,
+  walked-place,
+  walked-up,
+  name-short,
+  Step,
 }
 use Prim.Native.Nat.{ℕ, _+_, _≤_, _<_}
 use borrow.Fn.Kinds.{In}
@@ -93,8 +104,11 @@ walk-parent-requires : (t : ℕ) → walk-lts.Need-parent-requires (
   walk-up-below t,
   walk-up.Post,
 ) (walk-at t) walk.Post
-walk-parent-requires t c κs = (c .before .before .before .before .before .before .pre .1 .0,
-    c .before .before .before .before .before .before .pre .1 .2 .table .whole, sym (c .before .used .ensures) ∙ not-false _ (c .if3 .left))
+walk-parent-requires t c κs = (
+  c .before .before .before .before .before .before .pre .1 .0,
+  c .before .before .before .before .before .before .pre .1 .2 .table .whole,
+  sym (c .before .used .ensures) ∙ not-false _ (c .if3 .left),
+)
 
 walk-element-copy-out-above : (t : ℕ) → walk-lts.Need-element-copy-out-above (
   used-reads.Asked,
@@ -299,8 +313,12 @@ walk-up-count : (t : ℕ) (c : walk-up-lts.After-up (
 walk-up-count t c =
     let w = c .before .before .before .before in
     let b = w .before .before .before .before .before in
-    omega (arith, b .pre .1 .4, walked-count _ _ (b .args .steps) (b .args .i) _ (walk-up-step t (w .before .before)) _ _ (w .walk .ensures) _ _
-    (c .up .given .1))
+    omega (
+      arith,
+      b .pre .1 .4,
+      walked-count _ _ (b .args .steps) (b .args .i) _ (walk-up-step t (w .before .before)) _ _ (w .walk .ensures) _ _
+          (c .up .given .1),
+    )
 
 walk-up-add-t15 : (t : ℕ) → walk-up-lts.Need-add-t15 (
   parent-reads.Asked,
@@ -371,7 +389,7 @@ walk-up-room t c =
     let b = w .before .before .before .before .before in
     let n = walk-up-filled t c in (
       walked-place _ _ (b .args .steps) (b .args .i) _ (walk-up-step t (w .before .before)) _ _ (w .walk .ensures) _ _ (c .before .before .up .given .1) n
-      (b .pre .1 .4),
+          (b .pre .1 .4),
       omega (arith, w .walk .kept .1 .1 .1 .1 .0, b .pre .1 .5 .room n),
     )
 
@@ -463,8 +481,14 @@ walk-up-add-t21 : (t : ℕ) → walk-up-lts.Need-add-t21 (
 ) (walk-up-at t) walk-up.Post
 walk-up-add-t21 t c =
     let b = c .before .before .before .before .before .before .before .before .before .before .before .before .before .before .before .before in
-    record { fits = omega (arith, walk-up-room t (c .before .before .before .before .before) .0, ap length (c .before .before .before .before .name .ensures),
-        name-short (b .args .t .now) (b .args .i)) }
+    record {
+      fits = omega (
+        arith,
+        walk-up-room t (c .before .before .before .before .before) .0,
+        ap length (c .before .before .before .before .name .ensures),
+        name-short (b .args .t .now) (b .args .i),
+      );
+    }
 
 walk-up-same-length-3 : (t : ℕ) → walk-up-lts.Need-same-length-3 (
   parent-reads.Asked,

@@ -7,7 +7,17 @@ use Rattle.rules.specs.Size.{slots}
 use Rattle.soundness.specs.Parts.{every}
 use Rattle.soundness.specs.Walks.{chained}
 use Rattle.soundness.proofs.TableLaws.{
-  every-further, every-stop, every-ended, lost-chained, root-chained, root-level, root-count, unused-chained, Levels, levels-set, levels-lent,
+  every-further,
+  every-stop,
+  every-ended,
+  lost-chained,
+  root-chained,
+  root-level,
+  root-count,
+  unused-chained,
+  Levels,
+  levels-set,
+  levels-lent,
   none-levelled,
 }
 use Rattle.soundness.proofs.chain.all_chained.Statement.{statement}
@@ -76,7 +86,7 @@ loop-again c =
           (λ w. unused-chained t i (sym (c .before .used .ensures) ∙ w .0 .left))
           (c .if1 .came)),
       ⊎-elim (λ w. rw (w .8) (levels-set t (l .loop .known) i _ h (root-level t i _ _ _ (w .3 .ensures) _ _ (w .6 .given .1)) (l .loop .inv .2)))
-      (λ w. rw (w .1) (l .loop .inv .2)) (c .if1 .came),
+          (λ w. rw (w .1) (l .loop .inv .2)) (c .if1 .came),
     )
 
 returns-2 : tie.Need-returns-2 Inv-loop μ-loop

@@ -7,7 +7,20 @@ use mathlib.Core.Logic.{⊎-elim}
 use Prim.Native.Nat.{_≤_, _-_}
 use native.Mathlib.Omega.{arith}
 use Rattle.soundness.proofs.PairLaws.{
-  row-whole, Taken, taken-next, met-key, Keyed, Apart, Row, keyed-next, apart-next, row-differ, row-names, row-new, all-apart, pair-found,
+  row-whole,
+  Taken,
+  taken-next,
+  met-key,
+  Keyed,
+  Apart,
+  Row,
+  keyed-next,
+  apart-next,
+  row-differ,
+  row-names,
+  row-new,
+  all-apart,
+  pair-found,
 }
 use Rattle.soundness.proofs.pairs.all_distinct.Statement.{statement}
 use Rattle.soundness.proofs.pairs.all_distinct.Tie as tie
@@ -25,8 +38,13 @@ abbrev μ-pairs : tie.MeasureT-pairs
 μ-pairs t keys₀ taken₀ apart₀ i₀ keys taken apart i = slots - i
 
 pairs-holds : tie.Need-pairs-holds Inv-loop μ-loop Inv-pairs μ-pairs
-pairs-holds c = (omega arith, refl, record { long = refl; each = λ j l. absurd (omega arith) }, λ a b n m l h p q. absurd (omega arith),
-    record { long = refl; each = λ j l. absurd (omega arith) })
+pairs-holds c = (
+  omega arith,
+  refl,
+  record { long = refl; each = λ j l. absurd (omega arith) },
+  λ a b n m l h p q. absurd (omega arith),
+  record { long = refl; each = λ j l. absurd (omega arith) },
+)
 
 key-of-requires : tie.Need-key-of-requires Inv-loop μ-loop Inv-pairs μ-pairs
 key-of-requires c κs = (omega arith, c .before .before .before .pre)
@@ -113,7 +131,7 @@ pairs-again c =
           (p .pairs .inv .2) (p .pairs .inv .4) (k .key-of .ensures) (a .place-of .ensures .0) (sym (m .may-clash .ensures) ∙ w .0 .left))
           (c .if1 .came)),
       taken-next t (p .pairs .taken) (p .pairs .i) (k .key-of .result) (a .place-of .result) (k .key-of .ensures) (a .place-of .ensures .0)
-      (a .place-of .ensures .1) (p .pairs .inv .4),
+          (a .place-of .ensures .1) (p .pairs .inv .4),
     )
 
 returns : tie.Need-returns Inv-loop μ-loop Inv-pairs μ-pairs

@@ -15,8 +15,12 @@ returns : tie.Need-returns
 returns c = key-none _ (sym (c .before .used .ensures) ∙ not-true _ (c .if1 .taken))
 
 parent-requires : tie.Need-parent-requires
-parent-requires c κs = (c .before .before .before .pre .0, c .before .before .before .pre .1 .whole, sym (c .before .used .ensures)
-    ∙ not-false _ (c .if1 .left))
+parent-requires c κs = (
+  c .before .before .before .pre .0,
+  c .before .before .before .pre .1 .whole,
+  sym (c .before .used .ensures)
+      ∙ not-false _ (c .if1 .left),
+)
 
 mul-result : tie.Need-mul-result
 mul-result c = search needs

@@ -9,8 +9,12 @@ used-requires : tie.Need-used-requires
 used-requires c κs = search needs
 
 good-used-requires : tie.Need-good-used-requires
-good-used-requires c κs = record { below = c .before .before .before .pre .0; whole = c .before .before .before .pre .1; used = sym (c .before .used .ensures)
-    ∙ c .if1 .taken }
+good-used-requires c κs = record {
+  below = c .before .before .before .pre .0;
+  whole = c .before .before .before .pre .1;
+  used = sym (c .before .used .ensures)
+      ∙ c .if1 .taken;
+}
 
 returns : tie.Need-returns
 returns c = search needs

@@ -29,8 +29,11 @@ returns-2 c =
     (b .pre .used) (sym (c .before .before .before .within .ensures) ∙ not-false _ (c .before .before .if1 .left)))
 
 zero-behind-requires : tie.Need-zero-behind-requires
-zero-behind-requires c κs = (c .before .before .before .before .before .pre .below, c .before .before .before .before .before .pre .whole,
-    (sym (c .before .before .before .within .ensures) ∙ not-false _ (c .before .before .if1 .left)))
+zero-behind-requires c κs = (
+  c .before .before .before .before .before .pre .below,
+  c .before .before .before .before .before .pre .whole,
+  (sym (c .before .before .before .within .ensures) ∙ not-false _ (c .before .before .if1 .left)),
+)
 
 returns-3 : tie.Need-returns-3
 returns-3 c =
@@ -42,8 +45,10 @@ returns-3 c =
     (b .pre .used) (sym (c .before .before .before .before .before .within .ensures) ∙ not-false _ (c .before .before .before .before .if1 .left)))
 
 good-name-requires : tie.Need-good-name-requires
-good-name-requires c κs = (c .before .before .before .before .before .before .before .pre,
-    (sym (c .before .before .before .before .before .within .ensures) ∙ not-false _ (c .before .before .before .before .if1 .left)))
+good-name-requires c κs = (
+  c .before .before .before .before .before .before .before .pre,
+  (sym (c .before .before .before .before .before .within .ensures) ∙ not-false _ (c .before .before .before .before .if1 .left)),
+)
 
 returns-4 : tie.Need-returns-4
 returns-4 c =

@@ -36,9 +36,11 @@ loop-less c = omega arith
 
 loop-again : tie.Need-loop-again Inv-loop μ-loop
 loop-again c =
-    let l = c .before .before .before in
-    (omega arith, name-further _ (l .before .loop .i) (l .before .loop .inv .1) (l .loop-test .taken) (c .before .name-byte .ensures)
-    (not-false _ (c .if1 .left)))
+    let l = c .before .before .before in (
+      omega arith,
+      name-further _ (l .before .loop .i) (l .before .loop .inv .1) (l .loop-test .taken) (c .before .name-byte .ensures)
+          (not-false _ (c .if1 .left)),
+    )
 
 returns-2 : tie.Need-returns-2 Inv-loop μ-loop
 returns-2 c = name-ended _ (c .before .loop .i) (c .before .loop .inv .1) (c .loop-test .left)

@@ -36,9 +36,11 @@ loop-less c = omega arith
 loop-again : tie.Need-loop-again Inv-loop μ-loop
 loop-again c =
     let l = c .before .before in
-    let b = l .before in
-    (omega arith, rw (← add-assoc (b .before .args .from) (b .loop .i) 1)
-    (letters-turn _ _ (b .loop .i) (b .before .args .from + b .loop .i) (b .loop .all) (l .loop-test .taken) (omega arith) (b .loop .inv .1)))
+    let b = l .before in (
+      omega arith,
+      rw (← add-assoc (b .before .args .from) (b .loop .i) 1)
+          (letters-turn _ _ (b .loop .i) (b .before .args .from + b .loop .i) (b .loop .all) (l .loop-test .taken) (omega arith) (b .loop .inv .1)),
+    )
 
 returns : tie.Need-returns Inv-loop μ-loop
 returns c = letters-end _ _ (c .before .loop .i) (c .before .loop .all) (c .loop-test .left) (c .before .loop .inv .1)
