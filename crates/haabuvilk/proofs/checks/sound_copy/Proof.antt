@@ -1,3 +1,4 @@
+-- Of a closed transaction nothing is asked; an open one's copy is its part of the copies.
 use mathlib.Core.Path.{sym, _∙_}
 use borrow.Author.Tests.{not-true, not-false}
 use Rattle.haabuvilk.proofs.CheckLaws.{copy-closed, copy-open, copy-part}

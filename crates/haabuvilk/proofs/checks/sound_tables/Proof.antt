@@ -1,3 +1,4 @@
+-- The nodes, the domains, the watches and transactions against the domains, and the copies against the transactions: all that is sound.
 use mathlib.Core.Path.{_≡_, sym, _∙_}
 use mathlib.Core.Bool.{true}
 use borrow.Author.Tests.{not-true, not-false}

@@ -1,3 +1,4 @@
+-- Sizes, soundness, sender and frame are tested in the rule book's order, and each has its number.
 use mathlib.Core.Path.{_≡_, sym, _∙_}
 use mathlib.Core.Bool.{true}
 use borrow.Author.Tests.{not-true, not-false}

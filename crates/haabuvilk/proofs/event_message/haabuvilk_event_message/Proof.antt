@@ -1,3 +1,4 @@
+-- A wrong size, an unsound table and a record with no message have their numbers and alter nothing; else the message is put.
 use mathlib.Core.Path.{_≡_, sym, _∙_}
 use mathlib.Core.Bool.{true}
 use borrow.Author.Tests.{not-true, not-false}

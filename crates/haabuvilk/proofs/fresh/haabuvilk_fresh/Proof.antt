@@ -1,3 +1,4 @@
+-- Tables of the right sizes become the root alone and zeros, which are the fresh store; a wrong size alters nothing.
 use mathlib.Core.Path.{_≡_, sym, _∙_}
 use mathlib.Core.Bool.{true}
 use borrow.Author.Tests.{not-true, not-false}

@@ -1,3 +1,4 @@
+-- The mark of a used slot, one entry, and zeros are the root with no value and the permission `n0`.
 use Rattle.haabuvilk.proofs.FreshLaws.{root-put}
 use borrow.Author.Needs.{needs}
 use Rattle.haabuvilk.proofs.fresh.root_only.Statement.{statement}

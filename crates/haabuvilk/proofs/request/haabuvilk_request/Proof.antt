@@ -1,4 +1,4 @@
--- The verdict turns away; what is handled is the outcome in its frame.
+-- The verdict turns away before anything but the results is written; what is handled leaves its outcome, and its reply in a frame.
 use mathlib.Core.Path.{sym, _∙_}
 use mathlib.Core.List.{[]}
 use native.Mathlib.Omega.{arith}

@@ -1,3 +1,4 @@
+-- A slot goes where its name belongs in the order, and slots are met from the last down, so the list is that of the children met so far.
 use mathlib.Core.Path.{sym, _∙_}
 use Prim.Native.Nat.{_-_, _%_}
 use native.Mathlib.Omega.{arith}

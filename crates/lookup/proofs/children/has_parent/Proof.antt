@@ -1,3 +1,4 @@
+-- A free slot has no parent; of a used one its parent decides.
 use mathlib.Core.Path.{sym, ap, _∙_}
 use Prim.Native.Nat.{ℕ}
 use lib.Dec.{eqb}

@@ -1,3 +1,4 @@
+-- None of the names before k comes after the slot's own, so it goes in before the first that does, or behind all.
 use mathlib.Core.Path.{_≡_, refl, sym, ap₂, _∙_}
 use mathlib.Core.List.{_++_}
 use Prim.Native.Nat.{_-_, _≤_}

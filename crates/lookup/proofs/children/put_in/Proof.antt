@@ -1,3 +1,4 @@
+-- Before each turn the slots from m on have moved up by one, and those before m are where they were.
 use mathlib.Core.Path.{_≡_, _∙_}
 use Prim.Native.Nat.{_+_, _-_, _≤_}
 use native.Mathlib.Omega.{arith}

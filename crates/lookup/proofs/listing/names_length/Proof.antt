@@ -1,3 +1,4 @@
+-- After k turns the sum is the length of the first k names with their nuls, and each is short.
 use mathlib.Core.Path.{_≡_, refl, ap, _∙_}
 use mathlib.Core.List.{flatMap}
 use Prim.Native.Nat.{ℕ, _*_, _-_, _≤_}

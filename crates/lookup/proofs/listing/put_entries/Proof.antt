@@ -1,3 +1,4 @@
+-- After k turns the texts of the first k entries stand one behind the other; there are four at most and each is short, so there is room.
 use mathlib.Core.Path.{_≡_, ap, _∙_}
 use Prim.Native.Nat.{suc, _≤_, _-_}
 use native.Mathlib.Omega.{arith}

@@ -1,3 +1,4 @@
+-- The letter, the decimal behind it and the nul behind that are the entry's text.
 use native.Mathlib.Omega.{arith}
 use mathlib.Core.Path.{_∙_}
 use lib.ListN.{length-set}

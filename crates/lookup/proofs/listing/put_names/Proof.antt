@@ -1,3 +1,4 @@
+-- After k turns the first k names with their nuls stand one behind the other, and the rest of the list has the room that is left.
 use mathlib.Core.Path.{_≡_, sym, ap, _∙_}
 use mathlib.Core.List.{_++_, flatMap}
 use Prim.Native.Nat.{ℕ, _+_, _-_, _≤_}

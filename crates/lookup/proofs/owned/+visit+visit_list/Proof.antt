@@ -1,3 +1,4 @@
+-- A node that the domain owns is entered alone; of any other its children are walked in the order of names, one level less deep.
 use mathlib.Core.Path.{_≡_, refl, sym, ap, _∙_}
 use Prim.Native.Nat.{ℕ, _<_, _+_, _*_, _-_, _%_}
 use native.Mathlib.Omega.{arith}

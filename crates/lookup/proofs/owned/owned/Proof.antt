@@ -1,3 +1,4 @@
+-- The walk begins at the root; the levels are those of the deepest path, and the nodes no more than the slots.
 use mathlib.Core.Path.{_∙_}
 use native.Mathlib.Omega.{arith}
 use borrow.Author.Needs.{needs}

@@ -1,3 +1,4 @@
+-- A free slot is nobody's child; of a used one parent and name decide.
 use Rattle.rules.specs.Octets.{Octets, same}
 use Rattle.rules.specs.Layout.{tableOf}
 use mathlib.Core.Path.{sym, ap, _∙_}

@@ -1,3 +1,4 @@
+-- The names passed lead from the root to the slot, so the names left lead on from there.
 use mathlib.Core.Path.{_≡_, sym, ap, _∙_}
 use mathlib.Core.Bool.{true}
 use Prim.Native.Nat.{_<_, _-_}

@@ -1,4 +1,4 @@
--- The control domain, else the owner, else the first entry that names the domain.
+-- The control domain and the owner have every access; for any other the later entries decide, and else the first entry's access.
 use mathlib.Core.Path.{sym, ap, _∙_}
 use Prim.Native.Nat.{ℕ}
 use Rattle.rules.specs.Node.{Entry, nodeAt}

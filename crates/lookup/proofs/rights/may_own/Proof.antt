@@ -1,4 +1,4 @@
--- The control domain, else the owner.
+-- The control domain owns every node; for any other its owner decides.
 use lib.Dec.{eqb}
 use borrow.Author.Needs.{needs}
 use Rattle.rules.specs.Node.{Entry}

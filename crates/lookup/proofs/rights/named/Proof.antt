@@ -1,3 +1,4 @@
+-- No later entry before k names the domain, so those from k on decide.
 use mathlib.Core.Path.{_≡_, refl, sym, _∙_}
 use Prim.Native.Nat.{_≤_, _-_, suc}
 use native.Mathlib.Omega.{arith}

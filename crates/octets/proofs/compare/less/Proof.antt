@@ -1,4 +1,4 @@
--- `less` meets its contract. The loop's invariant: the bytes from i on decide.
+-- The bytes before i agree, so those from i on decide; a text that ends first comes first.
 use mathlib.Core.Path.{_≡_, refl, sym, _∙_}
 use Prim.Native.Nat.{_≤_, _-_}
 use native.Mathlib.Omega.{arith}

@@ -1,3 +1,4 @@
+-- The two pieces lie within what is behind the text and leave no byte of it out, so all of it is zero if both are.
 use mathlib.Core.Path.{sym, ap, _∙_}
 use Prim.Native.Nat.{_/_}
 use native.Mathlib.Omega.{arith}

@@ -1,4 +1,4 @@
--- `same` meets its contract. The loop's invariant: the differences gathered so far, and the bytes from i on, decide.
+-- The xor of two bytes is 0 where they agree, and the or of the xors is 0 where all of them do; texts of two lengths differ.
 use mathlib.Core.Path.{_≡_, refl, sym}
 use mathlib.Core.Bool.{_&&_}
 use Prim.Native.Nat.{_≤_, _-_}

@@ -1,5 +1,5 @@
+-- The bytes before i are digits, so those from i on decide.
 use Rattle.rules.proofs.Decimals.{low-digit, high-digit}
--- `all_digits` meets its contract. The loop's invariant: the bytes from i on decide.
 use mathlib.Core.Path.{_≡_, refl, sym, _∙_}
 use Prim.Native.Nat.{_≤_, _-_}
 use native.Mathlib.Omega.{arith}

@@ -1,4 +1,4 @@
--- `decimal` meets its contract: a plain decimal of up to 20 digits is its first ones and the last.
+-- More than 20 digits are past 64 bits; of up to 20, the value of all but the last leaves room for the last digit or does not.
 use mathlib.Core.Path.{_≡_, sym, _∙_}
 use mathlib.Core.Bool.{true}
 use Prim.Native.Nat.{_+_, _*_, _-_, _≤_}

@@ -1,4 +1,4 @@
--- `number_in` meets its contract: the decimal's answer tells.
+-- A decimal that is malformed or too large is no number of any range within 64 bits; of any other the range decides.
 use mathlib.Core.Path.{sym, _∙_}
 use Rattle.octets.proofs.Ranges.{told}
 use borrow.Author.Needs.{needs}

@@ -1,4 +1,4 @@
--- `value` meets its contract. The loop's invariant: n is the value of the first i digits, and those from i on are still to be read.
+-- After i turns n is the value of the first i digits, which is below 10 ^ i and so within 64 bits.
 use mathlib.Core.Path.{_≡_, refl, _∙_}
 use Prim.Native.Nat.{_≤_, _<_, _-_, _^_}
 use native.Mathlib.Omega.{arith}

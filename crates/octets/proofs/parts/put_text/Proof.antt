@@ -1,3 +1,4 @@
+-- The zeros behind the text and the text before them are the padded text.
 use mathlib.Core.Path.{sym, ap, _∙_}
 use native.Mathlib.Omega.{arith}
 use borrow.Author.Needs.{needs}

@@ -1,3 +1,4 @@
+-- A state tells what kind of text was read; its length, or the event's name, decides.
 use mathlib.Core.Path.{sym, _∙_}
 use mathlib.Core.Logic.{inl, inr}
 use borrow.Author.Needs.{needs}

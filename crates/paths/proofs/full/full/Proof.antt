@@ -1,4 +1,4 @@
--- a number has at most 20 digits
+-- The base's text, the domain's decimal, a slash and the path stand one behind the other; a decimal has 20 digits at most, so there is room.
 use mathlib.Core.Path.{_∙_}
 use Prim.Native.Nat.{_≤_}
 use native.Mathlib.Omega.{arith}

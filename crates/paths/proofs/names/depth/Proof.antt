@@ -1,4 +1,4 @@
--- The slashes passed, and those to come.
+-- A full path other than the root has a slash before each name; those passed and those to come are counted.
 use mathlib.Core.Path.{_≡_}
 use mathlib.Core.Logic.{⊎-elim}
 use Prim.Native.Nat.{_+_, _≤_, _-_}

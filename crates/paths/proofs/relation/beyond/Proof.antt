@@ -1,3 +1,4 @@
+-- All paths are below the root; of any other a path is itself, below it by the names behind its text and a slash, or neither.
 use mathlib.Core.Path.{sym, _∙_}
 use native.Mathlib.Omega.{arith}
 use Rattle.paths.proofs.RelationLaws.{levels-root, levels-same, longer, rest-full, levels-reach, levels-not}

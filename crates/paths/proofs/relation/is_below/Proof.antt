@@ -1,3 +1,4 @@
+-- All but the root lie below the root; below any other lies what goes on with a slash behind its text.
 use mathlib.Core.Path.{sym, _∙_}
 use borrow.Author.Needs.{needs}
 use Rattle.paths.proofs.RelationLaws.{below-short, below-root, below-other}

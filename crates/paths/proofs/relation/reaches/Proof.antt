@@ -1,3 +1,4 @@
+-- The text and a slash begin the other if the text does and the byte behind it is a slash.
 use mathlib.Core.Path.{_∙_}
 use borrow.Author.Needs.{needs}
 use Rattle.paths.proofs.RelationLaws.{reach-short, reach-other, reach-slash}

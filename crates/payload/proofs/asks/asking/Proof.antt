@@ -1,4 +1,4 @@
--- By the path, and on the root by the ask.
+-- The root is asked only what it is open to; any other path is asked everything.
 use mathlib.Core.Path.{sym, _∙_}
 use borrow.Author.Tests.{not-true, not-false}
 use Rattle.payload.specs.Answers.{askingOf}

@@ -1,4 +1,4 @@
--- A path alone, if it is one.
+-- The payload is one string, and that a path; anything else is malformed.
 use mathlib.Core.Path.{sym, _∙_}
 use mathlib.Core.List.{[], _∷_}
 use types.Run.{miss}

@@ -1,4 +1,4 @@
--- Three strings, each read in its turn.
+-- The payload is three strings, each a number within its range: a domain, a page and a channel.
 use mathlib.Core.Path.{_≡_, ap, sym, _∙_}
 use mathlib.Core.List.{[], _∷_}
 use types.Run.{miss}

@@ -1,4 +1,4 @@
--- A domain id alone, if it is one.
+-- The payload is one string, and that a domain id within the type's range.
 use mathlib.Core.Path.{_≡_, ap, sym, _∙_}
 use mathlib.Core.List.{[], _∷_}
 use types.Run.{miss}

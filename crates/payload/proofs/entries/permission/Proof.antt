@@ -1,4 +1,4 @@
--- By the letter and the number.
+-- The first byte is the access's letter, and what is behind it the domain id.
 use mathlib.Core.Path.{refl, ap, sym, _∙_}
 use mathlib.Core.Logic.{inl, inr}
 use mathlib.Core.Option.{none}

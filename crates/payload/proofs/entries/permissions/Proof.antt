@@ -1,3 +1,4 @@
+-- The entries of the strings passed, and those of the strings to come, are the entries of all.
 use Rattle.payload.specs.Answers.{permissionMeant}
 -- What is kept so far, and the strings that are left, decide.
 use mathlib.Core.Path.{_≡_, ap, sym, _∙_}

@@ -1,4 +1,4 @@
--- What the cursor finds after the first string tells.
+-- What the cursor finds behind the first string is a second one, the end, or bytes left over.
 use mathlib.Core.Path.{_≡_, ap, sym, _∙_}
 use Prim.Native.Nat.{_+_}
 use native.Mathlib.Omega.{arith}

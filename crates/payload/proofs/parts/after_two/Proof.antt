@@ -1,4 +1,4 @@
--- What the cursor finds, and then finds again, tells how many strings there are.
+-- Behind two strings is the end or a third; behind a third nothing more may stand.
 use mathlib.Core.Path.{_≡_, ap, sym, _∙_}
 use Prim.Native.Nat.{_+_}
 use Rattle.payload.specs.Cursor.{takenAt}

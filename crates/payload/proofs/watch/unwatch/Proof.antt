@@ -1,4 +1,4 @@
--- Two strings, of which the first is a path.
+-- The payload is two strings, of which the first is a path or an event's name.
 use mathlib.Core.Path.{sym, _∙_}
 use mathlib.Core.List.{[], _∷_}
 use types.Run.{miss}

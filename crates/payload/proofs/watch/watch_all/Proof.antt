@@ -1,4 +1,4 @@
--- By the path's form.
+-- The first string is a path or an event's name, and with no depth given there is none to test.
 use mathlib.Core.Path.{sym, _∙_}
 use Rattle.payload.proofs.WatchLaws.{watch-all-not, watch-all-means}
 use borrow.Author.Needs.{needs}

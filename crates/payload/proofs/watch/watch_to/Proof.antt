@@ -1,4 +1,4 @@
--- By the path's form and the depth.
+-- The first string is a path or an event's name and the third a depth, which has to suit it.
 use mathlib.Core.Path.{_≡_, ap, sym, _∙_}
 use Prim.Native.Nat.{_+_}
 use native.Mathlib.Omega.{arith}

@@ -1,3 +1,4 @@
+-- The payload is behind the header already, or the error's name is put there, and the header goes before it.
 use Prim.Native.Nat.{ℕ}
 use Rattle.rules.specs.Call.{typeOf}
 use Rattle.replies.specs.Framed.{header}

@@ -1,3 +1,4 @@
+-- The type, the two numbers that are copied and the length stand one behind the other.
 use mathlib.Core.Path.{refl}
 use Rattle.replies.proofs.FrameLaws.{header-put}
 use borrow.Author.Needs.{needs}

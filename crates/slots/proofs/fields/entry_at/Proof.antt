@@ -1,3 +1,4 @@
+-- An entry is 18 bits, and the three bytes from twice its place on hold them all, the later an entry the lower.
 use native.Mathlib.Omega.{arith}
 use Rattle.slots.proofs.Reading.{entry-read}
 use borrow.Author.Needs.{needs}

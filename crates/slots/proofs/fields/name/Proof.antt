@@ -1,3 +1,4 @@
+-- The name is as many bytes of its field as its length says, and that length is within the field.
 use Rattle.slots.proofs.Reading.{name-part}
 use borrow.Author.Needs.{needs}
 use Rattle.slots.proofs.fields.name.Statement.{statement}

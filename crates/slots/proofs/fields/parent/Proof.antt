@@ -1,3 +1,4 @@
+-- In a used slot the first byte is the mark, 128, and the parent's seven bits.
 use Rattle.octets.proofs.Bytes.{bytes-known}
 use Rattle.slots.proofs.Reading.{parent-byte}
 use borrow.Author.Needs.{needs}

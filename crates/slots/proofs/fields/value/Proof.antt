@@ -1,3 +1,4 @@
+-- The value is as many bytes of its field as its length says, and that length is within the field.
 use Rattle.slots.proofs.Reading.{value-part}
 use borrow.Author.Needs.{needs}
 use Rattle.slots.proofs.fields.value.Statement.{statement}

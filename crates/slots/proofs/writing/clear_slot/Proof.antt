@@ -1,3 +1,4 @@
+-- The bytes of a free slot are zeros, and the other slots keep theirs.
 use borrow.Author.Needs.{needs}
 use Rattle.slots.proofs.Put.{free-put}
 use Rattle.slots.proofs.writing.clear_slot.Statement.{statement}

@@ -1,3 +1,4 @@
+-- A canonical slot holds the entries that it means, and 0 past their count.
 use native.Mathlib.Omega.{arith}
 use borrow.Author.Needs.{needs}
 use Rattle.slots.proofs.Numbers.{entry-small, stored-at, stored-past}

@@ -1,3 +1,4 @@
+-- The entries that are given are the first `count` of the arrays, each within its 18 bits; past them there is none.
 use native.Mathlib.Omega.{arith}
 use borrow.Author.Needs.{needs}
 use Rattle.slots.proofs.Numbers.{given-at, given-past}

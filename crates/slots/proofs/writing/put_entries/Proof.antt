@@ -1,3 +1,4 @@
+-- The entries and the fields with their count are written, and the name and the value stay, so the slot means the node with other entries.
 use native.Mathlib.Omega.{arith}
 use borrow.Author.Needs.{needs}
 use Rattle.slots.proofs.Numbers.{owner-fits, others-fit, others-many}

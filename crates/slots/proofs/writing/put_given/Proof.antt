@@ -1,3 +1,4 @@
+-- The four numbers are those of the entries that are given, and 0 for those that are not.
 use native.Mathlib.Omega.{arith}
 use borrow.Author.Needs.{needs}
 use Rattle.slots.proofs.Numbers.{entries-at, others-many}

@@ -1,3 +1,4 @@
+-- An heir has its parent's entries, but for the owner's domain, which is `inherited`'s.
 use Prim.Native.Nat.{_+_, _*_}
 use borrow.Author.Needs.{needs}
 use Rattle.rules.specs.Size.{slotSize, fieldsSize}

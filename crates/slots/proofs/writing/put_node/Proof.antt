@@ -1,3 +1,4 @@
+-- Entries, name, value and fields are all the bytes of the slot, and they are those of the new node.
 use native.Mathlib.Omega.{arith}
 use borrow.Author.Needs.{needs}
 use Rattle.slots.proofs.Put.{count-small, new-put}

@@ -1,3 +1,4 @@
+-- The value and the fields with its length are written, and the name and the entries stay, so the slot means the node with another value.
 use native.Mathlib.Omega.{arith}
 use borrow.Author.Needs.{needs}
 use Rattle.slots.proofs.Put.{name-small, count-small, value-put}

@@ -1,3 +1,4 @@
+-- A slot's way to the root is its parent's and one step more, and its text the parent's with a slash and its name behind it.
 use mathlib.Core.Path.{_≡_, sym, ap, _∙_}
 use native.Mathlib.Nat.{pos-of-ne-zero}
 use native.Mathlib.Omega.{arith}

@@ -1,3 +1,4 @@
+-- The slots before i reach the root in time, and what is known of them is the length of their ways.
 use mathlib.Core.Path.{_≡_, refl, sym, _∙_}
 use mathlib.Core.Logic.{⊎-elim}
 use Prim.Native.Nat.{_≤_, _-_}

@@ -1,3 +1,4 @@
+-- In a sound table the way reaches the root, so the walk puts the whole path; the root's is a slash.
 use native.Mathlib.Nat.{pos-of-ne-zero}
 use native.Mathlib.Omega.{arith}
 use Rattle.soundness.proofs.PathTexts.{nothing-lent, used-below, used-reaches, root-put, never-lost, path-put}

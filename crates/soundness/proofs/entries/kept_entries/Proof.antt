@@ -1,3 +1,4 @@
+-- The count tells how many entries there are; the domains of those, and the bits past them, decide.
 use mathlib.Core.Path.{refl, sym, _∙_}
 use Prim.Native.Nat.{_+_, _*_}
 use native.Mathlib.Omega.{arith}

@@ -1,3 +1,4 @@
+-- The first 18 bits of the nine bytes are the entry; the tests are of its domain and of all that is behind it.
 use mathlib.Core.Path.{refl, _∙_}
 use Prim.Native.Nat.{_+_}
 use native.Mathlib.Omega.{arith}

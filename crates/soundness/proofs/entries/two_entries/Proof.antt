@@ -1,3 +1,4 @@
+-- The first 36 bits of the nine bytes are the entries; the tests are of their domains and of all that is behind them.
 use mathlib.Core.Path.{ap, _∙_}
 use Prim.Native.Nat.{ℕ, _+_}
 use native.Mathlib.Omega.{arith}

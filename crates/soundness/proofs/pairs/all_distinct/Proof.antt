@@ -1,3 +1,4 @@
+-- Of two siblings with one name the later finds the earlier's key among those met, so no pair that is passed over has one name.
 use Rattle.rules.specs.Size.{slots}
 use Rattle.slots.specs.Slot.{slotAt}
 use Rattle.soundness.proofs.KeyLaws.{key-used}

@@ -1,3 +1,4 @@
+-- A name of two bytes or more has all the bytes that the digest takes; a shorter one is told apart by its length.
 use Prim.Native.Nat.{_-_}
 use native.Mathlib.Omega.{arith}
 use lib.ListN.{length}

@@ -1,3 +1,4 @@
+-- The parent and the name's digest are the key's parts, and a parent is below 128, so the key fits 16 bits.
 use mathlib.Core.Path.{sym, _∙_, ap}
 use native.Mathlib.Omega.{arith}
 use lib.ListN.{length}

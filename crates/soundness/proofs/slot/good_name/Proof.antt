@@ -1,3 +1,4 @@
+-- The root has no name and zeros in its place; any other slot has a name, with zeros behind it.
 use native.Mathlib.Omega.{arith}
 use Rattle.soundness.proofs.SlotLaws.{sizes-of}
 use Rattle.soundness.proofs.KeptNames.{other-kept, root-named, root-kept}

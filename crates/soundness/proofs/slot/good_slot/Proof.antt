@@ -1,3 +1,4 @@
+-- A used slot is good by its parts; a free one is zeros, and the root's is used.
 use mathlib.Core.Path.{sym, _∙_}
 use Rattle.octets.proofs.Bytes.{bytes-known}
 use Rattle.soundness.proofs.SlotLaws.{unused-root, unused-other}

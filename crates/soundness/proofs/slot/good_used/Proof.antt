@@ -1,3 +1,4 @@
+-- Lengths, entries, value and name, each with what is behind it, are all the bytes of the slot.
 use mathlib.Core.Path.{sym, _∙_}
 use borrow.Author.Tests.{not-true, not-false}
 use Rattle.octets.proofs.Bytes.{bytes-known}

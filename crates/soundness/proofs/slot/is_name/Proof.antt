@@ -1,3 +1,4 @@
+-- The bytes before i are a name's, so those from i on decide; an empty text is no name.
 use mathlib.Core.Path.{_≡_, refl}
 use Prim.Native.Nat.{_≤_, _-_}
 use native.Mathlib.Omega.{arith}

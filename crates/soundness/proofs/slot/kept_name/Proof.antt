@@ -1,3 +1,4 @@
+-- The name and what stands behind it are the whole field; one in its first half is `short_name`'s.
 use mathlib.Core.Path.{sym, _∙_}
 use borrow.Author.Tests.{not-true, not-false}
 use Rattle.soundness.proofs.KeptNames.{long-fault, long-name}

@@ -1,3 +1,4 @@
+-- Small letters with zeros behind them are a name with zeros behind it; of any other text the bytes and what is behind them decide.
 use mathlib.Core.Path.{sym, _∙_}
 use borrow.Author.Tests.{not-true, not-false}
 use Rattle.soundness.proofs.KeptNames.{no-name, second-fault, small-name, first-fault, short-name}

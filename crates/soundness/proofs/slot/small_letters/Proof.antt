@@ -1,3 +1,4 @@
+-- Each byte is held against its own last; those gathered so far, and those from i on, decide.
 use mathlib.Core.Path.{_≡_, refl}
 use mathlib.Core.Bool.{_&&_}
 use Prim.Native.Nat.{_+_, _-_, _≤_}

@@ -1,3 +1,4 @@
+-- The tests are those of the sizes, in their order.
 use Prim.Native.Nat.{ℕ}
 use lib.Dec.{leb}
 use Rattle.rules.specs.Size.{longestName, longestValue}

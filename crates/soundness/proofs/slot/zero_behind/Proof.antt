@@ -1,3 +1,4 @@
+-- The value's length is within its field, so what is behind it lies in the field.
 use mathlib.Core.Path.{ap, _∙_}
 use Prim.Native.Nat.{ℕ, _+_, _*_}
 use native.Mathlib.Omega.{arith}

@@ -1,3 +1,4 @@
+-- The two tests are those of the root: its parent and its owner.
 use mathlib.Core.Path.{_∙_}
 use Rattle.soundness.proofs.TableLaws.{root-parent, root-owner}
 use borrow.Author.Needs.{needs}

@@ -1,3 +1,4 @@
+-- Good slots have names within the size, which the walks and the pairs need; the tests together are the rule book's.
 use mathlib.Core.Path.{sym, _∙_}
 use borrow.Author.Tests.{not-true, not-false}
 use Rattle.octets.proofs.Bytes.{bytes-known}
