@@ -58,8 +58,8 @@ sub-if3 c = omega (arith, last (c .before .before .before .before))
 
 returns-3 : tie.Need-returns-3
 returns-3 c =
-    let p = c .before .before .before .before .before in
-    large _ (plain p) (omega (arith, last p, c .before .before .value .ensures))
+    let test = c .before .before .before .before .before in
+    large _ (plain test) (omega (arith, last test, c .before .before .value .ensures))
 
 mul-t13 : tie.Need-mul-t13
 mul-t13 c = search needs
@@ -69,10 +69,10 @@ add-t14 c = omega (arith, last (c .before .before .before .before .before))
 
 returns-4 : tie.Need-returns-4
 returns-4 c =
-    let p = c .before .before .before .before .before in
-    let known = last p in
+    let test = c .before .before .before .before .before in
+    let known = last test in
     let first = c .before .before .value .ensures in
-    valued _ _ (plain p) (omega arith) (omega arith)
+    valued _ _ (plain test) (omega arith) (omega arith)
 
 pub decimal-spec : {M : Type 1} → statement M
 decimal-spec =

@@ -34,13 +34,11 @@ loop-less c = omega arith
 
 loop-again : tie.Need-loop-again Inv-loop μ-loop
 loop-again c =
-    let p = c .before .before .before in
-    let s = p .before .before .args .s .now in
+    let at-loop = c .before .before .before in
+    let s = at-loop .before .before .args .s .now in
     let h = c .before .before .loop-test .taken in
-    ⊎-elim
-    (λ w. omega (arith, slash-here s (p .loop .i) h (w .0 .taken)))
-    (λ w. omega (arith, no-slash-here s (p .loop .i) h (w .0 .left)))
-    (c .if2 .came)
+    ⊎-elim (λ w. omega (arith, slash-here s (at-loop .loop .i) h (w .0 .taken)))
+    (λ w. omega (arith, no-slash-here s (at-loop .loop .i) h (w .0 .left))) (c .if2 .came)
 
 returns-2 : tie.Need-returns-2 Inv-loop μ-loop
 returns-2 c =

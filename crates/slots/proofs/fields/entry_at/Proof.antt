@@ -26,8 +26,9 @@ parted-requires c κs = search needs
 returns : tie.Need-returns
 returns c =
     let start = c .before .before .before .before in
+    let args = start .args in
     let got = c .before .before .three in
-    entry-read (start .args .t .now) (got .ensures .bytes) (start .pre .1) (start .args .i) (start .pre .0) (start .args .k) 0 (omega arith)
+    entry-read (args .t .now) (got .ensures .bytes) (start .pre .1) (args .i) (start .pre .0) (args .k) 0 (omega arith)
     (omega arith) (got .result) (c .parted .result .access) (c .parted .result .domain) (got .ensures .value)
     (omega (arith, c .parted .ensures)) (omega (arith, c .parted .ensures))
 
@@ -37,8 +38,9 @@ parted-requires-2 c κs = search needs
 returns-2 : tie.Need-returns-2
 returns-2 c =
     let start = c .before .before .before .before .before in
+    let args = start .args in
     let got = c .before .before .before .three in
-    entry-read (start .args .t .now) (got .ensures .bytes) (start .pre .1) (start .args .i) (start .pre .0) (start .args .k) 1 (omega arith)
+    entry-read (args .t .now) (got .ensures .bytes) (start .pre .1) (args .i) (start .pre .0) (args .k) 1 (omega arith)
     (omega arith) (got .result) (c .parted2 .result .access) (c .parted2 .result .domain) (got .ensures .value)
     (omega (arith, c .parted2 .ensures)) (omega (arith, c .parted2 .ensures))
 
@@ -47,9 +49,11 @@ parted-requires-3 c κs = search needs
 
 returns-3 : tie.Need-returns-3
 returns-3 c =
-    let start = c .before .before .before .before .before .before in
-    let got = c .before .before .before .before .three in
-    entry-read (start .args .t .now) (got .ensures .bytes) (start .pre .1) (start .args .i) (start .pre .0) (start .args .k) 2 (omega arith)
+    let at-three = c .before .before .before .before in
+    let start = at-three .before .before in
+    let args = start .args in
+    let got = at-three .three in
+    entry-read (args .t .now) (got .ensures .bytes) (start .pre .1) (args .i) (start .pre .0) (args .k) 2 (omega arith)
     (omega arith) (got .result) (c .parted3 .result .access) (c .parted3 .result .domain) (got .ensures .value)
     (omega (arith, c .parted3 .ensures)) (omega (arith, c .parted3 .ensures))
 
@@ -58,9 +62,11 @@ parted-requires-4 c κs = search needs
 
 returns-4 : tie.Need-returns-4
 returns-4 c =
-    let start = c .before .before .before .before .before .before in
-    let got = c .before .before .before .before .three in
-    entry-read (start .args .t .now) (got .ensures .bytes) (start .pre .1) (start .args .i) (start .pre .0) (start .args .k) 3 (omega arith)
+    let at-three = c .before .before .before .before in
+    let start = at-three .before .before in
+    let args = start .args in
+    let got = at-three .three in
+    entry-read (args .t .now) (got .ensures .bytes) (start .pre .1) (args .i) (start .pre .0) (args .k) 3 (omega arith)
     (omega arith) (got .result) (c .parted4 .result .access) (c .parted4 .result .domain) (got .ensures .value)
     (omega (arith, c .parted4 .ensures)) (omega (arith, c .parted4 .ensures))
 

@@ -41,31 +41,31 @@ mul-if1-2 : tie.Need-mul-if1-2
 mul-if1-2 c = omega (arith, c .shared-slice-known4 .given (c .before .before .before .before .args .at + 1))
 
 add-if1 : tie.Need-add-if1
-add-if1 c = omega (
-  arith,
-  c .shared-slice-known4 .given (c .before .before .before .before .args .at),
-  c .shared-slice-known4 .given (c .before .before .before .before .args .at + 1),
-)
+add-if1 c =
+    let args = c .before .before .before .before .args in
+    omega (arith, c .shared-slice-known4 .given (args .at), c .shared-slice-known4 .given (args .at + 1))
 
 add-if1-2 : tie.Need-add-if1-2
-add-if1-2 c = omega (
-  arith,
-  c .shared-slice-known4 .given (c .before .before .before .before .args .at),
-  c .shared-slice-known4 .given (c .before .before .before .before .args .at + 1),
-  c .shared-slice-known4 .given (c .before .before .before .before .args .at + 2),
-)
+add-if1-2 c =
+    let args = c .before .before .before .before .args in
+    omega (
+      arith,
+      c .shared-slice-known4 .given (args .at),
+      c .shared-slice-known4 .given (args .at + 1),
+      c .shared-slice-known4 .given (args .at + 2),
+    )
 
 returns : tie.Need-returns
 returns c =
-    let b = c .before .before .before .before .before in
-    let t = b .args .t .now in
-    entry-high t (bytes-known t (c .before .shared-slice-known4 .given)) (b .args .at) (b .pre) (c .if1 .taken)
+    let start = c .before .before .before .before .before in
+    let t = start .args .t .now in
+    entry-high t (bytes-known t (c .before .shared-slice-known4 .given)) (start .args .at) (start .pre) (c .if1 .taken)
 
 returns-2 : tie.Need-returns-2
 returns-2 c =
-    let b = c .before .before .before .before .before .before in
-    let t = b .args .t .now in
-    entry-bits t (bytes-known t (c .before .before .shared-slice-known4 .given)) (b .args .at) (b .pre) (c .if2 .taken)
+    let start = c .before .before .before .before .before .before in
+    let t = start .args .t .now in
+    entry-bits t (bytes-known t (c .before .before .shared-slice-known4 .given)) (start .args .at) (start .pre) (c .if2 .taken)
 
 add-four : tie.Need-add-four
 add-four c = search needs
@@ -75,13 +75,13 @@ four-requires c κs = search needs
 
 returns-3 : tie.Need-returns-3
 returns-3 c =
-    let test = c .before .before in
-    let reads = test .before .before in
+    let test2 = c .before .before in
+    let reads = test2 .before .before in
     let start = reads .before .before .before .before in
     let t = start .args .t .now in
     stop _ (ne-eqb _ 0 (c .if3 .taken))
     ∙ entry-rest t (bytes-known t (reads .shared-slice-known4 .given)) (start .args .at) (start .pre) _ _ (c .before .four .ensures) refl
-    (test .before .if1 .left) (test .if2 .left)
+    (test2 .before .if1 .left) (test2 .if2 .left)
 
 add-two : tie.Need-add-two
 add-two c = search needs
@@ -92,13 +92,14 @@ two-requires c κs = search needs
 returns-4 : tie.Need-returns-4
 returns-4 c =
     let at-four = c .before .before in
-    let test = at-four .before in
-    let reads = test .before .before in
+    let test2 = at-four .before in
+    let test1 = test2 .before in
+    let reads = test1 .before in
     let start = reads .before .before .before .before in
     let t = start .args .t .now in
     pass (eq-eqb (at-four .four .result) 0 (c .before .if3 .left)) refl
     ∙ entry-rest t (bytes-known t (reads .shared-slice-known4 .given)) (start .args .at) (start .pre) _ _ (at-four .four .ensures) (c .two .ensures .value)
-    (test .before .if1 .left) (test .if2 .left)
+    (test1 .if1 .left) (test2 .if2 .left)
 
 pub lone-entry-spec : {M : Type 1} → statement M
 lone-entry-spec =
