@@ -12,7 +12,16 @@ use Rattle.rules.specs.Size.{tableSize, copiesSize, watchesSize, transactionsSi
 use Rattle.rules.specs.Octets.{Octets, paste, padded, bigEndian, packFrom, pack}
 use Rattle.rules.specs.Node.{root, freshTable}
 use Rattle.rules.specs.Layout.{
-  entryBits, nodeBits, slotBytes, tableBytes, domainBytes, domainsBytes, watchBytes, watchesBytes, transactionBytes, transactionsBytes,
+  entryBits,
+  nodeBits,
+  slotBytes,
+  tableBytes,
+  domainBytes,
+  domainsBytes,
+  watchBytes,
+  watchesBytes,
+  transactionBytes,
+  transactionsBytes,
 }
 use Rattle.rules.specs.World.{freshWorld}
 use Rattle.rules.specs.Call.{Tables, callNumber, sizedTables, tablesOf, freshCall}
@@ -85,8 +94,12 @@ fresh-tables : tablesOf freshWorld
     ≡ tables (tableBytes freshTable) (replicate copiesSize 0) (replicate watchesSize 0) (replicate transactionsSize 0) (replicate domainsSize 0)
 unfolding tablesOf freshWorld watchesBytes transactionsBytes domainsBytes watchBytes transactionBytes domainBytes
 fresh-tables =
-    rw (zeros (λ (copy : Octets). copy) (replicate tableSize 0) tableSize refl 3, zeros watchBytes none watchSize refl 16,
-    zeros transactionBytes none transactionSize refl 3, zeros domainBytes none domainSize refl 8)
+    rw (
+      zeros (λ (copy : Octets). copy) (replicate tableSize 0) tableSize refl 3,
+      zeros watchBytes none watchSize refl 16,
+      zeros transactionBytes none transactionSize refl 3,
+      zeros domainBytes none domainSize refl 8,
+    )
     refl
 
 pub fresh-done : (t : Tables) {n c w x d : Octets} → sizedTables t ≡ true → n ≡ tableBytes freshTable → c ≡ replicate (length (t .copies)) 0

@@ -20,8 +20,32 @@ use Rattle.rules.specs.Layout.{domainsOf, recordBytes}
 use Rattle.rules.specs.Sound.{known}
 use Rattle.rules.specs.World as W
 use Rattle.rules.specs.Call.{
-  Verdict, handled, wrongSize, unsound, stranger, broken, overlong, noEvent, callNumber, isHandled, Tables, sizedTables, sound, worldOf, typeOf, txOf,
-  lenOf, payloadOf, frameVerdict, requestVerdict, outcomeOf, outcome, turnedAway, delivered, requestBy, requestCall,
+  Verdict,
+  handled,
+  wrongSize,
+  unsound,
+  stranger,
+  broken,
+  overlong,
+  noEvent,
+  callNumber,
+  isHandled,
+  Tables,
+  sizedTables,
+  sound,
+  worldOf,
+  typeOf,
+  txOf,
+  lenOf,
+  payloadOf,
+  frameVerdict,
+  requestVerdict,
+  outcomeOf,
+  outcome,
+  turnedAway,
+  delivered,
+  requestBy,
+  requestCall,
 }
 use Rattle.rules.proofs.Compare.{both-true}
 use Rattle.rules.proofs.Fields.{length-big}

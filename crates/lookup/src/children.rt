@@ -1,12 +1,12 @@
 // The children of a slot, in the byte order of their names.
 ghost use mathlib.Core.Path.{_≡_};
 ghost use mathlib.Core.Bool.{true};
-ghost use mathlib.Core.List.{_∷_, _++_};
+ghost use mathlib.Core.List.{_∷_};
 ghost use Prim.Native.Nat.{_-_, _≤_, _<_};
 ghost use lib.ListN.{length, take, drop};
 ghost use Rattle.rules.specs.Size.{slots};
 ghost use Rattle.rules.specs.Octets.{paste, less};
-ghost use Rattle.rules.specs.Node.{nodeAt, insert, children, hasParent};
+ghost use Rattle.rules.specs.Node.{children, hasParent};
 ghost use Rattle.rules.specs.Layout.{tableOf};
 ghost use Rattle.rules.specs.Sound.{soundTable};
 ghost use Rattle.slots.specs.Slot.{slotAt};

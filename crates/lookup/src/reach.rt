@@ -2,7 +2,6 @@
 ghost use mathlib.Core.Path.{_≡_};
 ghost use mathlib.Core.Bool.{true};
 ghost use Prim.Native.Nat.{_<_};
-ghost use lib.ListN.{length};
 ghost use Rattle.rules.specs.Size.{slots};
 ghost use Rattle.rules.specs.Path.{isFull};
 ghost use Rattle.rules.specs.Node.{isChild, child};

@@ -2,12 +2,9 @@
 ghost use mathlib.Core.Path.{_≡_};
 ghost use mathlib.Core.Bool.{true};
 ghost use Prim.Native.Nat.{_<_};
-ghost use Rattle.rules.specs.Size.{slots};
 ghost use Rattle.rules.specs.Node.{nodeAt};
 ghost use Rattle.rules.specs.Rights.{accessOf, named, mayRead, mayWrite, mayOwn};
 ghost use Rattle.rules.specs.Layout.{tableOf};
-ghost use Rattle.rules.specs.Sound.{soundTable};
-ghost use Rattle.slots.specs.Slot.{slotAt, isUsed};
 ghost use Rattle.lookup.specs.Rights.{Asked, accessMeant};
 use senders::is_control;
 use slots::fields::entry_at;

@@ -10,7 +10,7 @@ ghost use Rattle.rules.specs.Path.{shortNames};
 ghost use Rattle.rules.specs.Node.{newNode, made};
 ghost use Rattle.rules.specs.Layout.{tableOf, tableBytes};
 ghost use Rattle.slots.specs.Slot.{Canonical, slotAt, isUsed};
-ghost use Rattle.slots.specs.Written.{Room};
+ghost use Rattle.slots.specs.Written.{RoomForNode};
 ghost use Rattle.slots.specs.Left.{leftAt};
 use crate::free::lowest_free;
 use paths::names::name_end;
@@ -18,7 +18,7 @@ use slots::writing::put_node;
 
 // Puts a new node into the lowest free slot, and returns that slot.
 fn make_one(t: &mut [u8], parent: usize, name: &[u8], value: &[u8], domain: u32) -> usize
-    requires { ⌜ (parent < slots) × Canonical (now t) × (isUsed (slotAt (now t) parent) ≡ true) × Room (length (now name)) (length (now value)) domain ×
+    requires { ⌜ (parent < slots) × Canonical (now t) × (isUsed (slotAt (now t) parent) ≡ true) × RoomForNode (length (now name)) (length (now value)) domain ×
         (1 ≤ freeCount (tableOf (now t))) ⌝ }
     ensures { λ r. ⌜ (r ≡ lowest (tableOf (now (t .entry)))) ×
         (now (t .exit) ≡ tableBytes (set (tableOf (now (t .entry))) r

@@ -1,3 +1,4 @@
 pub mod Numbers
+pub mod Read
 pub mod Two
 pub mod Places

@@ -53,7 +53,7 @@ reply-put m a before after l h b e q =
           ∙ ap (λ (n : ℕ). paste 0 (header (replyType (typeOf m) a) m (length (replyPayload a))) (paste n (replyPayload a) before)) (ap (λ (n : ℕ). 0 + n) w))
           ∙ ap (λ (x : Octets). paste 0 x before) (sym (reply-parts m a))),
       q ∙ sym (ap length (reply-parts m a) ∙ (length-append (header (replyType (typeOf m) a) m (length (replyPayload a))) (replyPayload a)
-      ∙ ap (λ (n : ℕ). n + length (replyPayload a)) w)),
+          ∙ ap (λ (n : ℕ). n + length (replyPayload a)) w)),
     )
 
 -- ── what stands behind the header ──

@@ -2,9 +2,9 @@
 ghost use mathlib.Core.Path.{_≡_};
 ghost use mathlib.Core.List.{_++_};
 ghost use Prim.Native.Nat.{_+_, _≤_};
-ghost use lib.ListN.{length, take, drop};
+ghost use lib.ListN.{length};
 ghost use Rattle.rules.specs.Size.{headerSize, replySize};
-ghost use Rattle.rules.specs.Octets.{nul, paste, fourBytes};
+ghost use Rattle.rules.specs.Octets.{nul, paste};
 ghost use Rattle.rules.specs.Answer.{errnoText};
 ghost use Rattle.replies.specs.Meant.{errnoMeant};
 ghost use Rattle.replies.specs.Framed.{Written, Held, header, Framed};

@@ -128,7 +128,7 @@ module _ (count : ℕ) (access domain : List ℕ) (g : Given count access domain
       let es = entryIn access domain 0 ∷ othersIn count access domain in
       let d = entryIn access domain 0 in (
         sym (number-at es k d (omega (arith, others-many)) ∙ ap numbered
-        (getD-take (suc (count - 1)) (four access domain) k d (omega arith) ∙ listed access domain k d (omega arith))),
+            (getD-take (suc (count - 1)) (four access domain) k d (omega arith) ∙ listed access domain k d (omega arith))),
         omega (arith, g .kinds k h, g .ids k h),
       )
 

@@ -25,12 +25,6 @@ use Rattle.slots.proofs.Canonical.{chunk-bytes, name-length-is, value-l
 
 -- ── parts of a slot ──
 
--- a text before its zeros
-pub text-put : (at room : ℕ) (s t : Octets) {x y : Octets} → length s ≤ room → at + room ≤ length t →
-    x ≡ paste (at + length s) (replicate (room - length s) 0) t → y ≡ paste at s x → y ≡ paste at (padded room s) t
-unfolding padded
-text-put at room s t h ht e f = f ∙ ap (paste at s) e ∙ sym (paste-append at s (replicate (room - length s) 0) t (omega arith))
-
 -- the bytes of the fields, as they are stored one after the other
 pub fields-put : (at p n v e : ℕ) (t : Octets) → at + fieldsSize ≤ length t → p < 128 → n < 64 → v < 128 → e < 8 →
     set (set (set t at (128 + p)) (at + 1) (n * 4 + v / 32)) (at + 2) (v % 32 * 8 + e) ≡ paste at (bigEndian fieldsSize (fieldsOf p n v e)) t

@@ -111,7 +111,7 @@ module _ (t : Octets) (bytes : Bytes t) (whole : length t ≡ tableSize) (i : �
   apart a b e =
       let at = i * slotSize + fieldsSize in (
         ap (field t at) (sym e) ∙ field-split t at a (3 + b) (omega arith)
-        ∙ ap (λ (n : ℕ). field t at a * 256 ^ (3 + b) + n) (field-split t (at + a) 3 b (omega arith)),
+            ∙ ap (λ (n : ℕ). field t at a * 256 ^ (3 + b) + n) (field-split t (at + a) 3 b (omega arith)),
         field-bound t bytes 3 (at + a) (omega arith),
         field-bound t bytes b (at + a + 3) (omega arith),
       )

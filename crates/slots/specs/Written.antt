@@ -44,7 +44,7 @@ pub record Given (count : ℕ) (access domain : List ℕ) : Type 0 where
   pub ids : (k : ℕ) → k < count → getD domain k 0 < 65536
 
 -- a new node's name, value and owner are within their sizes
-pub record Room (n v d : ℕ) : Type 0 where
+pub record RoomForNode (n v d : ℕ) : Type 0 where
   pub name : n ≤ longestName
   pub value : v ≤ longestValue
   pub domain : d < 65536

@@ -1,14 +1,13 @@
 // The fields of a slot. They are read as they stand, so that the soundness check can use them too.
 ghost use mathlib.Core.Path.{_≡_};
 ghost use mathlib.Core.Bool.{true};
-ghost use Prim.Native.Nat.{_+_, _/_, _%_, _≤_, _<_};
+ghost use Prim.Native.Nat.{_/_, _%_, _≤_, _<_};
 ghost use lib.ListN.{length};
 ghost use Rattle.rules.specs.Size.{slots, tableSize, longestName, longestValue, mostEntries};
-ghost use Rattle.rules.specs.Octets.{field};
 ghost use Rattle.rules.specs.Layout.{tableOf};
 ghost use Rattle.rules.specs.Node.{nodeAt};
-ghost use Rattle.octets.specs.Two.{Bytes};
 ghost use Rattle.slots.specs.Slot.{slotAt, isUsed, nameLength, valueLength, entryCount, entryOf};
+use octets::numbers::three;
 use octets::sizes::FIELDS_SIZE;
 use octets::sizes::NAME_AT;
 use octets::sizes::SLOT_SIZE;
@@ -74,17 +73,6 @@ pub fn value(t: &[u8], i: usize) -> &[u8]
 pub struct Entry {
     pub access: u32,
     pub domain: u32,
-}
-
-// Three bytes as one number, most significant first.
-fn three(t: &[u8], at: usize) -> u32
-    requires { ⌜ at + 2 < length (now t) ⌝ }
-    ensures { λ r. ⌜ (r ≡ field (now (t .entry)) at 3) × (r < 16777216) × Bytes (now (t .entry)) ⌝ }
-{
-    let high = t[at] as u32;
-    let middle = t[at + 1] as u32;
-    let low = t[at + 2] as u32;
-    high * 65536 + middle * 256 + low
 }
 
 // The entry in the low 18 bits of a number.

@@ -6,19 +6,19 @@ ghost use mathlib.Core.Option.{none, some};
 ghost use Prim.Native.Nat.{_+_, _*_, _/_, _≤_, _<_};
 ghost use lib.ListN.{length, set};
 ghost use Rattle.rules.specs.Size.{slots, slotSize, fieldsSize, entriesSize, longestValue, mostEntries};
-ghost use Rattle.rules.specs.Octets.{padded, paste, bigEndian};
+ghost use Rattle.rules.specs.Octets.{paste, bigEndian};
 ghost use Rattle.rules.specs.Domain.{isControl};
 ghost use Rattle.rules.specs.Layout.{tableOf, tableBytes};
 ghost use Rattle.rules.specs.Node.{nodeAt, heir, newNode, withValue, withEntries};
 ghost use Rattle.slots.specs.Slot.{Canonical, slotAt, isUsed};
-ghost use Rattle.slots.specs.Written.{fieldsOf, entriesOf, entryNumber, entriesBytes, entryIn, othersIn, Given, Room};
+ghost use Rattle.slots.specs.Written.{fieldsOf, entriesOf, entryNumber, entriesBytes, entryIn, othersIn, Given, RoomForNode};
 use crate::fields::entry_at;
 use crate::fields::entry_count;
 use crate::fields::name_length;
 use crate::fields::parent;
 use crate::fields::value_length;
 use octets::parts::clear;
-use octets::parts::copy;
+use octets::parts::put_text;
 use octets::sizes::FIELDS_SIZE;
 use octets::sizes::LONGEST_NAME;
 use octets::sizes::LONGEST_VALUE;
@@ -33,16 +33,6 @@ pub fn clear_slot(t: &mut [u8], i: usize)
     ensures { λ _. ⌜ now (t .exit) ≡ tableBytes (set (tableOf (now (t .entry))) i none) ⌝ }
 {
     clear(t, i * SLOT_SIZE, SLOT_SIZE);
-}
-
-// Puts a text into a part of `room` bytes, and zeros behind it.
-fn put_text(t: &mut [u8], at: usize, room: usize, s: &[u8])
-    requires { ⌜ (length (now s) ≤ room) × (at + room ≤ length (now t)) ⌝ }
-    ensures { λ _. ⌜ now (t .exit) ≡ paste at (padded room (now (s .entry))) (now (t .entry)) ⌝ }
-{
-    let n = s.len();
-    clear(t, at + n, room - n);
-    copy(t, at, s);
 }
 
 // Puts the first fields of a used slot.
@@ -80,7 +70,7 @@ pub fn put_value(t: &mut [u8], i: usize, v: &[u8])
     let name = name_length(t, i);
     let entries = entry_count(t, i);
     let at = i * SLOT_SIZE;
-    put_text(t, at + VALUE_AT, LONGEST_VALUE, v);
+    put_text(t, at + VALUE_AT, v, LONGEST_VALUE);
     put_fields(t, at, above, name, v.len(), entries);
 }
 
@@ -162,14 +152,14 @@ pub fn put_entries(t: &mut [u8], i: usize, count: usize, access: &[u32], domain:
 // Puts a new node into slot i, a child of slot `parent`: its parent's entries, with the domain as owner unless it is the control domain.
 pub fn put_node(t: &mut [u8], i: usize, parent: usize, name: &[u8], value: &[u8], domain: u32)
     requires { ⌜ (i < slots) × (parent < slots) × Canonical (now t) × (isUsed (slotAt (now t) parent) ≡ true) ×
-        Room (length (now name)) (length (now value)) domain ⌝ }
+        RoomForNode (length (now name)) (length (now value)) domain ⌝ }
     ensures { λ _. ⌜ now (t .exit) ≡ tableBytes (set (tableOf (now (t .entry))) i
         (some (newNode domain (tableOf (now (t .entry))) parent (now (name .entry)) (now (value .entry))))) ⌝ }
 {
     let entries = entry_count(t, parent);
     let at = i * SLOT_SIZE;
     put_heirs(t, i, parent, domain);
-    put_text(t, at + NAME_AT, LONGEST_NAME, name);
-    put_text(t, at + VALUE_AT, LONGEST_VALUE, value);
+    put_text(t, at + NAME_AT, name, LONGEST_NAME);
+    put_text(t, at + VALUE_AT, value, LONGEST_VALUE);
     put_fields(t, at, parent, name.len(), value.len(), entries);
 }

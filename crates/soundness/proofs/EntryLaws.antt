@@ -5,14 +5,13 @@ use mathlib.Core.List.{List, [], _∷_}
 use Prim.Native.Nat.{ℕ, zero, suc, _+_, _*_, _-_, _/_, _%_, _^_, _≤_, _<_}
 use native.Mathlib.Nat.{div-one, add-assoc, lt-of-le-of-lt}
 use native.Mathlib.Omega.{arith}
-use lib.ListN.{length, getD, take}
+use lib.ListN.{take}
 use lib.Dec.{eqb, leb}
 use borrow.Author.Tests.{ne-eqb, eq-eqb, le-leb}
-use Rattle.rules.specs.Octets.{Octets, field, bitsAt, pack, packFrom}
+use Rattle.rules.specs.Octets.{bitsAt, pack, packFrom}
 use Rattle.rules.specs.Node.{Entry}
 use Rattle.rules.specs.Layout.{entryAt, entryBits}
 use Rattle.rules.specs.Sound.{goodEntries}
-use Rattle.rules.proofs.Fields.{field-split, field-two}
 use Rattle.soundness.specs.Parts.{lowDomains}
 
 -- the entries of nine bytes that a count says
@@ -94,8 +93,13 @@ packed-past m (suc zero) b h k = rw (pack-one (entryAt m 3) (entryAt m 2) (entry
 packed-past m (suc (suc zero)) b h k = rw (pack-two (entryAt m 3) (entryAt m 2) (entryAt m 1) (entryAt m 0), word-three m, word-two m) (two-words m b)
 packed-past m (suc (suc (suc zero))) b h k = rw (pack-three (entryAt m 3) (entryAt m 2) (entryAt m 1) (entryAt m 0), word-three m, word-two m, word-one m)
     (three-words m b)
-packed-past m (suc (suc (suc (suc zero)))) b h k = rw (pack-four (entryAt m 3) (entryAt m 2) (entryAt m 1) (entryAt m 0), word-three m, word-two m, word-one m,
-    word-none m) (none-left m b _ ∙ three-words m b)
+packed-past m (suc (suc (suc (suc zero)))) b h k = rw (
+  pack-four (entryAt m 3) (entryAt m 2) (entryAt m 1) (entryAt m 0),
+  word-three m,
+  word-two m,
+  word-one m,
+  word-none m,
+) (none-left m b _ ∙ three-words m b)
 packed-past m (suc (suc (suc (suc (suc c))))) b h k = absurd (omega arith)
 
 -- where nothing is left past the entries that count, the entries decide
@@ -116,17 +120,6 @@ all-good m (suc (suc (suc (suc (suc c))))) h k e = absurd (omega arith)
 -- the entries that count are good and what is past them is zero: by the number's parts
 entries-parts : (m c : ℕ) → m < 256 ^ 9 → 1 ≤ c → c ≤ 4 → eqb (packed m c) m && goodEntries (counted m c) ≡ eqb (m % 2 ^ (18 * (4 - c))) 0 && lows m
 entries-parts m c b h k = by-rest m (packed m c) (m % 2 ^ (18 * (4 - c))) (goodEntries (counted m c)) (lows m) (packed-past m c b h k) (all-good m c h k)
-
--- ── the bytes of the entries ──
-
-pub field-four : (t : Octets) (at : ℕ) → at + 4 ≤ length t →
-    field t at 4 ≡ getD t at 0 * 16777216 + getD t (at + 1) 0 * 65536 + getD t (at + 2) 0 * 256 + getD t (at + 3) 0
-field-four t at h =
-    field-split t at 2 2 (omega arith)
-    ∙ rw (field-two t at (omega arith), field-two t (at + 2) (omega arith), add-assoc at 2 1) (omega arith)
-
-pub field-eight : (t : Octets) (at : ℕ) → at + 8 ≤ length t → field t at 8 ≡ field t at 4 * 4294967296 + field t (at + 4) 4
-field-eight t at h = field-split t at 4 4 (omega arith)
 
 -- the entries that count, as one number
 pub packed-bound : (m c : ℕ) → m < 256 ^ 9 → 1 ≤ c → c ≤ 4 → pack (entryBits 4 (counted m c)) < 256 ^ 9

@@ -10,20 +10,20 @@ use borrow.Author.Tests.{eq-eqb, ne-eqb, lt-leb, le-leb}
 use Rattle.rules.specs.Size.{entriesSize}
 use Rattle.rules.specs.Octets.{Octets, field}
 use Rattle.rules.proofs.Fields.{field-split, field-two, field-bound}
+use Rattle.octets.specs.Read.{Read}
 use Rattle.soundness.specs.Parts.{lowDomains}
 use Rattle.soundness.proofs.Tests.{stop, both}
 
 -- the eight bytes behind the first: two, four and two
-pub behind-first : (s : Octets) (at : ℕ) → at + entriesSize ≤ length s
+behind-first : (s : Octets) (at : ℕ) → at + entriesSize ≤ length s
     → field s (at + 1) 8 ≡ (getD s (at + 1) 0 * 256 + getD s (at + 2) 0) * 281474976710656
-    + (field s (at + 3) 4 * 65536 + (getD s (at + 7) 0 * 256 + getD s (at + 8) 0))
+    + (field s (at + 3) 4 * 65536 + (getD s (at + 7) 0 * 256 + getD s (at + 7 + 1) 0))
 behind-first s at h =
     let e2 : at + 1 + 1 ≡ at + 2 = omega arith in
     let e3 : at + 1 + 2 ≡ at + 3 = omega arith in
     let e7 : at + 3 + 4 ≡ at + 7 = omega arith in
-    let e8 : at + 7 + 1 ≡ at + 8 = omega arith in
     let front : field s (at + 1) 2 ≡ getD s (at + 1) 0 * 256 + getD s (at + 2) 0 = field-two s (at + 1) (omega arith) ∙ rw e2 refl in
-    let back : field s (at + 7) 2 ≡ getD s (at + 7) 0 * 256 + getD s (at + 8) 0 = field-two s (at + 7) (omega arith) ∙ rw e8 refl in
+    let back = field-two s (at + 7) (omega arith) in
     let six : field s (at + 3) 6 ≡ field s (at + 3) 4 * 65536 + field s (at + 7) 2 = field-split s (at + 3) 4 2 (omega arith) ∙ rw e7 refl in
     let eight : field s (at + 1) 8 ≡ field s (at + 1) 2 * 281474976710656 + field s (at + 3) 6 = field-split s (at + 1) 2 6 (omega arith) ∙ rw e3 refl in
     omega (arith, front, back, six, eight)
@@ -76,10 +76,10 @@ module _ (first a b m l rest : ℕ) (hb : b < 256) (hm : m < 4294967296) (hl : l
 module _ (s : Octets) (bytes : (j : ℕ) → getD s j 0 < 256) (at : ℕ) (h : at + entriesSize ≤ length s) where
   -- the last two bytes
   abbrev low : ℕ
-  low = getD s (at + 7) 0 * 256 + getD s (at + 8) 0
+  low = getD s (at + 7) 0 * 256 + getD s (at + 7 + 1) 0
 
   low-bound : low < 65536
-  low-bound = omega (arith, bytes (at + 7), bytes (at + 8))
+  low-bound = omega (arith, bytes (at + 7), bytes (at + 7 + 1))
 
   middle-bound : field s (at + 3) 4 < 4294967296
   middle-bound = field-bound s bytes 4 (at + 3) (omega arith)
@@ -101,8 +101,9 @@ module _ (s : Octets) (bytes : (j : ℕ) → getD s j 0 < 256) (at : ℕ) (h : a
       lone-bits (getD s at 0) (getD s (at + 1) 0) (getD s (at + 2) 0) (field s (at + 3) 4) low (field s (at + 1) 8) (bytes (at + 2)) middle-bound low-bound
       (behind-first s at h)
 
-  pub entry-rest : (m : ℕ) → m ≡ field s (at + 3) 4 → domain ≤ 32751 → getD s (at + 2) 0 % 64 ≡ 0 → eqb m 0 && eqb low 0 ≡ Asked
-  entry-rest m e d z =
-      ap (λ (x : ℕ). eqb x 0 && eqb low 0) e
+  -- what the next four bytes and the last two are read as decides
+  pub entry-rest : (m l : ℕ) → Read s (at + 3) 4 m → l ≡ low → domain ≤ 32751 → getD s (at + 2) 0 % 64 ≡ 0 → eqb m 0 && eqb l 0 ≡ Asked
+  entry-rest m l e f d z =
+      (λ j. eqb (e .value j) 0 && eqb (f j) 0)
       ∙ lone-rest (getD s at 0) (getD s (at + 1) 0) (getD s (at + 2) 0) (field s (at + 3) 4) low (field s (at + 1) 8) (bytes (at + 2)) middle-bound low-bound
       (behind-first s at h) d z

@@ -36,14 +36,28 @@ module _ (c : ℕ) where
   pub byte-small : 97 ≤ c → leb c 122 ≡ nameByte c
   unfolding nameByte
   byte-small h =
-      sym (rw (le-leb 97 c h, le-leb 65 c (omega arith), lt-leb c 90 (omega arith), le-leb 48 c (omega arith), lt-leb c 57 (omega arith),
-      ne-eqb c 45 (λ e. omega arith), ne-eqb c 95 (λ e. omega arith), ne-eqb c 64 (λ e. omega arith)) (or-false (leb c 122)))
+      sym (rw (
+        le-leb 97 c h,
+        le-leb 65 c (omega arith),
+        lt-leb c 90 (omega arith),
+        le-leb 48 c (omega arith),
+        lt-leb c 57 (omega arith),
+        ne-eqb c 45 (λ e. omega arith),
+        ne-eqb c 95 (λ e. omega arith),
+        ne-eqb c 64 (λ e. omega arith),
+      ) (or-false (leb c 122)))
 
   pub byte-large : c < 97 → 65 ≤ c → (leb c 90 || eqb c 95) ≡ nameByte c
   unfolding nameByte
   byte-large l h =
-      sym (rw (lt-leb 97 c l, le-leb 65 c h, le-leb 48 c (omega arith), lt-leb c 57 (omega arith), ne-eqb c 45 (λ e. omega arith),
-      ne-eqb c 64 (λ e. omega arith)) (ap (λ (b : Bool). leb c 90 || b) (or-false (eqb c 95))))
+      sym (rw (
+        lt-leb 97 c l,
+        le-leb 65 c h,
+        le-leb 48 c (omega arith),
+        lt-leb c 57 (omega arith),
+        ne-eqb c 45 (λ e. omega arith),
+        ne-eqb c 64 (λ e. omega arith),
+      ) (ap (λ (b : Bool). leb c 90 || b) (or-false (eqb c 95))))
 
   pub byte-digit : c < 97 → c < 65 → 48 ≤ c → (leb c 57 || eqb c 64) ≡ nameByte c
   unfolding nameByte

@@ -105,8 +105,13 @@ module _ (t : Octets) (bytes : Bytes t) (whole : length t ≡ tableSize) (i : �
 
     first : 128 ≤ head t i / 65536
     first =
-        omega (arith, head-bytes t i (omega arith), bytes (i * slotSize + 1), bytes (i * slotSize + 2),
-        leb-true 128 (getD t (i * slotSize) 0) (used-byte t bytes whole i h ∙ u))
+        omega (
+          arith,
+          head-bytes t i (omega arith),
+          bytes (i * slotSize + 1),
+          bytes (i * slotSize + 2),
+          leb-true 128 (getD t (i * slotSize) 0) (used-byte t bytes whole i h ∙ u),
+        )
 
     kept-number : Sizes t i → pack (nodeBits (meant t i)) ≡ head t i
     unfolding nameLength valueLength entryCount

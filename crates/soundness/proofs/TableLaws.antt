@@ -125,9 +125,13 @@ module _ (t : Octets) (w : length t ≡ tableSize) where
 
     pub root-used : Used t 0
     unfolding goodSlot fair
-    root-used = record { below = omega arith; whole = w; used = by (slotAt t 0)
-        (both-true (same (slotBytes (slotAt t 0)) (take slotSize (drop (0 * slotSize) t))) (fair 0 (slotAt t 0)) (all-slots (goodSlot t) e 0 (omega arith)) .1)
-        }
+    root-used = record {
+      below = omega arith;
+      whole = w;
+      used = by (slotAt t 0)
+          (both-true (same (slotBytes (slotAt t 0)) (take slotSize (drop (0 * slotSize) t))) (fair 0 (slotAt t 0))
+          (all-slots (goodSlot t) e 0 (omega arith)) .1);
+    }
       where
         by : (x : Option Node) → fair 0 x ≡ true → isUsed x ≡ true
         by none f = absurd (false≢true f)

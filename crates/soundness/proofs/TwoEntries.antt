@@ -11,9 +11,9 @@ use borrow.Author.Tests.{eq-eqb, ne-eqb, lt-leb, le-leb}
 use Rattle.rules.specs.Size.{entriesSize}
 use Rattle.rules.specs.Octets.{Octets, field}
 use Rattle.rules.proofs.Fields.{field-bound}
+use Rattle.octets.proofs.Bytes.{field-four, field-eight}
 use Rattle.soundness.specs.Parts.{lowDomains}
 use Rattle.soundness.proofs.Tests.{stop, both}
-use Rattle.soundness.proofs.EntryLaws.{field-four, field-eight}
 
 -- the eight bytes behind the first: four single ones, and four
 behind-first : (s : Octets) (at : ℕ) → at + entriesSize ≤ length s

@@ -219,8 +219,14 @@ module _ (t into : Octets) where
         where
           by : (r : Bool) → reachesRoot (k - 1) (tableOf t) p ≡ r → r ≡ false
           by false q = refl
-          by true q = absurd (omega (arith, b, h, o .levels p z .1, steps-bound (k - 1) t p,
-              steps-same (k - 1) 8 t p q (omega (arith, b, steps-bound (k - 1) t p)) .1))
+          by true q = absurd (omega (
+            arith,
+            b,
+            h,
+            o .levels p z .1,
+            steps-bound (k - 1) t p,
+            steps-same (k - 1) 8 t p q (omega (arith, b, steps-bound (k - 1) t p)) .1,
+          ))
 
       pub walked-near : getD known p 0 ≤ k → Walked k t i into into (Root (getD known p 0) 0)
       walked-near h =

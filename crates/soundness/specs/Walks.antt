@@ -21,8 +21,8 @@ pub record Short (t : Octets) : Type 0 where
   pub short : (j : ℕ) → j < slots → isUsed (slotAt t j) ≡ true → nameLength t j ≤ longestName
 
 -- a buffer that takes every path, or none
-abbrev pub Room : Octets → Type 0
-Room into = (length into ≡ 0 → ⊥) → longestPath ≤ length into
+abbrev pub RoomForPath : Octets → Type 0
+RoomForPath into = (length into ≡ 0 → ⊥) → longestPath ≤ length into
 
 -- the steps from slot i to the root, of at most k
 unfoldable pub stepsTo : ℕ → Octets → ℕ → ℕ
@@ -53,5 +53,5 @@ Level t i r = (r ≡ 0 → ⊥) → (reachesRoot deepest (tableOf t) i ≡ true)
 pub record Lent (t known into : Octets) : Type 0 where
   pub table : Short t
   pub levels : (j : ℕ) → Level t j (getD known j 0)
-  pub room : Room into
+  pub room : RoomForPath into
   pub alone : (length into ≡ 0 → ⊥) → (j : ℕ) → getD known j 0 ≡ 0

@@ -7,33 +7,14 @@ ghost use lib.ListN.{length, getD};
 ghost use Rattle.rules.specs.Octets.{field};
 ghost use Rattle.soundness.specs.Parts.{Used, sized, keptEntries, lowDomains};
 ghost use Rattle.rules.specs.Size.{entriesSize};
+use octets::numbers::eight;
+use octets::numbers::four;
+use octets::numbers::two;
 use octets::sizes::FIELDS_SIZE;
 use octets::sizes::SLOT_SIZE;
 use slots::fields::entry_count;
 
 const LAST_DOMAIN: u64 = octets::sizes::LAST_DOMAIN as u64;
-
-// Four bytes as one number, most significant first.
-fn four(t: &[u8], at: usize) -> u64
-    requires { ⌜ at + 4 ≤ length (now t) ⌝ }
-    ensures { λ r. ⌜ (r ≡ field (now (t .entry)) at 4) × (r < 4294967296) ⌝ }
-{
-    let a = t[at] as u64;
-    let b = t[at + 1] as u64;
-    let c = t[at + 2] as u64;
-    let d = t[at + 3] as u64;
-    a * 16777216 + b * 65536 + c * 256 + d
-}
-
-// Eight bytes as one number, most significant first.
-fn eight(t: &[u8], at: usize) -> u64
-    requires { ⌜ at + 8 ≤ length (now t) ⌝ }
-    ensures { λ r. ⌜ r ≡ field (now (t .entry)) at 8 ⌝ }
-{
-    let high = four(t, at);
-    let low = four(t, at + 4);
-    high * 4294967296 + low
-}
 
 // Whether no entry's domain is above the last; `first` is the entries' first byte, `rest` the others.
 fn low_domains(first: u64, rest: u64) -> bool
@@ -80,7 +61,7 @@ fn lone_entry(t: &[u8], at: usize) -> bool
     if four(t, at + 3) != 0 {
         return false;
     }
-    t[at + 7] as u64 * 256 + t[at + 8] as u64 == 0
+    two(t, at + 7) == 0
 }
 
 // The same of two entries, by their bytes.

@@ -1,6 +1,6 @@
 // The whole check of a node table.
 ghost use mathlib.Core.Path.{_≡_};
-ghost use Prim.Native.Nat.{_+_, _≤_, _<_};
+ghost use Prim.Native.Nat.{_+_, _<_};
 ghost use lib.ListN.{length};
 ghost use Rattle.rules.specs.Size.{slots, tableSize};
 ghost use Rattle.rules.specs.Node.{nodeAt};

@@ -1,3 +1,4 @@
+-- No room for a header, a payload past the size and another length than the header says are told by the numbers of the rule.
 use mathlib.Core.Path.{sym}
 use Rattle.haabuvilk.proofs.CheckLaws.{frame-short, frame-overlong, frame-whole, frame-broken}
 use borrow.Author.Needs.{needs}

@@ -1,3 +1,4 @@
+-- The copies before i are sound, so those from i on decide.
 use mathlib.Core.Path.{_≡_, refl, sym, _∙_}
 use Prim.Native.Nat.{_≤_, _-_}
 use native.Mathlib.Omega.{arith}
@@ -25,13 +26,15 @@ loop-holds : tie.Need-loop-holds Inv-loop μ-loop
 loop-holds c = (omega arith, refl)
 
 sound-copy-requires : tie.Need-sound-copy-requires Inv-loop μ-loop
-sound-copy-requires c κs = (c .loop-test .taken, c .before .before .before .before .pre .0, c .before .before .before .before .pre .1)
+sound-copy-requires c κs =
+    let start = c .before .before .before .before in
+    (c .loop-test .taken, start .pre .0, start .pre .1)
 
 returns : tie.Need-returns Inv-loop μ-loop
 returns c =
-    let b = c .before .before .before in
-    let a = b .before .before .before .args in
-    sym (b .loop .inv .1 ∙ (copies-next (a .copies .now) (a .transactions .now) (b .loop .i) (c .before .before .loop-test .taken)
+    let at-loop = c .before .before .before in
+    let args = at-loop .before .before .before .args in
+    sym (at-loop .loop .inv .1 ∙ (copies-next (args .copies .now) (args .transactions .now) (at-loop .loop .i) (c .before .before .loop-test .taken)
     ∙ and-first _ _ (sym (c .before .sound-copy .ensures) ∙ not-true _ (c .if1 .taken))))
 
 add-i : tie.Need-add-i Inv-loop μ-loop
@@ -42,16 +45,18 @@ loop-less c = omega arith
 
 loop-again : tie.Need-loop-again Inv-loop μ-loop
 loop-again c =
-    let b = c .before .before .before in
-    let a = b .before .before .before .args in
-    (omega arith, b .loop .inv .1 ∙ (copies-next (a .copies .now) (a .transactions .now) (b .loop .i) (c .before .before .loop-test .taken)
-    ∙ and-rest _ _ (sym (c .before .sound-copy .ensures) ∙ not-false _ (c .if1 .left))))
+    let at-loop = c .before .before .before in
+    let args = at-loop .before .before .before .args in (
+      omega arith,
+      at-loop .loop .inv .1 ∙ (copies-next (args .copies .now) (args .transactions .now) (at-loop .loop .i) (c .before .before .loop-test .taken)
+          ∙ and-rest _ _ (sym (c .before .sound-copy .ensures) ∙ not-false _ (c .if1 .left))),
+    )
 
 returns-2 : tie.Need-returns-2 Inv-loop μ-loop
 returns-2 c =
-    let b = c .before in
-    let a = b .before .before .before .args in
-    sym (b .loop .inv .1 ∙ copies-over (a .copies .now) (a .transactions .now) (b .loop .i) (c .loop-test .left))
+    let at-loop = c .before in
+    let args = at-loop .before .before .before .args in
+    sym (at-loop .loop .inv .1 ∙ copies-over (args .copies .now) (args .transactions .now) (at-loop .loop .i) (c .loop-test .left))
 
 pub sound-copies-spec : {M : Type 1} → statement M
 sound-copies-spec =

@@ -1,3 +1,4 @@
+-- Of a closed transaction nothing is asked; an open one's copy is its part of the copies.
 use mathlib.Core.Path.{sym, _∙_}
 use borrow.Author.Tests.{not-true, not-false}
 use Rattle.haabuvilk.proofs.CheckLaws.{copy-closed, copy-open, copy-part}
@@ -31,8 +32,8 @@ sound-requires c κs = search needs
 
 returns-2 : tie.Need-returns-2
 returns-2 c =
-    let a = c .before .before .before .before .before .before .args in
-    c .sound .ensures ∙ (copy-part (a .copies .now) (a .k) ∙ sym (copy-open _ _
+    let args = c .before .before .before .before .before .before .args in
+    c .sound .ensures ∙ (copy-part (args .copies .now) (args .k) ∙ sym (copy-open _ _
     (sym (c .before .before .before .is-open .ensures) ∙ not-false _ (c .before .before .if1 .left))))
 
 pub sound-copy-spec : {M : Type 1} → statement M

@@ -1,3 +1,4 @@
+-- The nodes, the domains, the watches and transactions against the domains, and the copies against the transactions: all that is sound.
 use mathlib.Core.Path.{_≡_, sym, _∙_}
 use mathlib.Core.Bool.{true}
 use borrow.Author.Tests.{not-true, not-false}
@@ -54,9 +55,10 @@ sound-entries-requires c κs = sized (start (c .before .before .before .before))
 
 returns-4 : tie.Need-returns-4
 returns-4 c =
-    let w = c .before .before in
-    let d = w .before .before in
-    sym (unsound-entries _ (nodes-sound (d .before .before)) (domains-sound d) (watches-sound w)
+    let test3 = c .before .before in
+    let test2 = test3 .before .before in
+    let test1 = test2 .before .before in
+    sym (unsound-entries _ (nodes-sound test1) (domains-sound test2) (watches-sound test3)
     (sym (c .before .sound-entries .ensures) ∙ not-true _ (c .if4 .taken)))
 
 sound-copies-requires : tie.Need-sound-copies-requires
@@ -64,12 +66,13 @@ sound-copies-requires c κs = let z = sized (start (c .before .before .before .b
 
 returns-5 : tie.Need-returns-5
 returns-5 c =
-    let e = c .before in
-    let w = e .before .before in
-    let d = w .before .before in
+    let test4 = c .before in
+    let test3 = test4 .before .before in
+    let test2 = test3 .before .before in
+    let test1 = test2 .before .before in
     c .sound-copies .ensures
-    ∙ sym (copies-left _ (nodes-sound (d .before .before)) (domains-sound d) (watches-sound w)
-    (sym (e .before .sound-entries .ensures) ∙ not-false _ (e .if4 .left)))
+    ∙ sym (copies-left _ (nodes-sound test1) (domains-sound test2) (watches-sound test3)
+    (sym (test4 .before .sound-entries .ensures) ∙ not-false _ (test4 .if4 .left)))
 
 pub sound-tables-spec : {M : Type 1} → statement M
 sound-tables-spec =

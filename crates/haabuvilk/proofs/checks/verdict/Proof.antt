@@ -1,3 +1,4 @@
+-- Sizes, soundness, sender and frame are tested in the rule book's order, and each has its number.
 use mathlib.Core.Path.{_≡_, sym, _∙_}
 use mathlib.Core.Bool.{true}
 use borrow.Author.Tests.{not-true, not-false}
@@ -38,8 +39,8 @@ sound-tables-requires c κs = sized (c .before .before)
 
 returns-4 : tie.Need-returns-4
 returns-4 c =
-    let e = c .before .before in
-    sym (unsound-tables _ _ _ _ _ (sized (e .before .before)) (e .before .if2 .left) (e .if3 .left)
+    let test3 = c .before .before in
+    sym (unsound-tables _ _ _ _ _ (sized (test3 .before .before)) (test3 .before .if2 .left) (test3 .if3 .left)
     (sym (c .before .sound-tables .ensures) ∙ not-true _ (c .if4 .taken)))
 
 known-sender-requires : tie.Need-known-sender-requires
@@ -47,9 +48,11 @@ known-sender-requires c κs = tables-sized _ (sized (c .before .before .before .
 
 returns-5 : tie.Need-returns-5
 returns-5 c =
-    let s = c .before .before in
-    let e = s .before .before in
-    sym (unknown-sender _ _ _ _ _ (sized (e .before .before)) (e .before .if2 .left) (e .if3 .left) (sound-all s)
+    let test4 = c .before .before in
+    let test3 = test4 .before .before in
+    let test2 = test3 .before in
+    let test1 = test2 .before in
+    sym (unknown-sender _ _ _ _ _ (sized test1) (test2 .if2 .left) (test3 .if3 .left) (sound-all test4)
     (sym (c .before .known-sender .ensures) ∙ not-true _ (c .if5 .taken)))
 
 frame-requires : tie.Need-frame-requires
@@ -57,12 +60,14 @@ frame-requires c κs = search needs
 
 returns-6 : tie.Need-returns-6
 returns-6 c =
-    let k = c .before in
-    let s = k .before .before in
-    let e = s .before .before in
+    let test5 = c .before in
+    let test4 = test5 .before .before in
+    let test3 = test4 .before .before in
+    let test2 = test3 .before in
+    let test1 = test2 .before in
     c .frame .ensures
-    ∙ sym (frame-left _ _ _ _ _ (sized (e .before .before)) (e .before .if2 .left) (e .if3 .left) (sound-all s)
-    (sym (k .before .known-sender .ensures) ∙ not-false _ (k .if5 .left)))
+    ∙ sym (frame-left _ _ _ _ _ (sized test1) (test2 .if2 .left) (test3 .if3 .left) (sound-all test4)
+    (sym (test5 .before .known-sender .ensures) ∙ not-false _ (test5 .if5 .left)))
 
 pub verdict-spec : {M : Type 1} → statement M
 verdict-spec =

@@ -1,3 +1,4 @@
+-- A wrong size, an unsound table and a record with no message have their numbers and alter nothing; else the message is put.
 use mathlib.Core.Path.{_≡_, sym, _∙_}
 use mathlib.Core.Bool.{true}
 use borrow.Author.Tests.{not-true, not-false}
@@ -67,10 +68,11 @@ same-length-4 c = search needs
 returns-4 : tie.Need-returns-4
 unfolding callNumber
 returns-4 c =
-    let m = c .before .before .before .before .before in
-    let p = m .before .before in
-    answered _ _ _ _ (sized (p .before .before .before .before)) _ _ _ (domains-sound (p .before .before)) _ _ _ (watches-sound p) (c .before .n .given .1)
-    (m .message .ensures)
+    let at-message = c .before .before .before .before .before in
+    let test3 = at-message .before .before in
+    let test2 = test3 .before .before in
+    let test1 = test2 .before .before in
+    answered _ _ _ _ (sized test1) _ _ _ (domains-sound test2) _ _ _ (watches-sound test3) (c .before .n .given .1) (at-message .message .ensures)
 
 same-length-5 : tie.Need-same-length-5
 same-length-5 c = search needs
@@ -78,10 +80,11 @@ same-length-5 c = search needs
 returns-5 : tie.Need-returns-5
 unfolding callNumber
 returns-5 c =
-    let m = c .before .before .before .before in
-    let p = m .before .before in
-    answered _ _ _ _ (sized (p .before .before .before .before)) _ _ _ (domains-sound (p .before .before)) _ _ _ (watches-sound p) (c .enum-told .given .1)
-    (m .message .ensures)
+    let at-message = c .before .before .before .before in
+    let test3 = at-message .before .before in
+    let test2 = test3 .before .before in
+    let test1 = test2 .before .before in
+    answered _ _ _ _ (sized test1) _ _ _ (domains-sound test2) _ _ _ (watches-sound test3) (c .enum-told .given .1) (at-message .message .ensures)
 
 pub haabuvilk-event-message-spec : {M : Type 1} → statement M
 haabuvilk-event-message-spec =

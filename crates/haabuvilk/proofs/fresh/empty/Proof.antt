@@ -1,3 +1,4 @@
+-- As many zeros as the table is long are the whole table.
 use Rattle.haabuvilk.proofs.FreshLaws.{cleared}
 use borrow.Author.Needs.{needs}
 use Rattle.haabuvilk.proofs.fresh.empty.Statement.{statement}

@@ -1,3 +1,4 @@
+-- Tables of the right sizes become the root alone and zeros, which are the fresh store; a wrong size alters nothing.
 use mathlib.Core.Path.{_≡_, sym, _∙_}
 use mathlib.Core.Bool.{true}
 use borrow.Author.Tests.{not-true, not-false}
@@ -31,8 +32,8 @@ returns c = fresh-refused _ (sym (c .before .sized-tables .ensures) ∙ not-true
 
 abbrev its-tables : tie.Else1 → Tables
 its-tables c =
-    let b = c .before .before .before .before .before .before .before .before .before .before .before .before in
-    tables (b .args .nodes .now) (b .args .copies .now) (b .args .watches .now) (b .args .transactions .now) (b .args .domains .now)
+    let args = c .before .before .before .before .before .before .before .before .before .before .before .before .args in
+    tables (args .nodes .now) (args .copies .now) (args .watches .now) (args .transactions .now) (args .domains .now)
 
 sized : (c : tie.Else1) → sizedTables (its-tables c) ≡ true
 sized c = sym (c .before .sized-tables .ensures) ∙ not-false _ (c .if1 .left)
@@ -69,13 +70,14 @@ same-length-10 c = search needs
 
 returns-2 : tie.Need-returns-2
 returns-2 c =
-    let e = c .before .before in
-    let d = e .before .before .before .before in
-    let w = d .before .before .before .before in
-    let p = w .before .before .before .before in
-    let n = p .before .before .before .before in
-    let z = n .before .before in
-    fresh-done (its-tables z) (sized z) (n .root-only .ensures) (p .empty .ensures) (w .empty2 .ensures) (d .empty3 .ensures) (e .empty4 .ensures)
+    let at-empty4 = c .before .before in
+    let at-empty3 = at-empty4 .before .before .before .before in
+    let at-empty2 = at-empty3 .before .before .before .before in
+    let at-empty = at-empty2 .before .before .before .before in
+    let at-root-only = at-empty .before .before .before .before in
+    let test = at-root-only .before .before in
+    fresh-done (its-tables test) (sized test) (at-root-only .root-only .ensures) (at-empty .empty .ensures) (at-empty2 .empty2 .ensures)
+    (at-empty3 .empty3 .ensures) (at-empty4 .empty4 .ensures)
 
 pub haabuvilk-fresh-spec : {M : Type 1} → statement M
 haabuvilk-fresh-spec =

@@ -1,3 +1,4 @@
+-- The mark of a used slot, one entry, and zeros are the root with no value and the permission `n0`.
 use Rattle.haabuvilk.proofs.FreshLaws.{root-put}
 use borrow.Author.Needs.{needs}
 use Rattle.haabuvilk.proofs.fresh.root_only.Statement.{statement}
@@ -16,8 +17,9 @@ same-length : tie.Need-same-length
 same-length c = search needs
 
 returns : tie.Need-returns
-returns c = root-put (c .before .before .before .before .before .args .nodes .now) _ (c .before .before .before .before .before .pre)
-    (c .before .before .empty .ensures)
+returns c =
+    let start = c .before .before .before .before .before in
+    root-put (start .args .nodes .now) _ (start .pre) (c .before .before .empty .ensures)
 
 pub root-only-spec : {M : Type 1} → statement M
 root-only-spec =

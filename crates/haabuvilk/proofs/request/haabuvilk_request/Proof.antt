@@ -1,4 +1,4 @@
--- The verdict turns away; what is handled is the outcome in its frame.
+-- The verdict turns away before anything but the results is written; what is handled leaves its outcome, and its reply in a frame.
 use mathlib.Core.Path.{sym, _∙_}
 use mathlib.Core.List.{[]}
 use native.Mathlib.Omega.{arith}
@@ -70,18 +70,19 @@ handle-requires c κs =
 
 framed-requires : tie.Need-framed-requires
 framed-requires c κs =
-    let h = c .before .before .before .before .before .before .before .before .before .before .before .before .before .before .before in
-    let test = h .before .before .before .before .before .before .before .before .before .before .before .before in
+    let at-handle = c .before .before .before .before .before .before .before .before .before .before .before .before .before .before .before in
+    let test = at-handle .before .before .before .before .before .before .before .before .before .before .before .before in
     let r = ready-for test in
     let t = its-tables (start test) in
-    (r .header, search needs, reply-held (h .handle .ensures (worldOf t) (shown t _ _) []) (r .reply) (search needs))
+    (r .header, search needs, reply-held (at-handle .handle .ensures (worldOf t) (shown t _ _) []) (r .reply) (search needs))
 
 cast-event-count : tie.Need-cast-event-count
 cast-event-count c =
-    let h = c .before .before .before .before .before .before .before .before .before .before .before .before .before .before .before .before .before .before .before in
-    let test = h .before .before .before .before .before .before .before .before .before .before .before .before in
+    let at-framed = c .before .before .before in
+    let at-handle = at-framed .before .before .before .before .before .before .before .before .before .before .before .before .before .before .before .before in
+    let test = at-handle .before .before .before .before .before .before .before .before .before .before .before .before in
     let t = its-tables (start test) in
-    omega (arith, records-fit (h .handle .ensures (worldOf t) (shown t _ _) []) (ready-for test .events) (search needs))
+    omega (arith, records-fit (at-handle .handle .ensures (worldOf t) (shown t _ _) []) (ready-for test .events) (search needs))
 
 same-length-8 : tie.Need-same-length-8
 same-length-8 c = search needs
@@ -106,13 +107,15 @@ same-length-14 c = search needs
 
 returns-2 : tie.Need-returns-2
 returns-2 c =
-    let h = c .before .before .before .before .before .before .before .before .before .before .before .before .before .before .before .before .before .before .before in
-    let who = h .before .before .before .before in
-    let n = h .before .before .before .before .before .before .before .before .before .before in
-    let test = n .before .before in
+    let at-framed = c .before .before .before in
+    let at-handle = at-framed .before .before .before .before .before .before .before .before .before .before .before .before .before .before .before .before in
+    let at-sender = at-handle .before .before .before .before in
+    let at-tx = at-sender .before .before .before .before .before .before in
+    let at-kind = at-tx .before in
+    let test = at-kind .before in
     let t = its-tables (start test) in
-    answered _ _ _ _ _ _ _ _ (sym (test .before .verdict .ensures) ∙ test .if1 .left) (n .before .number32 .ensures) (n .number322 .ensures)
-    (who .of .ensures .0) (h .handle .ensures (worldOf t) (shown t _ _) []) (c .before .before .before .framed .ensures)
+    answered _ _ _ _ _ _ _ _ (sym (test .before .verdict .ensures) ∙ test .if1 .left) (at-kind .number32 .ensures) (at-tx .number322 .ensures)
+    (at-sender .of .ensures .0) (at-handle .handle .ensures (worldOf t) (shown t _ _) []) (at-framed .framed .ensures)
 
 pub haabuvilk-request-spec : {M : Type 1} → statement M
 haabuvilk-request-spec =

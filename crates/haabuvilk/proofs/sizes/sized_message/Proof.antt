@@ -1,3 +1,4 @@
+-- The four tests are those of the sizes.
 use mathlib.Core.Path.{sym}
 use borrow.Author.Tests.{eq-eqb, ne-eqb}
 use Rattle.rules.specs.Message.{sizedMessage}

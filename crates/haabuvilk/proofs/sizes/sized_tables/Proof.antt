@@ -1,3 +1,4 @@
+-- The five tests are those of the sizes.
 use mathlib.Core.Path.{sym}
 use borrow.Author.Tests.{eq-eqb, ne-eqb}
 use Rattle.rules.specs.Call.{sizedTables}
@@ -18,13 +19,21 @@ returns-3 c = sym (rw (eq-eqb _ _ (c .before .before .if1 .left), eq-eqb _ _ (c 
 
 returns-4 : tie.Need-returns-4
 unfolding sizedTables
-returns-4 c = sym (rw (eq-eqb _ _ (c .before .before .before .if1 .left), eq-eqb _ _ (c .before .before .if2 .left), eq-eqb _ _ (c .before .if3 .left),
-    ne-eqb _ _ (c .if4 .taken)))
+returns-4 c = sym (rw (
+  eq-eqb _ _ (c .before .before .before .if1 .left),
+  eq-eqb _ _ (c .before .before .if2 .left),
+  eq-eqb _ _ (c .before .if3 .left),
+  ne-eqb _ _ (c .if4 .taken),
+))
 
 returns-5 : tie.Need-returns-5
 unfolding sizedTables
-returns-5 c = sym (rw (eq-eqb _ _ (c .before .before .before .if1 .left), eq-eqb _ _ (c .before .before .if2 .left), eq-eqb _ _ (c .before .if3 .left),
-    eq-eqb _ _ (c .if4 .left)))
+returns-5 c = sym (rw (
+  eq-eqb _ _ (c .before .before .before .if1 .left),
+  eq-eqb _ _ (c .before .before .if2 .left),
+  eq-eqb _ _ (c .before .if3 .left),
+  eq-eqb _ _ (c .if4 .left),
+))
 
 pub sized-tables-spec : {M : Type 1} → statement M
 sized-tables-spec = tie.close (tie.spec returns returns-2 returns-3 returns-4 returns-5)

@@ -1,3 +1,4 @@
+-- A slot goes where its name belongs in the order, and slots are met from the last down, so the list is that of the children met so far.
 use mathlib.Core.Path.{sym, _∙_}
 use Prim.Native.Nat.{_-_, _%_}
 use native.Mathlib.Omega.{arith}
@@ -23,18 +24,18 @@ has-parent-requires c κs = (omega arith, c .before .before .before .before .pre
 
 place-requires : tie.Need-place-requires Inv-loop μ-loop
 place-requires c κs =
-    let a = c .before .before .before .before .before .before .before in
-    let b = c .before .before .before .before in
-    let u = parent-used (a .args .p) _ (sym (c .before .before .has-parent .ensures) ∙ c .before .if1 .taken) in
-    (omega arith, b .loop .inv .asked, record { below = omega arith; sound = a .pre .0; used = u })
+    let at-loop = c .before .before .before .before in
+    let start = at-loop .before .before .before in
+    let u = parent-used (start .args .p) _ (sym (c .before .before .has-parent .ensures) ∙ c .before .if1 .taken) in
+    (omega arith, at-loop .loop .inv .asked, record { below = omega arith; sound = start .pre .0; used = u })
 
 cast-put-in : tie.Need-cast-put-in Inv-loop μ-loop
 cast-put-in c = omega arith
 
 put-in-requires : tie.Need-put-in-requires Inv-loop μ-loop
 put-in-requires c κs =
-    let b = c .before .before .before .before .before .before in
-    let l = length-take-le (b .loop .n) (b .loop .list) (omega arith) in
+    let at-loop = c .before .before .before .before .before .before in
+    let l = length-take-le (at-loop .loop .n) (at-loop .loop .list) (omega arith) in
     (omega arith, omega (arith, c .before .place .ensures .within))
 
 add-n : tie.Need-add-n Inv-loop μ-loop
@@ -45,24 +46,28 @@ loop-less c = omega arith
 
 loop-again : tie.Need-loop-again Inv-loop μ-loop
 loop-again c =
-    let a = c .before .before .before .before .before .before .before .before .before .before .before .before in
-    let b = c .before .before .before .before .before .before .before .before .before in
-    let u = parent-used (a .args .p) _ (sym (c .before .before .before .before .before .before .before .has-parent .ensures)
-    ∙ c .before .before .before .before .before .before .if1 .taken) in
-    gather-put (a .args .t .now) (a .args .p) (b .loop .i) (b .loop .n) (b .loop .list) (b .loop .inv) (omega arith)
-    (sym (c .before .before .before .before .before .before .before .has-parent .ensures) ∙ c .before .before .before .before .before .before .if1 .taken)
-    (record { below = omega arith; sound = a .pre .0; used = u })
-    (c .before .before .before .before .place .result) (c .before .before .before .before .place .ensures) ((b .loop .i - 1) % 256) (omega arith)
-    (c .before .before .put-in .last .0) (c .before .before .put-in .ensures)
+    let at-put-in = c .before .before in
+    let at-place = at-put-in .before .before in
+    let test = at-place .before .before in
+    let at-has-parent = test .before in
+    let at-loop = at-has-parent .before .before in
+    let start = at-loop .before .before .before in
+    let args = start .args in
+    let loop = at-loop .loop in
+    let u = parent-used (args .p) _ (sym (at-has-parent .has-parent .ensures) ∙ test .if1 .taken) in
+    gather-put (args .t .now) (args .p) (loop .i) (loop .n) (loop .list) (loop .inv) (omega arith)
+    (sym (at-has-parent .has-parent .ensures) ∙ test .if1 .taken) (record { below = omega arith; sound = start .pre .0; used = u })
+    (at-place .place .result) (at-place .place .ensures) ((loop .i - 1) % 256) (omega arith) (at-put-in .put-in .last .0) (at-put-in .put-in .ensures)
 
 loop-less-2 : tie.Need-loop-less-2 Inv-loop μ-loop
 loop-less-2 c = omega arith
 
 loop-again-2 : tie.Need-loop-again-2 Inv-loop μ-loop
 loop-again-2 c =
-    let a = c .before .before .before .before .before .before in
-    let b = c .before .before .before in
-    gather-skip (a .args .t .now) (a .args .p) (b .loop .i) (b .loop .n) (b .loop .list) (b .loop .inv) (omega arith)
+    let at-loop = c .before .before .before in
+    let args = at-loop .before .before .before .args in
+    let loop = at-loop .loop in
+    gather-skip (args .t .now) (args .p) (loop .i) (loop .n) (loop .list) (loop .inv) (omega arith)
     (sym (c .before .has-parent .ensures) ∙ c .if1 .left)
 
 same-length : tie.Need-same-length Inv-loop μ-loop
@@ -70,9 +75,10 @@ same-length c = c .before .loop .inv .long ∙ sym (c .before .before .before .b
 
 returns : tie.Need-returns Inv-loop μ-loop
 returns c =
-    let a = c .before .before .before .before in
-    let b = c .before in
-    gather-done (a .args .t .now) (a .args .p) (b .loop .i) (b .loop .n) (b .loop .list) (b .loop .inv) (omega arith)
+    let at-loop = c .before in
+    let args = at-loop .before .before .before .args in
+    let loop = at-loop .loop in
+    gather-done (args .t .now) (args .p) (loop .i) (loop .n) (loop .list) (loop .inv) (omega arith)
 
 pub children-spec : {M : Type 1} → statement M
 children-spec =

@@ -1,3 +1,4 @@
+-- A free slot has no parent; of a used one its parent decides.
 use mathlib.Core.Path.{sym, ap, _∙_}
 use Prim.Native.Nat.{ℕ}
 use lib.Dec.{eqb}
@@ -16,14 +17,14 @@ returns c = sym (unused-parent _ _ (sym (c .before .used .ensures) ∙ not-true 
 
 parent-requires : tie.Need-parent-requires
 parent-requires c κs =
-    let a = c .before .before .before in
-    (a .pre .0, sound-canonical _ (a .pre .1) .whole, sym (c .before .used .ensures) ∙ not-false _ (c .if1 .left))
+    let start = c .before .before .before in
+    (start .pre .0, sound-canonical _ (start .pre .1) .whole, sym (c .before .used .ensures) ∙ not-false _ (c .if1 .left))
 
 returns-2 : tie.Need-returns-2
 returns-2 c =
-    let a = c .before .before .before .before in
+    let args = c .before .before .before .before .args in
     let u = sym (c .before .before .used .ensures) ∙ not-false _ (c .before .if1 .left) in
-    ap (λ (n : ℕ). eqb n (a .args .p)) (c .parent .ensures .1) ∙ sym (used-parent (tableOf (a .args .t .now)) (a .args .i) (a .args .p) u)
+    ap (λ (n : ℕ). eqb n (args .p)) (c .parent .ensures .1) ∙ sym (used-parent (tableOf (args .t .now)) (args .i) (args .p) u)
 
 pub has-parent-spec : {M : Type 1} → statement M
 has-parent-spec = tie.close (tie.spec used-requires returns parent-requires returns-2)

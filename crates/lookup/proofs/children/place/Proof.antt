@@ -1,3 +1,4 @@
+-- None of the names before k comes after the slot's own, so it goes in before the first that does, or behind all.
 use mathlib.Core.Path.{_≡_, refl, sym, ap₂, _∙_}
 use mathlib.Core.List.{_++_}
 use Prim.Native.Nat.{_-_, _≤_}
@@ -32,20 +33,22 @@ name-requires c κs = has-name _ _ (c .before .before .before .before .before .p
 
 name-requires-2 : tie.Need-name-requires-2 Inv-loop μ-loop
 name-requires-2 c κs =
-    let a = c .before .before .before .before .before .before in
-    let b = c .before .before .before in
-    has-name _ _ (listed (a .args .t .now) (a .args .list .now) (a .args .n) (b .loop .k) (a .pre .1) (omega arith) (a .pre .0))
+    let at-loop = c .before .before .before in
+    let start = at-loop .before .before .before in
+    let args = start .args in
+    has-name _ _ (listed (args .t .now) (args .list .now) (args .n) (at-loop .loop .k) (start .pre .1) (omega arith) (start .pre .0))
 
 less-requires : tie.Need-less-requires Inv-loop μ-loop
 less-requires c κs = tt
 
 returns : tie.Need-returns Inv-loop μ-loop
 returns c =
-    let a = c .before .before .before .before .before .before .before .before .before in
-    let b = c .before .before .before .before .before .before in
+    let at-loop = c .before .before .before .before .before .before in
+    let start = at-loop .before .before .before in
+    let args = start .args in
     let e = ap₂ less (sym (c .before .before .before .name .ensures)) (sym (c .before .before .name2 .ensures)) ∙ sym (c .before .less .ensures)
     ∙ c .if1 .taken in
-    placed (tableOf (a .args .t .now)) (a .args .j) (a .args .list .now) (a .args .n) (b .loop .k) (a .pre .0) (omega arith) (b .loop .inv .1) e
+    placed (tableOf (args .t .now)) (args .j) (args .list .now) (args .n) (at-loop .loop .k) (start .pre .0) (omega arith) (at-loop .loop .inv .1) e
 
 add-k : tie.Need-add-k Inv-loop μ-loop
 add-k c = omega arith
@@ -55,19 +58,23 @@ loop-less c = omega arith
 
 loop-again : tie.Need-loop-again Inv-loop μ-loop
 loop-again c =
-    let a = c .before .before .before .before .before .before .before .before .before in
-    let b = c .before .before .before .before .before .before in
+    let at-loop = c .before .before .before .before .before .before in
+    let start = at-loop .before .before .before in
+    let args = start .args in
     let e = ap₂ less (sym (c .before .before .before .name .ensures)) (sym (c .before .before .name2 .ensures)) ∙ sym (c .before .less .ensures)
-    ∙ c .if1 .left in
-    (omega arith, not-placed (tableOf (a .args .t .now)) (a .args .j) (a .args .list .now) (a .args .n) (b .loop .k) (a .pre .0) (omega arith) (b .loop .inv .1)
-    e)
+    ∙ c .if1 .left in (
+      omega arith,
+      not-placed (tableOf (args .t .now)) (args .j) (args .list .now) (args .n) (at-loop .loop .k) (start .pre .0) (omega arith) (at-loop .loop .inv .1)
+          e,
+    )
 
 returns-2 : tie.Need-returns-2 Inv-loop μ-loop
 returns-2 c =
-    let a = c .before .before .before .before in
-    let b = c .before in
-    let l = length-take-le (a .args .n) (a .args .list .now) (a .pre .0) in
-    placed-last (tableOf (a .args .t .now)) (a .args .j) (take (a .args .n) (a .args .list .now)) (b .loop .k) (omega arith) (omega arith) (b .loop .inv .1)
+    let at-loop = c .before in
+    let start = at-loop .before .before .before in
+    let args = start .args in
+    let l = length-take-le (args .n) (args .list .now) (start .pre .0) in
+    placed-last (tableOf (args .t .now)) (args .j) (take (args .n) (args .list .now)) (at-loop .loop .k) (omega arith) (omega arith) (at-loop .loop .inv .1)
 
 pub place-spec : {M : Type 1} → statement M
 place-spec =

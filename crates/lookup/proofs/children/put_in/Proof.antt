@@ -1,3 +1,4 @@
+-- Before each turn the slots from m on have moved up by one, and those before m are where they were.
 use mathlib.Core.Path.{_≡_, _∙_}
 use Prim.Native.Nat.{_+_, _-_, _≤_}
 use native.Mathlib.Omega.{arith}
@@ -21,16 +22,18 @@ sub-list c = omega arith
 
 slice-read-list : tie.Need-slice-read-list Inv-loop μ-loop
 slice-read-list c =
-    let a = c .before .before .before in
-    let b = c .before .before in
-    let l = shift-length (a .args .list .now) (a .args .n) (b .loop .m) (b .loop .list) (a .pre .0) (b .loop .inv .1) (b .loop .inv .2) in
+    let at-loop = c .before .before in
+    let start = at-loop .before in
+    let loop = at-loop .loop in
+    let l = shift-length (start .args .list .now) (start .args .n) (loop .m) (loop .list) (start .pre .0) (loop .inv .1) (loop .inv .2) in
     omega arith
 
 slice-write-list : tie.Need-slice-write-list Inv-loop μ-loop
 slice-write-list c =
-    let a = c .before .before .before in
-    let b = c .before .before in
-    let l = shift-length (a .args .list .now) (a .args .n) (b .loop .m) (b .loop .list) (a .pre .0) (b .loop .inv .1) (b .loop .inv .2) in
+    let at-loop = c .before .before in
+    let start = at-loop .before in
+    let loop = at-loop .loop in
+    let l = shift-length (start .args .list .now) (start .args .n) (loop .m) (loop .list) (start .pre .0) (loop .inv .1) (loop .inv .2) in
     omega arith
 
 sub-m : tie.Need-sub-m Inv-loop μ-loop
@@ -41,34 +44,43 @@ loop-less c = omega arith
 
 loop-again : tie.Need-loop-again Inv-loop μ-loop
 loop-again c =
-    let a = c .before .before .before in
-    let b = c .before .before in
-    (omega arith, omega arith, shifted (a .args .list .now) (a .args .n) (b .loop .m) (b .loop .list) (a .pre .0) (b .loop .inv .1) (omega arith)
-    (b .loop .inv .2))
+    let at-loop = c .before .before in
+    let start = at-loop .before in
+    let loop = at-loop .loop in (
+      omega arith,
+      omega arith,
+      shifted (start .args .list .now) (start .args .n) (loop .m) (loop .list) (start .pre .0) (loop .inv .1) (omega arith) (loop .inv .2),
+    )
 
 slice-write-list-2 : tie.Need-slice-write-list-2 Inv-loop μ-loop
 slice-write-list-2 c =
-    let a = c .before .before in
-    let b = c .before in
-    let e : b .loop .m ≡ a .args .k = omega arith in
-    let l = shift-length (a .args .list .now) (a .args .n) (b .loop .m) (b .loop .list) (a .pre .0) (b .loop .inv .1) (b .loop .inv .2) in
+    let at-loop = c .before in
+    let start = at-loop .before in
+    let args = start .args in
+    let loop = at-loop .loop in
+    let e : loop .m ≡ args .k = omega arith in
+    let l = shift-length (args .list .now) (args .n) (loop .m) (loop .list) (start .pre .0) (loop .inv .1) (loop .inv .2) in
     omega arith
 
 same-length : tie.Need-same-length Inv-loop μ-loop
 same-length c =
-    let a = c .before .before in
-    let b = c .before in
-    let e : b .loop .m ≡ a .args .k = omega arith in
-    let l = shift-length (a .args .list .now) (a .args .n) (b .loop .m) (b .loop .list) (a .pre .0) (b .loop .inv .1) (b .loop .inv .2) in
-    length-set (b .loop .list) (a .args .k) (a .args .j) ∙ l
+    let at-loop = c .before in
+    let start = at-loop .before in
+    let args = start .args in
+    let loop = at-loop .loop in
+    let e : loop .m ≡ args .k = omega arith in
+    let l = shift-length (args .list .now) (args .n) (loop .m) (loop .list) (start .pre .0) (loop .inv .1) (loop .inv .2) in
+    length-set (loop .list) (args .k) (args .j) ∙ l
 
 returns : tie.Need-returns Inv-loop μ-loop
 returns c =
-    let a = c .before .before in
-    let b = c .before in
-    let e : b .loop .m ≡ a .args .k = omega arith in
-    let l = shift-length (a .args .list .now) (a .args .n) (b .loop .m) (b .loop .list) (a .pre .0) (b .loop .inv .1) (b .loop .inv .2) in
-    rw (← e) (shift-done (a .args .list .now) (a .args .n) (b .loop .m) (b .loop .list) (a .pre .0) (b .loop .inv .1) (a .args .j) (b .loop .inv .2))
+    let at-loop = c .before in
+    let start = at-loop .before in
+    let args = start .args in
+    let loop = at-loop .loop in
+    let e : loop .m ≡ args .k = omega arith in
+    let l = shift-length (args .list .now) (args .n) (loop .m) (loop .list) (start .pre .0) (loop .inv .1) (loop .inv .2) in
+    rw (← e) (shift-done (args .list .now) (args .n) (loop .m) (loop .list) (start .pre .0) (loop .inv .1) (args .j) (loop .inv .2))
 
 pub put-in-spec : {M : Type 1} → statement M
 put-in-spec =

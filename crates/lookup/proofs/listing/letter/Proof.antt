@@ -1,3 +1,4 @@
+-- An access is 0 to 3, and each has its letter.
 use mathlib.Core.Path.{_≡_, sym, ap}
 use native.Mathlib.Omega.{arith}
 use Rattle.rules.specs.Octets.{text}

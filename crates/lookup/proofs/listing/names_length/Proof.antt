@@ -1,3 +1,4 @@
+-- After k turns the sum is the length of the first k names with their nuls, and each is short.
 use mathlib.Core.Path.{_≡_, refl, ap, _∙_}
 use mathlib.Core.List.{flatMap}
 use Prim.Native.Nat.{ℕ, _*_, _-_, _≤_}
@@ -30,29 +31,32 @@ cast-name-length c = omega (arith, c .shared-slice-known3 .given (c .before .bef
 
 name-length-requires : tie.Need-name-length-requires Inv-loop μ-loop
 name-length-requires c κs =
-    let a = c .before .before .before .before .before in
-    let b = c .before .before in
-    let q = listed (a .args .t .now) (a .args .list .now) (a .args .n) (b .loop .k) (a .pre .2) (omega arith) (a .pre .1) in
+    let at-loop = c .before .before in
+    let start = at-loop .before .before .before in
+    let args = start .args in
+    let q = listed (args .t .now) (args .list .now) (args .n) (at-loop .loop .k) (start .pre .2) (omega arith) (start .pre .1) in
     (q .below, sound-canonical _ (q .sound) .whole)
 
 add-sum : tie.Need-add-sum Inv-loop μ-loop
 add-sum c =
-    let a = c .before .before .before .before .before .before in
-    let b = c .before .before .before in
-    let q = listed (a .args .t .now) (a .args .list .now) (a .args .n) (b .loop .k) (a .pre .2) (omega arith) (a .pre .1) in
-    let i = getD (a .args .list .now) (b .loop .k) 0 in
-    let l = name-length (a .args .t .now) i q in
-    let f = name-fits (a .args .t .now) i in
+    let at-loop = c .before .before .before in
+    let start = at-loop .before .before .before in
+    let args = start .args in
+    let q = listed (args .t .now) (args .list .now) (args .n) (at-loop .loop .k) (start .pre .2) (omega arith) (start .pre .1) in
+    let i = getD (args .list .now) (at-loop .loop .k) 0 in
+    let l = name-length (args .t .now) i q in
+    let f = name-fits (args .t .now) i in
     omega (arith, c .name-length .ensures)
 
 add-sum-2 : tie.Need-add-sum-2 Inv-loop μ-loop
 add-sum-2 c =
-    let a = c .before .before .before .before .before .before in
-    let b = c .before .before .before in
-    let q = listed (a .args .t .now) (a .args .list .now) (a .args .n) (b .loop .k) (a .pre .2) (omega arith) (a .pre .1) in
-    let i = getD (a .args .list .now) (b .loop .k) 0 in
-    let l = name-length (a .args .t .now) i q in
-    let f = name-fits (a .args .t .now) i in
+    let at-loop = c .before .before .before in
+    let start = at-loop .before .before .before in
+    let args = start .args in
+    let q = listed (args .t .now) (args .list .now) (args .n) (at-loop .loop .k) (start .pre .2) (omega arith) (start .pre .1) in
+    let i = getD (args .list .now) (at-loop .loop .k) 0 in
+    let l = name-length (args .t .now) i q in
+    let f = name-fits (args .t .now) i in
     omega (arith, c .name-length .ensures)
 
 add-k : tie.Need-add-k Inv-loop μ-loop
@@ -63,21 +67,23 @@ loop-less c = omega arith
 
 loop-again : tie.Need-loop-again Inv-loop μ-loop
 loop-again c =
-    let a = c .before .before .before .before .before .before in
-    let b = c .before .before .before in
-    let q = listed (a .args .t .now) (a .args .list .now) (a .args .n) (b .loop .k) (a .pre .2) (omega arith) (a .pre .1) in
-    let i = getD (a .args .list .now) (b .loop .k) 0 in
-    let l = name-length (a .args .t .now) i q in
-    let f = name-fits (a .args .t .now) i in
-    let e = names-longer (a .args .t .now) (a .args .list .now) (b .loop .k) (omega arith) q in
+    let at-loop = c .before .before .before in
+    let start = at-loop .before .before .before in
+    let args = start .args in
+    let loop = at-loop .loop in
+    let q = listed (args .t .now) (args .list .now) (args .n) (loop .k) (start .pre .2) (omega arith) (start .pre .1) in
+    let i = getD (args .list .now) (loop .k) 0 in
+    let l = name-length (args .t .now) i q in
+    let f = name-fits (args .t .now) i in
+    let e = names-longer (args .t .now) (args .list .now) (loop .k) (omega arith) q in
     (omega arith, omega (arith, c .name-length .ensures), omega (arith, c .name-length .ensures, e))
 
 returns : tie.Need-returns Inv-loop μ-loop
 returns c =
-    let a = c .before .before .before .before in
-    let b = c .before in
-    let e : b .loop .k ≡ a .args .n = omega arith in
-    b .loop .inv .2 ∙ ap (λ (k : ℕ). length (nameList (tableOf (a .args .t .now)) (take k (a .args .list .now)))) e
+    let at-loop = c .before in
+    let args = at-loop .before .before .before .args in
+    let e : at-loop .loop .k ≡ args .n = omega arith in
+    at-loop .loop .inv .2 ∙ ap (λ (k : ℕ). length (nameList (tableOf (args .t .now)) (take k (args .list .now)))) e
 
 pub names-length-spec : {M : Type 1} → statement M
 names-length-spec =

@@ -1,3 +1,4 @@
+-- After k turns the texts of the first k entries stand one behind the other; there are four at most and each is short, so there is room.
 use mathlib.Core.Path.{_≡_, ap, _∙_}
 use Prim.Native.Nat.{suc, _≤_, _-_}
 use native.Mathlib.Omega.{arith}
@@ -23,26 +24,31 @@ entry-count-requires c κs = (c .before .before .pre .0 .below, sound-canonical 
 
 loop-holds : tie.Need-loop-holds Inv-loop μ-loop
 loop-holds c =
-    let a = c .before .before .before in
-    (search needs, c .entry-count .ensures ∙ count-is (a .args .t .now) (a .args .i) (a .pre .0),
-    none-written (a .args .t .now) (a .args .i) (a .pre .0) (a .args .at) (a .args .into .now) (a .pre .1))
+    let start = c .before .before .before in
+    let args = start .args in (
+      search needs,
+      c .entry-count .ensures ∙ count-is (args .t .now) (args .i) (start .pre .0),
+      none-written (args .t .now) (args .i) (start .pre .0) (args .at) (args .into .now) (start .pre .1),
+    )
 
 entry-at-requires : tie.Need-entry-at-requires Inv-loop μ-loop
 entry-at-requires c κs =
-    let a = c .before .before .before .before .before in
-    (a .pre .0 .below, sound-canonical _ (a .pre .0 .sound) .whole, omega (arith, few (a .args .t .now) (a .args .i) (a .pre .0)))
+    let start = c .before .before .before .before .before in
+    (start .pre .0 .below, sound-canonical _ (start .pre .0 .sound) .whole, omega (arith, few (start .args .t .now) (start .args .i) (start .pre .0)))
 
 put-entry-requires : tie.Need-put-entry-requires Inv-loop μ-loop
 put-entry-requires c κs =
-    let a = c .before .before .before .before .before .before .before in
-    let b = c .before .before .before in
+    let at-loop = c .before .before .before in
+    let start = at-loop .before .before .before .before in
+    let args = start .args in
+    let loop = at-loop .loop in
     let e = c .before .entry-at .ensures in
-    let f = entry-fits (a .args .t .now) (a .args .i) (a .pre .0) (a .args .at) (a .args .into .now) (a .pre .1) (b .loop .k) (b .loop .into) (b .loop .to)
-    (b .loop .inv .2) (omega arith) in
-    let r = written-room (a .args .t .now) (a .args .i) (a .pre .0) (a .args .at) (a .args .into .now) (a .pre .1) (b .loop .k) (b .loop .into) (b .loop .to)
-    (b .loop .inv .2) (omega arith) in
-    let n = few (a .args .t .now) (a .args .i) (a .pre .0) in
-    (omega arith, omega arith, omega (arith, b .loop .inv .2 .short))
+    let f = entry-fits (args .t .now) (args .i) (start .pre .0) (args .at) (args .into .now) (start .pre .1) (loop .k) (loop .into) (loop .to)
+    (loop .inv .2) (omega arith) in
+    let r = written-room (args .t .now) (args .i) (start .pre .0) (args .at) (args .into .now) (start .pre .1) (loop .k) (loop .into) (loop .to)
+    (loop .inv .2) (omega arith) in
+    let n = few (args .t .now) (args .i) (start .pre .0) in
+    (omega arith, omega arith, omega (arith, loop .inv .2 .short))
 
 add-k : tie.Need-add-k Inv-loop μ-loop
 add-k c = omega arith
@@ -52,29 +58,40 @@ loop-less c = omega arith
 
 loop-again : tie.Need-loop-again Inv-loop μ-loop
 loop-again c =
-    let a = c .before .before .before .before .before .before .before .before .before .before in
-    let b = c .before .before .before .before .before .before in
-    let e = c .before .before .before .before .entry-at in
-    (omega arith, b .loop .inv .1, one-more (a .args .t .now) (a .args .i) (a .pre .0) (a .args .at) (a .args .into .now) (a .pre .1) (b .loop .k)
-    (b .loop .into) (b .loop .to) (b .loop .inv .2) (omega arith) (e .result .access) (e .result .domain) (e .ensures .0) (e .ensures .1)
-    (c .before .before .put-entry .last .0) (c .before .before .put-entry .result) (c .before .before .put-entry .ensures))
+    let at-put-entry = c .before .before in
+    let at-entry-at = at-put-entry .before .before in
+    let at-loop = at-entry-at .before .before in
+    let start = at-loop .before .before .before .before in
+    let args = start .args in
+    let loop = at-loop .loop in
+    let e = at-entry-at .entry-at in (
+      omega arith,
+      loop .inv .1,
+      one-more (args .t .now) (args .i) (start .pre .0) (args .at) (args .into .now) (start .pre .1) (loop .k)
+          (loop .into) (loop .to) (loop .inv .2) (omega arith) (e .result .access) (e .result .domain) (e .ensures .0) (e .ensures .1)
+          (at-put-entry .put-entry .last .0) (at-put-entry .put-entry .result) (at-put-entry .put-entry .ensures),
+    )
 
 same-length : tie.Need-same-length Inv-loop μ-loop
 same-length c =
-    let a = c .before .before .before .before .before in
-    let b = c .before in
-    let n = few (a .args .t .now) (a .args .i) (a .pre .0) in
-    let w = all-written (a .args .t .now) (a .args .i) (a .pre .0) (a .args .at) (a .args .into .now) (a .pre .1) (b .loop .k) (b .loop .into) (b .loop .to)
-    (b .loop .inv .2) (omega arith) in
-    ap length (w .bytes) ∙ length-paste (a .args .at) _ (a .args .into .now) (omega (arith, w .behind, b .loop .inv .2 .short))
+    let at-loop = c .before in
+    let start = at-loop .before .before .before .before in
+    let args = start .args in
+    let loop = at-loop .loop in
+    let n = few (args .t .now) (args .i) (start .pre .0) in
+    let w = all-written (args .t .now) (args .i) (start .pre .0) (args .at) (args .into .now) (start .pre .1) (loop .k) (loop .into) (loop .to)
+    (loop .inv .2) (omega arith) in
+    ap length (w .bytes) ∙ length-paste (args .at) _ (args .into .now) (omega (arith, w .behind, loop .inv .2 .short))
 
 returns : tie.Need-returns Inv-loop μ-loop
 returns c =
-    let a = c .before .before .before .before .before in
-    let b = c .before in
-    let n = few (a .args .t .now) (a .args .i) (a .pre .0) in
-    let w = all-written (a .args .t .now) (a .args .i) (a .pre .0) (a .args .at) (a .args .into .now) (a .pre .1) (b .loop .k) (b .loop .into) (b .loop .to)
-    (b .loop .inv .2) (omega arith) in
+    let at-loop = c .before in
+    let start = at-loop .before .before .before .before in
+    let args = start .args in
+    let loop = at-loop .loop in
+    let n = few (args .t .now) (args .i) (start .pre .0) in
+    let w = all-written (args .t .now) (args .i) (start .pre .0) (args .at) (args .into .now) (start .pre .1) (loop .k) (loop .into) (loop .to)
+    (loop .inv .2) (omega arith) in
     w
 
 pub put-entries-spec : {M : Type 1} → statement M

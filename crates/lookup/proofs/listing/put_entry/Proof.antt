@@ -1,3 +1,4 @@
+-- The letter, the decimal behind it and the nul behind that are the entry's text.
 use native.Mathlib.Omega.{arith}
 use mathlib.Core.Path.{_∙_}
 use lib.ListN.{length-set}
@@ -20,34 +21,45 @@ put-decimal-requires c κs = rw length-set (omega arith)
 
 slice-write-into-2 : tie.Need-slice-write-into-2
 slice-write-into-2 c =
-    let a = c .before .before .before .before .before .before in
-    let l = c .before .before .before .before .letter in
+    let at-letter = c .before .before .before .before in
+    let start = at-letter .before .before in
+    let args = start .args in
+    let l = at-letter .letter in
     let d = c .before .before .put-decimal in
-    entry-next (a .args .into .now) (a .args .at) (a .args .access) (a .args .domain) (l .result) (l .ensures) (a .pre .1) (a .pre .2) (d .last .0) (d .result)
+    entry-next (args .into .now) (args .at) (args .access) (args .domain) (l .result) (l .ensures) (start .pre .1) (start .pre .2) (d .last .0) (d .result)
     (d .ensures) .1
 
 add-result : tie.Need-add-result
 add-result c =
-    let a = c .before .before .before .before .before .before in
-    let l = c .before .before .before .before .letter in
+    let at-letter = c .before .before .before .before in
+    let start = at-letter .before .before in
+    let args = start .args in
+    let l = at-letter .letter in
     let d = c .before .before .put-decimal in
-    omega (arith, entry-next (a .args .into .now) (a .args .at) (a .args .access) (a .args .domain) (l .result) (l .ensures) (a .pre .1) (a .pre .2)
-    (d .last .0) (d .result) (d .ensures))
+    omega (
+      arith,
+      entry-next (args .into .now) (args .at) (args .access) (args .domain) (l .result) (l .ensures) (start .pre .1) (start .pre .2)
+          (d .last .0) (d .result) (d .ensures),
+    )
 
 same-length : tie.Need-same-length
 same-length c =
-    let a = c .before .before .before .before .before .before in
-    let l = c .before .before .before .before .letter in
+    let at-letter = c .before .before .before .before in
+    let start = at-letter .before .before in
+    let args = start .args in
+    let l = at-letter .letter in
     let d = c .before .before .put-decimal in
-    length-set (d .last .0) (d .result) 0 ∙ entry-room (a .args .into .now) (a .args .at) (a .args .access) (a .args .domain) (l .result) (l .ensures)
-    (a .pre .1) (a .pre .2) (d .last .0) (d .result) (d .ensures)
+    length-set (d .last .0) (d .result) 0 ∙ entry-room (args .into .now) (args .at) (args .access) (args .domain) (l .result) (l .ensures)
+    (start .pre .1) (start .pre .2) (d .last .0) (d .result) (d .ensures)
 
 returns : tie.Need-returns
 returns c =
-    let a = c .before .before .before .before .before .before in
-    let l = c .before .before .before .before .letter in
+    let at-letter = c .before .before .before .before in
+    let start = at-letter .before .before in
+    let args = start .args in
+    let l = at-letter .letter in
     let d = c .before .before .put-decimal in
-    entry-put (a .args .into .now) (a .args .at) (a .args .access) (a .args .domain) (l .result) (l .ensures) (a .pre .1) (a .pre .2) (d .last .0) (d .result)
+    entry-put (args .into .now) (args .at) (args .access) (args .domain) (l .result) (l .ensures) (start .pre .1) (start .pre .2) (d .last .0) (d .result)
     (d .ensures)
 
 pub put-entry-spec : {M : Type 1} → statement M

@@ -1,3 +1,4 @@
+-- After k turns the first k names with their nuls stand one behind the other, and the rest of the list has the room that is left.
 use mathlib.Core.Path.{_≡_, sym, ap, _∙_}
 use mathlib.Core.List.{_++_, flatMap}
 use Prim.Native.Nat.{ℕ, _+_, _-_, _≤_}
@@ -25,8 +26,8 @@ abbrev μ-loop : tie.MeasureT-loop
 loop-holds : tie.Need-loop-holds Inv-loop μ-loop
 unfolding nameList flatMap
 loop-holds c =
-    let a = c .before .before .before .args in
-    (search needs, sym (paste-nil (a .at) (a .into .now)), sym (add-zero (a .at)))
+    let args = c .before .before .before .args in
+    (search needs, sym (paste-nil (args .at) (args .into .now)), sym (add-zero (args .at)))
 
 shared-slice-read-name : tie.Need-shared-slice-read-name Inv-loop μ-loop
 shared-slice-read-name c = omega arith
@@ -36,73 +37,86 @@ cast-name c = omega (arith, c .shared-slice-known3 .given (c .before .before .lo
 
 name-requires : tie.Need-name-requires Inv-loop μ-loop
 name-requires c κs =
-    let a = c .before .before .before .before .before .before in
-    let b = c .before .before in
-    let q = listed (a .args .t .now) (a .args .list .now) (a .args .n) (b .loop .k) (a .pre .1) (omega arith) (a .pre .0) in
+    let at-loop = c .before .before in
+    let start = at-loop .before .before .before .before in
+    let args = start .args in
+    let q = listed (args .t .now) (args .list .now) (args .n) (at-loop .loop .k) (start .pre .1) (omega arith) (start .pre .0) in
     has-name _ _ q
 
 copy-requires : tie.Need-copy-requires Inv-loop μ-loop
 copy-requires c κs =
-    let a = c .before .before .before .before .before .before .before .before in
-    let b = c .before .before .before .before in
-    let q = listed (a .args .t .now) (a .args .list .now) (a .args .n) (b .loop .k) (a .pre .1) (omega arith) (a .pre .0) in
-    let ts = tableOf (a .args .t .now) in
-    let is = a .args .list .now in
-    let xs = nameList ts (take (b .loop .k) is) in
-    let ys = nodeAt ts (getD is (b .loop .k) 0) .name in
+    let at-loop = c .before .before .before .before in
+    let start = at-loop .before .before .before .before in
+    let args = start .args in
+    let loop = at-loop .loop in
+    let q = listed (args .t .now) (args .list .now) (args .n) (loop .k) (start .pre .1) (omega arith) (start .pre .0) in
+    let ts = tableOf (args .t .now) in
+    let is = args .list .now in
+    let xs = nameList ts (take (loop .k) is) in
+    let ys = nodeAt ts (getD is (loop .k) 0) .name in
     let long : length (c .before .name .result .now) ≡ length ys = ap length (c .before .name .ensures) in
-    let room : a .args .at + (length xs + (length ys + 1)) ≤ length (a .args .into .now) =
-    room-for ts is (b .loop .k) (a .args .n) (omega arith) (omega arith) (a .args .at) (length (a .args .into .now)) (a .pre .2) in
-    let same = same-room (a .args .at) xs (a .args .into .now) (b .loop .into) (b .loop .to) (b .loop .inv .1) (b .loop .inv .2) ys room in
+    let room : args .at + (length xs + (length ys + 1)) ≤ length (args .into .now) =
+    room-for ts is (loop .k) (args .n) (omega arith) (omega arith) (args .at) (length (args .into .now)) (start .pre .2) in
+    let same = same-room (args .at) xs (args .into .now) (loop .into) (loop .to) (loop .inv .1) (loop .inv .2) ys room in
     omega arith
 
 add-to : tie.Need-add-to Inv-loop μ-loop
 add-to c =
-    let a = c .before .before .before .before .before .before .before .before .before .before .before in
-    let b = c .before .before .before .before .before .before .before in
-    let q = listed (a .args .t .now) (a .args .list .now) (a .args .n) (b .loop .k) (a .pre .1) (omega arith) (a .pre .0) in
-    let ts = tableOf (a .args .t .now) in
-    let is = a .args .list .now in
-    let xs = nameList ts (take (b .loop .k) is) in
-    let ys = nodeAt ts (getD is (b .loop .k) 0) .name in
-    let long : length (c .before .before .before .before .name .result .now) ≡ length ys = ap length (c .before .before .before .before .name .ensures) in
-    let room : a .args .at + (length xs + (length ys + 1)) ≤ length (a .args .into .now) =
-    room-for ts is (b .loop .k) (a .args .n) (omega arith) (omega arith) (a .args .at) (length (a .args .into .now)) (a .pre .2) in
-    let same = same-room (a .args .at) xs (a .args .into .now) (b .loop .into) (b .loop .to) (b .loop .inv .1) (b .loop .inv .2) ys room in
+    let at-name = c .before .before .before .before in
+    let at-loop = at-name .before .before .before in
+    let start = at-loop .before .before .before .before in
+    let args = start .args in
+    let loop = at-loop .loop in
+    let q = listed (args .t .now) (args .list .now) (args .n) (loop .k) (start .pre .1) (omega arith) (start .pre .0) in
+    let ts = tableOf (args .t .now) in
+    let is = args .list .now in
+    let xs = nameList ts (take (loop .k) is) in
+    let ys = nodeAt ts (getD is (loop .k) 0) .name in
+    let long : length (at-name .name .result .now) ≡ length ys = ap length (at-name .name .ensures) in
+    let room : args .at + (length xs + (length ys + 1)) ≤ length (args .into .now) =
+    room-for ts is (loop .k) (args .n) (omega arith) (omega arith) (args .at) (length (args .into .now)) (start .pre .2) in
+    let same = same-room (args .at) xs (args .into .now) (loop .into) (loop .to) (loop .inv .1) (loop .inv .2) ys room in
     omega arith
 
 slice-write-into : tie.Need-slice-write-into Inv-loop μ-loop
 slice-write-into c =
-    let a = c .before .before .before .before .before .before .before .before .before .before .before in
-    let b = c .before .before .before .before .before .before .before in
-    let q = listed (a .args .t .now) (a .args .list .now) (a .args .n) (b .loop .k) (a .pre .1) (omega arith) (a .pre .0) in
-    let ts = tableOf (a .args .t .now) in
-    let is = a .args .list .now in
-    let xs = nameList ts (take (b .loop .k) is) in
-    let ys = nodeAt ts (getD is (b .loop .k) 0) .name in
-    let long : length (c .before .before .before .before .name .result .now) ≡ length ys = ap length (c .before .before .before .before .name .ensures) in
-    let room : a .args .at + (length xs + (length ys + 1)) ≤ length (a .args .into .now) =
-    room-for ts is (b .loop .k) (a .args .n) (omega arith) (omega arith) (a .args .at) (length (a .args .into .now)) (a .pre .2) in
-    let same = same-room (a .args .at) xs (a .args .into .now) (b .loop .into) (b .loop .to) (b .loop .inv .1) (b .loop .inv .2) ys room in
-    let copied : c .before .before .copy .last .0 ≡ paste (b .loop .to) ys (b .loop .into) = c .before .before .copy .ensures
-    ∙ ap (λ (l : Octets). paste (b .loop .to) l (b .loop .into)) (c .before .before .before .before .name .ensures) in
-    let after = room-after (a .args .at) xs (a .args .into .now) (b .loop .into) (b .loop .to) (b .loop .inv .1) (b .loop .inv .2) ys room
-    (c .before .before .copy .last .0) copied in
+    let at-copy = c .before .before in
+    let at-name = at-copy .before .before in
+    let at-loop = at-name .before .before .before in
+    let start = at-loop .before .before .before .before in
+    let args = start .args in
+    let loop = at-loop .loop in
+    let q = listed (args .t .now) (args .list .now) (args .n) (loop .k) (start .pre .1) (omega arith) (start .pre .0) in
+    let ts = tableOf (args .t .now) in
+    let is = args .list .now in
+    let xs = nameList ts (take (loop .k) is) in
+    let ys = nodeAt ts (getD is (loop .k) 0) .name in
+    let long : length (at-name .name .result .now) ≡ length ys = ap length (at-name .name .ensures) in
+    let room : args .at + (length xs + (length ys + 1)) ≤ length (args .into .now) =
+    room-for ts is (loop .k) (args .n) (omega arith) (omega arith) (args .at) (length (args .into .now)) (start .pre .2) in
+    let same = same-room (args .at) xs (args .into .now) (loop .into) (loop .to) (loop .inv .1) (loop .inv .2) ys room in
+    let copied : at-copy .copy .last .0 ≡ paste (loop .to) ys (loop .into) = at-copy .copy .ensures
+    ∙ ap (λ (l : Octets). paste (loop .to) l (loop .into)) (at-name .name .ensures) in
+    let after = room-after (args .at) xs (args .into .now) (loop .into) (loop .to) (loop .inv .1) (loop .inv .2) ys room
+    (at-copy .copy .last .0) copied in
     omega arith
 
 add-to-2 : tie.Need-add-to-2 Inv-loop μ-loop
 add-to-2 c =
-    let a = c .before .before .before .before .before .before .before .before .before .before .before in
-    let b = c .before .before .before .before .before .before .before in
-    let q = listed (a .args .t .now) (a .args .list .now) (a .args .n) (b .loop .k) (a .pre .1) (omega arith) (a .pre .0) in
-    let ts = tableOf (a .args .t .now) in
-    let is = a .args .list .now in
-    let xs = nameList ts (take (b .loop .k) is) in
-    let ys = nodeAt ts (getD is (b .loop .k) 0) .name in
-    let long : length (c .before .before .before .before .name .result .now) ≡ length ys = ap length (c .before .before .before .before .name .ensures) in
-    let room : a .args .at + (length xs + (length ys + 1)) ≤ length (a .args .into .now) =
-    room-for ts is (b .loop .k) (a .args .n) (omega arith) (omega arith) (a .args .at) (length (a .args .into .now)) (a .pre .2) in
-    let same = same-room (a .args .at) xs (a .args .into .now) (b .loop .into) (b .loop .to) (b .loop .inv .1) (b .loop .inv .2) ys room in
+    let at-name = c .before .before .before .before in
+    let at-loop = at-name .before .before .before in
+    let start = at-loop .before .before .before .before in
+    let args = start .args in
+    let loop = at-loop .loop in
+    let q = listed (args .t .now) (args .list .now) (args .n) (loop .k) (start .pre .1) (omega arith) (start .pre .0) in
+    let ts = tableOf (args .t .now) in
+    let is = args .list .now in
+    let xs = nameList ts (take (loop .k) is) in
+    let ys = nodeAt ts (getD is (loop .k) 0) .name in
+    let long : length (at-name .name .result .now) ≡ length ys = ap length (at-name .name .ensures) in
+    let room : args .at + (length xs + (length ys + 1)) ≤ length (args .into .now) =
+    room-for ts is (loop .k) (args .n) (omega arith) (omega arith) (args .at) (length (args .into .now)) (start .pre .2) in
+    let same = same-room (args .at) xs (args .into .now) (loop .into) (loop .to) (loop .inv .1) (loop .inv .2) ys room in
     omega arith
 
 add-k : tie.Need-add-k Inv-loop μ-loop
@@ -113,49 +127,55 @@ loop-less c = omega arith
 
 loop-again : tie.Need-loop-again Inv-loop μ-loop
 loop-again c =
-    let a = c .before .before .before .before .before .before .before .before .before .before .before in
-    let b = c .before .before .before .before .before .before .before in
-    let q = listed (a .args .t .now) (a .args .list .now) (a .args .n) (b .loop .k) (a .pre .1) (omega arith) (a .pre .0) in
-    let ts = tableOf (a .args .t .now) in
-    let is = a .args .list .now in
-    let xs = nameList ts (take (b .loop .k) is) in
-    let ys = nodeAt ts (getD is (b .loop .k) 0) .name in
-    let long : length (c .before .before .before .before .name .result .now) ≡ length ys = ap length (c .before .before .before .before .name .ensures) in
-    let room : a .args .at + (length xs + (length ys + 1)) ≤ length (a .args .into .now) =
-    room-for ts is (b .loop .k) (a .args .n) (omega arith) (omega arith) (a .args .at) (length (a .args .into .now)) (a .pre .2) in
-    let same = same-room (a .args .at) xs (a .args .into .now) (b .loop .into) (b .loop .to) (b .loop .inv .1) (b .loop .inv .2) ys room in
-    let copied : c .before .before .copy .last .0 ≡ paste (b .loop .to) ys (b .loop .into) = c .before .before .copy .ensures
-    ∙ ap (λ (l : Octets). paste (b .loop .to) l (b .loop .into)) (c .before .before .before .before .name .ensures) in
-    let after = room-after (a .args .at) xs (a .args .into .now) (b .loop .into) (b .loop .to) (b .loop .inv .1) (b .loop .inv .2) ys room
-    (c .before .before .copy .last .0) copied in
-    let e = names-next ts is (b .loop .k) (omega arith) in (
+    let at-copy = c .before .before in
+    let at-name = at-copy .before .before in
+    let at-loop = at-name .before .before .before in
+    let start = at-loop .before .before .before .before in
+    let args = start .args in
+    let loop = at-loop .loop in
+    let q = listed (args .t .now) (args .list .now) (args .n) (loop .k) (start .pre .1) (omega arith) (start .pre .0) in
+    let ts = tableOf (args .t .now) in
+    let is = args .list .now in
+    let xs = nameList ts (take (loop .k) is) in
+    let ys = nodeAt ts (getD is (loop .k) 0) .name in
+    let long : length (at-name .name .result .now) ≡ length ys = ap length (at-name .name .ensures) in
+    let room : args .at + (length xs + (length ys + 1)) ≤ length (args .into .now) =
+    room-for ts is (loop .k) (args .n) (omega arith) (omega arith) (args .at) (length (args .into .now)) (start .pre .2) in
+    let same = same-room (args .at) xs (args .into .now) (loop .into) (loop .to) (loop .inv .1) (loop .inv .2) ys room in
+    let copied : at-copy .copy .last .0 ≡ paste (loop .to) ys (loop .into) = at-copy .copy .ensures
+    ∙ ap (λ (l : Octets). paste (loop .to) l (loop .into)) (at-name .name .ensures) in
+    let after = room-after (args .at) xs (args .into .now) (loop .into) (loop .to) (loop .inv .1) (loop .inv .2) ys room
+    (at-copy .copy .last .0) copied in
+    let e = names-next ts is (loop .k) (omega arith) in (
       omega arith,
-      ap (λ (i : ℕ). set (c .before .before .copy .last .0) (b .loop .to + i) 0) long
-          ∙ nul-behind (a .args .at) xs (a .args .into .now) (b .loop .into) (b .loop .to) (b .loop .inv .1) (b .loop .inv .2) ys room
-          (c .before .before .copy .last .0) copied
-          ∙ ap (λ (l : Octets). paste (a .args .at) l (a .args .into .now)) (sym e),
+      ap (λ (i : ℕ). set (at-copy .copy .last .0) (loop .to + i) 0) long
+          ∙ nul-behind (args .at) xs (args .into .now) (loop .into) (loop .to) (loop .inv .1) (loop .inv .2) ys room (at-copy .copy .last .0) copied
+          ∙ ap (λ (l : Octets). paste (args .at) l (args .into .now)) (sym e),
       omega (arith, ap length e, length-append xs (ys ++ nul), length-append ys nul),
     )
 
 same-length : tie.Need-same-length Inv-loop μ-loop
 same-length c =
-    let a = c .before .before .before .before .before in
-    let b = c .before in
-    let ns = nameList (tableOf (a .args .t .now)) in
-    let e : b .loop .k ≡ a .args .n = omega arith in
-    let w : b .loop .into ≡ paste (a .args .at) (ns (take (a .args .n) (a .args .list .now))) (a .args .into .now) =
-    b .loop .inv .1 ∙ ap (λ (k : ℕ). paste (a .args .at) (ns (take k (a .args .list .now))) (a .args .into .now)) e in
-    ap length w ∙ length-paste (a .args .at) (ns (take (a .args .n) (a .args .list .now))) (a .args .into .now) (a .pre .2)
+    let at-loop = c .before in
+    let start = at-loop .before .before .before .before in
+    let args = start .args in
+    let loop = at-loop .loop in
+    let ns = nameList (tableOf (args .t .now)) in
+    let e : loop .k ≡ args .n = omega arith in
+    let w : loop .into ≡ paste (args .at) (ns (take (args .n) (args .list .now))) (args .into .now) =
+    loop .inv .1 ∙ ap (λ (k : ℕ). paste (args .at) (ns (take k (args .list .now))) (args .into .now)) e in
+    ap length w ∙ length-paste (args .at) (ns (take (args .n) (args .list .now))) (args .into .now) (start .pre .2)
 
 returns : tie.Need-returns Inv-loop μ-loop
 returns c =
-    let a = c .before .before .before .before .before in
-    let b = c .before in
-    let ns = nameList (tableOf (a .args .t .now)) in
-    let e : b .loop .k ≡ a .args .n = omega arith in
-    let w : b .loop .into ≡ paste (a .args .at) (ns (take (a .args .n) (a .args .list .now))) (a .args .into .now) =
-    b .loop .inv .1 ∙ ap (λ (k : ℕ). paste (a .args .at) (ns (take k (a .args .list .now))) (a .args .into .now)) e in
-    record { bytes = w; behind = b .loop .inv .2 ∙ ap (λ (k : ℕ). a .args .at + length (ns (take k (a .args .list .now)))) e }
+    let at-loop = c .before in
+    let args = at-loop .before .before .before .before .args in
+    let loop = at-loop .loop in
+    let ns = nameList (tableOf (args .t .now)) in
+    let e : loop .k ≡ args .n = omega arith in
+    let w : loop .into ≡ paste (args .at) (ns (take (args .n) (args .list .now))) (args .into .now) =
+    loop .inv .1 ∙ ap (λ (k : ℕ). paste (args .at) (ns (take k (args .list .now))) (args .into .now)) e in
+    record { bytes = w; behind = loop .inv .2 ∙ ap (λ (k : ℕ). args .at + length (ns (take k (args .list .now)))) e }
 
 pub put-names-spec : {M : Type 1} → statement M
 put-names-spec =

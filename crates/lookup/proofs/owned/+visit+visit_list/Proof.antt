@@ -1,3 +1,4 @@
+-- A node that the domain owns is entered alone; of any other its children are walked in the order of names, one level less deep.
 use mathlib.Core.Path.{_≡_, refl, sym, ap, _∙_}
 use Prim.Native.Nat.{ℕ, _<_, _+_, _*_, _-_, _%_}
 use native.Mathlib.Omega.{arith}
@@ -10,7 +11,16 @@ use Rattle.slots.proofs.Canonical.{sound-canonical}
 use Rattle.lookup.proofs.ChildrenLaws.{listed}
 use Rattle.lookup.specs.Walk.{ownedAmong}
 use Rattle.lookup.proofs.WalkLaws.{
-  below-none, below-own, below-others, among-over, among-next, among-length, entered-none, entered-one, entered-as, entered-join,
+  below-none,
+  below-own,
+  below-others,
+  among-over,
+  among-next,
+  among-length,
+  entered-none,
+  entered-one,
+  entered-as,
+  entered-join,
 }
 use borrow.Fn.Kinds.{In}
 use borrow.Fn.PlainCycle.{Measures, is, falls, and}
@@ -56,8 +66,9 @@ visit-list-calls t = (visit-below t, visit.Post, visit-list-below t, visit-list.
 visit-own : (t : ℕ) (c : visit-lts.Then2 (visit-calls t) (visit-at t) visit.Post) →
     let a = c .before .before .before .before .before .before .args in ownedBelow (a .depth) (tableOf (a .t .now)) (a .domain) (a .i) ≡ a .i ∷ []
 visit-own t c =
-    let s = c .before .before .before .before .before .before in
-    below-own (s .args .t .now) (s .args .domain) (s .args .i) (s .args .depth) (s .pre .1 .0) (c .before .before .before .if1 .left) _
+    let start = c .before .before .before .before .before .before in
+    let args = start .args in
+    below-own (args .t .now) (args .domain) (args .i) (args .depth) (start .pre .1 .0) (c .before .before .before .if1 .left) _
     (c .before .before .entry-at .ensures .1) (c .if2 .taken)
 
 visit-others : (t : ℕ) (c : visit-lts.After-visit-list-arg (visit-calls t) (visit-at t) visit.Post) →
@@ -66,16 +77,18 @@ visit-others : (t : ℕ) (c : visit-lts.After-visit-list-arg (visit-calls t) (vi
     ≡ ownedAmong (a .depth - 1) (tableOf (a .t .now)) (a .domain) (take (c .before .before .before .children .result)
     (c .before .before .before .children .last .1 .1 .0))
 visit-others t c =
-    let s = c .before .before .before .before .before .before .before .before .before .before .before in
-    below-others (s .args .t .now) (s .args .domain) (s .args .i) (s .args .depth) (s .pre .1 .0)
-    (c .before .before .before .before .before .before .before .before .if1 .left) _
-    (c .before .before .before .before .before .before .before .entry-at .ensures .1) (c .before .before .before .before .before .if2 .left) _ _
-    (c .before .before .before .children .ensures)
+    let test2 = c .before .before .before .before .before in
+    let at-entry-at = test2 .before .before in
+    let test1 = at-entry-at .before in
+    let start = test1 .before .before .before in
+    let args = start .args in
+    below-others (args .t .now) (args .domain) (args .i) (args .depth) (start .pre .1 .0) (test1 .if1 .left) _
+    (at-entry-at .entry-at .ensures .1) (test2 .if2 .left) _ _ (c .before .before .before .children .ensures)
 
 visit-returns : (t : ℕ) → visit-lts.Need-returns (visit-calls t) (visit-at t) visit.Post
 visit-returns t c =
-    let s = c .before .before .before in
-    entered-none (s .args .out .now) (s .args .n) _ (below-none (tableOf (s .args .t .now)) (s .args .domain) (s .args .i) (s .args .depth) (c .if1 .taken))
+    let args = c .before .before .before .args in
+    entered-none (args .out .now) (args .n) _ (below-none (tableOf (args .t .now)) (args .domain) (args .i) (args .depth) (c .if1 .taken))
 
 visit-entry-at-requires : (t : ℕ) → visit-lts.Need-entry-at-requires (visit-calls t) (visit-at t) visit.Post
 visit-entry-at-requires t c κs =
@@ -87,23 +100,24 @@ visit-cast-out t c = omega arith
 
 visit-slice-write-out : (t : ℕ) → visit-lts.Need-slice-write-out (visit-calls t) (visit-at t) visit.Post
 visit-slice-write-out t c =
-    let s = c .before .before .before .before .before .before in
-    omega (arith, s .pre .1 .1, ap length (visit-own t c))
+    let start = c .before .before .before .before .before .before in
+    omega (arith, start .pre .1 .1, ap length (visit-own t c))
 
 visit-add-result : (t : ℕ) → visit-lts.Need-add-result (visit-calls t) (visit-at t) visit.Post
 visit-add-result t c =
-    let s = c .before .before .before .before .before .before in
-    omega (arith, s .pre .1 .1, s .good, ap length (visit-own t c))
+    let start = c .before .before .before .before .before .before in
+    omega (arith, start .pre .1 .1, start .good, ap length (visit-own t c))
 
 visit-same-length : (t : ℕ) → visit-lts.Need-same-length (visit-calls t) (visit-at t) visit.Post
 visit-same-length t c = simp length-set
 
 visit-returns-2 : (t : ℕ) → visit-lts.Need-returns-2 (visit-calls t) (visit-at t) visit.Post
 visit-returns-2 t c =
-    let s = c .before .before .before .before .before .before in
+    let start = c .before .before .before .before .before .before in
+    let args = start .args in
     let own = visit-own t c in
-    entered-one (s .args .out .now) (s .args .n) (s .args .i % 256) (s .args .i) _ (omega (arith, s .pre .1 .1, ap length own))
-    (omega (arith, s .pre .1 .0 .below)) own
+    entered-one (args .out .now) (args .n) (args .i % 256) (args .i) _ (omega (arith, start .pre .1 .1, ap length own))
+    (omega (arith, start .pre .1 .0 .below)) own
 
 visit-slice-aggregate-children : (t : ℕ) → visit-lts.Need-slice-aggregate-children (visit-calls t) (visit-at t) visit.Post
 visit-slice-aggregate-children t c = refl
@@ -119,10 +133,11 @@ visit-sub-visit-list t c = omega (arith, c .before .before .before .before .befo
 
 visit-visit-list-requires : (t : ℕ) → visit-lts.Need-visit-list-requires (visit-calls t) (visit-at t) visit.Post
 visit-visit-list-requires t c κs =
-    let s = c .before .before .before .before .before .before .before .before .before .before .before in
+    let test = c .before .before .before .before .before .before .before .before in
+    let start = test .before .before .before in
     let l = c .before .before .before .children .ensures in (
-      omega (arith, s .pre .0, l .few, c .before .before .before .before .before .before .before .before .if1 .left),
-      (omega (arith, l .few, l .long), l .asked, omega (arith, s .pre .1 .1, ap length (visit-others t c))),
+      omega (arith, start .pre .0, l .few, test .if1 .left),
+      (omega (arith, l .few, l .long), l .asked, omega (arith, start .pre .1 .1, ap length (visit-others t c))),
     )
 
 visit-same-length-2 : (t : ℕ) → visit-lts.Need-same-length-2 (visit-calls t) (visit-at t) visit.Post
@@ -130,14 +145,15 @@ visit-same-length-2 t c = c .before .before .visit-list .kept .1 .1 .1 .1 .1 .1 
 
 visit-returns-3 : (t : ℕ) → visit-lts.Need-returns-3 (visit-calls t) (visit-at t) visit.Post
 visit-returns-3 t c =
-    let s = c .before .before .before .before .before .before .before .before .before .before .before .before .before .before in
-    entered-as (s .args .out .now) (s .args .n) _ _ _ _ (visit-others t (c .before .before .before)) (c .before .before .visit-list .ensures)
+    let args = c .before .before .before .before .before .before .before .before .before .before .before .before .before .before .args in
+    entered-as (args .out .now) (args .n) _ _ _ _ (visit-others t (c .before .before .before)) (c .before .before .visit-list .ensures)
 
 visit-list-returns : (t : ℕ) → visit-list-lts.Need-returns (visit-list-calls t) (visit-list-at t) visit-list.Post
 visit-list-returns t c =
-    let s = c .before .before .before .before in
-    entered-none (s .args .out .now) (s .args .n) _ (among-over (s .args .depth) (tableOf (s .args .t .now)) (s .args .domain) (s .args .list .now)
-    (s .args .count) (s .args .k) (s .pre .1 .0) (c .if1 .taken))
+    let start = c .before .before .before .before in
+    let args = start .args in
+    entered-none (args .out .now) (args .n) _ (among-over (args .depth) (tableOf (args .t .now)) (args .domain) (args .list .now)
+    (args .count) (args .k) (start .pre .1 .0) (c .if1 .taken))
 
 visit-list-shared-slice-read-visit : (t : ℕ) → visit-list-lts.Need-shared-slice-read-visit (visit-list-calls t) (visit-list-at t) visit-list.Post
 visit-list-shared-slice-read-visit t c = omega arith
@@ -147,24 +163,45 @@ visit-list-cast-visit t c = omega (arith, c .shared-slice-known3 .given (c .befo
 
 visit-list-visit-requires : (t : ℕ) → visit-list-lts.Need-visit-requires (visit-list-calls t) (visit-list-at t) visit-list.Post
 visit-list-visit-requires t c κs =
-    let s = c .before .before .before .before .before .before in (
-      omega (arith, s .pre .0, c .before .before .if1 .left),
-      (listed (s .args .t .now) (s .args .list .now) (s .args .count) (s .args .k) (s .pre .1 .1) (c .before .before .if1 .left) (s .pre .1 .0),
-      omega (arith, s .pre .1 .2, among-length (s .args .depth) (tableOf (s .args .t .now)) (s .args .domain) (s .args .list .now) (s .args .count) (s .args .k)
-      (s .pre .1 .0) (c .before .before .if1 .left))),
+    let test = c .before .before in
+    let start = test .before .before .before .before in
+    let args = start .args in (
+      omega (arith, start .pre .0, test .if1 .left),
+      (
+        listed (args .t .now) (args .list .now) (args .count) (args .k) (start .pre .1 .1) (test .if1 .left) (start .pre .1 .0),
+        omega (
+          arith,
+          start .pre .1 .2,
+          among-length (args .depth) (tableOf (args .t .now)) (args .domain) (args .list .now) (args .count) (args .k)
+              (start .pre .1 .0) (test .if1 .left),
+        ),
+      ),
     )
 
 visit-list-add-visit-list : (t : ℕ) → visit-list-lts.Need-add-visit-list (visit-list-calls t) (visit-list-at t) visit-list.Post
-visit-list-add-visit-list t c = omega (arith, c .before .before .before .before .before .before .before .before .before .pre .1 .0,
-    c .before .before .before .before .before .before .before .before .before .good)
+visit-list-add-visit-list t c =
+    let start = c .before .before .before .before .before .before .before .before .before in
+    omega (arith, start .pre .1 .0, start .good)
 
 visit-list-visit-list-requires : (t : ℕ) → visit-list-lts.Need-visit-list-requires (visit-list-calls t) (visit-list-at t) visit-list.Post
 visit-list-visit-list-requires t c κs =
-    let s = c .before .before .before .before .before .before .before .before .before .before in (
-      omega (arith, s .pre .0, c .before .before .before .before .before .before .if1 .left),
-      (s .pre .1 .0, s .pre .1 .1, omega (arith, s .pre .1 .2, among-length (s .args .depth) (tableOf (s .args .t .now)) (s .args .domain) (s .args .list .now)
-      (s .args .count) (s .args .k) (s .pre .1 .0) (c .before .before .before .before .before .before .if1 .left),
-      c .before .before .before .visit .ensures .count, c .before .before .before .visit .kept .1 .1 .1 .1 .0)),
+    let at-visit = c .before .before .before in
+    let test = at-visit .before .before .before in
+    let start = test .before .before .before .before in
+    let args = start .args in (
+      omega (arith, start .pre .0, test .if1 .left),
+      (
+        start .pre .1 .0,
+        start .pre .1 .1,
+        omega (
+          arith,
+          start .pre .1 .2,
+          among-length (args .depth) (tableOf (args .t .now)) (args .domain) (args .list .now)
+              (args .count) (args .k) (start .pre .1 .0) (test .if1 .left),
+          at-visit .visit .ensures .count,
+          at-visit .visit .kept .1 .1 .1 .1 .0,
+        ),
+      ),
     )
 
 visit-list-same-length : (t : ℕ) → visit-list-lts.Need-same-length (visit-list-calls t) (visit-list-at t) visit-list.Post
@@ -173,10 +210,13 @@ visit-list-same-length t c = c .before .before .visit-list .kept .1 .1 .1 .1 .1 
 
 visit-list-returns-2 : (t : ℕ) → visit-list-lts.Need-returns-2 (visit-list-calls t) (visit-list-at t) visit-list.Post
 visit-list-returns-2 t c =
-    let s = c .before .before .before .before .before .before .before .before .before .before .before .before .before in
-    entered-join (s .args .out .now) (s .args .n) _ _ _ _ _ _ _ (c .before .before .before .before .before .before .visit .ensures)
-    (c .before .before .visit-list .ensures) (among-next (s .args .depth) (tableOf (s .args .t .now)) (s .args .domain) (s .args .list .now) (s .args .count)
-    (s .args .k) (s .pre .1 .0) (c .before .before .before .before .before .before .before .before .before .if1 .left))
+    let at-visit = c .before .before .before .before .before .before in
+    let test = at-visit .before .before .before in
+    let start = test .before .before .before .before in
+    let args = start .args in
+    entered-join (args .out .now) (args .n) _ _ _ _ _ _ _ (at-visit .visit .ensures)
+    (c .before .before .visit-list .ensures) (among-next (args .depth) (tableOf (args .t .now)) (args .domain) (args .list .now) (args .count)
+    (args .k) (start .pre .1 .0) (test .if1 .left))
 
 pub +visit+visit-list-spec : {M : Type 1} → statement M
 +visit+visit-list-spec = close μ-visit μ-visit-list (λ t. visit-lts.spec (visit-calls t)

@@ -1,3 +1,4 @@
+-- The walk begins at the root; the levels are those of the deepest path, and the nodes no more than the slots.
 use mathlib.Core.Path.{_∙_}
 use native.Mathlib.Omega.{arith}
 use borrow.Author.Needs.{needs}
@@ -10,9 +11,9 @@ use Rattle.lookup.proofs.owned.owned.Tie as tie
 visit-requires : tie.Need-visit-requires
 unfolding ownedBy
 visit-requires c κs =
-    let s = c .before .before .before in
-    let t = s .args .t .now in
-    (root-asked t (s .pre .0), omega (arith, owned-room t (s .pre .0) (s .args .domain) (s .pre .1), s .pre .2))
+    let start = c .before .before .before in
+    let t = start .args .t .now in
+    (root-asked t (start .pre .0), omega (arith, owned-room t (start .pre .0) (start .args .domain) (start .pre .1), start .pre .2))
 
 -- src/owned.rt:49:1
 same-length : tie.Need-same-length
@@ -22,9 +23,10 @@ same-length c = search needs
 returns : tie.Need-returns
 unfolding ownedBy
 returns c =
-    let s = c .before .before .before .before .before .before in
+    let start = c .before .before .before .before .before .before in
+    let args = start .args in
     let v = c .before .before .visit in
-    owned-done (s .args .t .now) (s .pre .0) (s .args .domain) (s .pre .1) (s .args .out .now) _ _ (v .kept .1 .1 .1 .1 .0 ∙ s .pre .2) (v .ensures)
+    owned-done (args .t .now) (start .pre .0) (args .domain) (start .pre .1) (args .out .now) _ _ (v .kept .1 .1 .1 .1 .0 ∙ start .pre .2) (v .ensures)
 
 pub owned-spec : {M : Type 1} → statement M
 owned-spec = tie.close (tie.spec visit-requires same-length returns)

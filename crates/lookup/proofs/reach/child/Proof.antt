@@ -1,3 +1,4 @@
+-- No slot before i is the child, so those from i on decide.
 use mathlib.Core.Path.{_≡_, refl, sym, _∙_}
 use Prim.Native.Nat.{_≤_, _-_}
 use native.Mathlib.Omega.{arith}
@@ -26,10 +27,10 @@ is-child-requires c κs = (c .loop-test .taken, c .before .before .before .befor
 
 returns : tie.Need-returns Inv-loop μ-loop
 returns c =
-    let b = c .before .before .before in
-    let a = b .before .before .before .args in
-    sym (b .loop .inv .1 ∙ child-here (a .p) (a .n .now) (tableOf (a .t .now)) (b .loop .i)
-    (rw (length-tableOf (a .t .now)) (c .before .before .loop-test .taken)) (sym (c .before .is-child .ensures) ∙ c .if1 .taken))
+    let at-loop = c .before .before .before in
+    let args = at-loop .before .before .before .args in
+    sym (at-loop .loop .inv .1 ∙ child-here (args .p) (args .n .now) (tableOf (args .t .now)) (at-loop .loop .i)
+    (rw (length-tableOf (args .t .now)) (c .before .before .loop-test .taken)) (sym (c .before .is-child .ensures) ∙ c .if1 .taken))
 
 add-i : tie.Need-add-i Inv-loop μ-loop
 add-i c = omega arith
@@ -39,18 +40,19 @@ loop-less c = omega arith
 
 loop-again : tie.Need-loop-again Inv-loop μ-loop
 loop-again c =
-    let b = c .before .before .before in
-    let a = b .before .before .before .args in (
+    let at-loop = c .before .before .before in
+    let args = at-loop .before .before .before .args in (
       omega arith,
-      b .loop .inv .1 ∙ child-further (a .p) (a .n .now) (tableOf (a .t .now)) (b .loop .i)
-      (rw (length-tableOf (a .t .now)) (c .before .before .loop-test .taken)) (sym (c .before .is-child .ensures) ∙ c .if1 .left),
+      at-loop .loop .inv .1 ∙ child-further (args .p) (args .n .now) (tableOf (args .t .now)) (at-loop .loop .i)
+          (rw (length-tableOf (args .t .now)) (c .before .before .loop-test .taken)) (sym (c .before .is-child .ensures) ∙ c .if1 .left),
     )
 
 returns-2 : tie.Need-returns-2 Inv-loop μ-loop
 returns-2 c =
-    let b = c .before in
-    let a = b .before .before .before .args in
-    sym (b .loop .inv .1 ∙ child-over (a .p) (a .n .now) (tableOf (a .t .now)) (b .loop .i) (rw (length-tableOf (a .t .now)) (c .loop-test .left)))
+    let at-loop = c .before in
+    let args = at-loop .before .before .before .args in
+    sym (at-loop .loop .inv .1 ∙ child-over (args .p) (args .n .now) (tableOf (args .t .now)) (at-loop .loop .i)
+    (rw (length-tableOf (args .t .now)) (c .loop-test .left)))
 
 pub child-spec : {M : Type 1} → statement M
 child-spec =

@@ -1,3 +1,4 @@
+-- A free slot is nobody's child; of a used one parent and name decide.
 use Rattle.rules.specs.Octets.{Octets, same}
 use Rattle.rules.specs.Layout.{tableOf}
 use mathlib.Core.Path.{sym, ap, _∙_}
@@ -16,31 +17,33 @@ returns c = sym (unused-child _ _ _ (sym (c .before .used .ensures) ∙ not-true
 
 parent-requires : tie.Need-parent-requires
 parent-requires c κs =
-    let b = c .before .before .before .before in
-    (b .pre .0, sound-canonical _ (b .pre .1) .whole, sym (c .before .used .ensures) ∙ not-false _ (c .if1 .left))
+    let start = c .before .before .before .before in
+    (start .pre .0, sound-canonical _ (start .pre .1) .whole, sym (c .before .used .ensures) ∙ not-false _ (c .if1 .left))
 
 returns-2 : tie.Need-returns-2
 returns-2 c =
-    let b = c .before .before .before .before .before .before in
+    let args = c .before .before .before .before .before .before .args in
     let u = sym (c .before .before .before .used .ensures) ∙ not-false _ (c .before .before .if1 .left) in
-    sym (other-parent (tableOf (b .args .t .now)) (b .args .i) (b .args .p) (b .args .n .now) u (λ e. c .if2 .taken (c .before .parent .ensures .1 ∙ e)))
+    sym (other-parent (tableOf (args .t .now)) (args .i) (args .p) (args .n .now) u (λ e. c .if2 .taken (c .before .parent .ensures .1 ∙ e)))
 
 name-requires : tie.Need-name-requires
 name-requires c κs =
-    let b = c .before .before .before .before .before .before in
+    let start = c .before .before .before .before .before .before in
     let u = sym (c .before .before .before .used .ensures) ∙ not-false _ (c .before .before .if1 .left) in
-    (b .pre .0, sound-canonical _ (b .pre .1) .whole, u, name-short (b .args .t .now) (b .pre .1) (b .args .i) (b .pre .0) u)
+    (start .pre .0, sound-canonical _ (start .pre .1) .whole, u, name-short (start .args .t .now) (start .pre .1) (start .args .i) (start .pre .0) u)
 
 same-requires : tie.Need-same-requires
 same-requires c κs = search needs
 
 returns-3 : tie.Need-returns-3
 returns-3 c =
-    let b = c .before .before .before .before .before .before .before .before in
-    let u = sym (c .before .before .before .before .before .used .ensures) ∙ not-false _ (c .before .before .before .before .if1 .left) in
+    let test1 = c .before .before .before .before in
+    let at-used = test1 .before in
+    let args = at-used .before .before .before .args in
+    let u = sym (at-used .used .ensures) ∙ not-false _ (test1 .if1 .left) in
     c .same .ensures
-    ∙ ap (λ (m : Octets). same m (b .args .n .now)) (c .before .name .ensures)
-    ∙ sym (same-parent (tableOf (b .args .t .now)) (b .args .i) (b .args .p) (b .args .n .now) u
+    ∙ ap (λ (m : Octets). same m (args .n .now)) (c .before .name .ensures)
+    ∙ sym (same-parent (tableOf (args .t .now)) (args .i) (args .p) (args .n .now) u
     (sym (c .before .before .before .parent .ensures .1) ∙ c .before .before .if2 .left))
 
 pub is-child-spec : {M : Type 1} → statement M

@@ -1,3 +1,4 @@
+-- The names passed lead from the root to the slot, so the names left lead on from there.
 use mathlib.Core.Path.{_≡_, sym, ap, _∙_}
 use mathlib.Core.Bool.{true}
 use Prim.Native.Nat.{_<_, _-_}
@@ -33,13 +34,14 @@ abbrev μ-loop : tie.MeasureT-loop
 loop-holds : tie.Need-loop-holds Inv-loop μ-loop
 unfolding reach
 loop-holds c =
-    let a = c .before .before in
-    let p = a .args .path .now in
-    let e = left-whole p (a .pre .1) in (
+    let start = c .before .before in
+    let args = start .args in
+    let p = args .path .now in
+    let e = left-whole p (start .pre .1) in (
       search needs,
-      root-used (a .args .t .now) (a .pre .0),
-      rw (← e) (full p (a .pre .1) .names),
-      ap (λ (ns : Names). reachFrom ns (tableOf (a .args .t .now)) 0) e,
+      root-used (args .t .now) (start .pre .0),
+      rw (← e) (full p (start .pre .1) .names),
+      ap (λ (ns : Names). reachFrom ns (tableOf (args .t .now)) 0) e,
     )
 
 name-end-requires : tie.Need-name-end-requires Inv-loop μ-loop
@@ -66,53 +68,70 @@ enum-known-i c = c .match .keys1
 
 add-at : tie.Need-add-at Inv-loop μ-loop
 add-at c =
-    let p = c .before .before .before .before .before .before .before .before .before .before .args .path .now in
-    let b = c .before .before .before .before .before .before .before in
-    omega (arith, end-high p (b .loop .at) (omega arith), c .before .before .before .before .before .name-end .ensures)
+    let at-name-end = c .before .before .before .before .before in
+    let at-loop = at-name-end .before .before in
+    let start = at-loop .before .before .before in
+    let p = start .args .path .now in
+    omega (arith, end-high p (at-loop .loop .at) (omega arith), at-name-end .name-end .ensures)
 
 loop-less : tie.Need-loop-less Inv-loop μ-loop
 loop-less c =
-    let p = c .before .before .before .before .before .before .before .before .before .before .args .path .now in
-    let b = c .before .before .before .before .before .before .before in
-    omega (arith, end-low p (b .loop .at) (omega arith), c .before .before .before .before .before .name-end .ensures)
+    let at-name-end = c .before .before .before .before .before in
+    let at-loop = at-name-end .before .before in
+    let start = at-loop .before .before .before in
+    let p = start .args .path .now in
+    omega (arith, end-low p (at-loop .loop .at) (omega arith), at-name-end .name-end .ensures)
 
 loop-again : tie.Need-loop-again Inv-loop μ-loop
 loop-again c =
-    let a = c .before .before .before .before .before .before .before .before .before .before in
-    let p = a .args .path .now in
-    let b = c .before .before .before .before .before .before .before in
+    let at-name-end = c .before .before .before .before .before in
+    let at-loop = at-name-end .before .before in
+    let args = at-loop .before .before .before .args in
+    let loop = at-loop .loop in
+    let p = args .path .now in
     let i = c .before .i .given .0 .0 in
-    let e : nameEnd p (b .loop .at) ≡ c .before .before .before .before .before .name-end .result =
-    sym (c .before .before .before .before .before .name-end .ensures) in
-    let f : child (tableOf (a .args .t .now)) (b .loop .slot) (take (c .before .before .before .before .before .name-end .result - b .loop .at)
-    (drop (b .loop .at) p)) ≡ some i = sym (c .before .before .before .child .ensures) ∙ ap foundMeant (c .before .i .given .1) in
-    turned (a .args .t .now) p (b .loop .slot) (b .loop .at) (omega arith) (b .loop .inv .2) (b .loop .inv .3)
-    (c .before .before .before .before .before .name-end .result) e i f
+    let e : nameEnd p (loop .at) ≡ at-name-end .name-end .result = sym (at-name-end .name-end .ensures) in
+    let f : child (tableOf (args .t .now)) (loop .slot) (take (at-name-end .name-end .result - loop .at)
+    (drop (loop .at) p)) ≡ some i = sym (c .before .before .before .child .ensures) ∙ ap foundMeant (c .before .i .given .1) in
+    turned (args .t .now) p (loop .slot) (loop .at) (omega arith) (loop .inv .2) (loop .inv .3) (at-name-end .name-end .result) e i f
 
 enum-told : tie.Need-enum-told Inv-loop μ-loop
 enum-told c = c .match .keys2
 
 returns : tie.Need-returns Inv-loop μ-loop
 returns c =
-    let a = c .before .before .before .before .before .before .before .before .before in
-    let p = a .args .path .now in
-    let b = c .before .before .before .before .before .before in
-    let e : nameEnd p (b .loop .at) ≡ c .before .before .before .before .name-end .result = sym (c .before .before .before .before .name-end .ensures) in
-    let f : child (tableOf (a .args .t .now)) (b .loop .slot) (take (c .before .before .before .before .name-end .result - b .loop .at) (drop (b .loop .at) p))
+    let at-name-end = c .before .before .before .before in
+    let at-loop = at-name-end .before .before in
+    let args = at-loop .before .before .before .args in
+    let loop = at-loop .loop in
+    let p = args .path .now in
+    let e : nameEnd p (loop .at) ≡ at-name-end .name-end .result = sym (at-name-end .name-end .ensures) in
+    let f : child (tableOf (args .t .now)) (loop .slot) (take (at-name-end .name-end .result - loop .at) (drop (loop .at) p))
     ≡ none = sym (c .before .before .child .ensures) ∙ ap foundMeant (c .enum-told .given .1) in
-    let r = stopped (a .args .t .now) p (b .loop .slot) (b .loop .at) (omega arith) (b .loop .inv .2) (b .loop .inv .3)
-    (c .before .before .before .before .name-end .result) e f in
-    record { below = b .loop .inv .0; used = b .loop .inv .1; there = ap (λ (x : Reached). x .slot) (sym r); left = ap (λ (x : Reached). x .left) (sym r) }
+    let r = stopped (args .t .now) p (loop .slot) (loop .at) (omega arith) (loop .inv .2) (loop .inv .3) (at-name-end .name-end .result) e f in
+    record {
+      below = loop .inv .0;
+      used = loop .inv .1;
+      there = ap (λ (x : Reached). x .slot) (sym r);
+      left = ap (λ (x : Reached). x .left) (sym r);
+    }
 
 returns-2 : tie.Need-returns-2 Inv-loop μ-loop
 returns-2 c =
-    let a = c .before .before .before .before in
-    let p = a .args .path .now in
-    let b = c .before in
-    let l = left-over p (b .loop .at) (omega arith) in
-    let r : reach (tableOf (a .args .t .now)) (namesIn p) ≡ record { slot = b .loop .slot; left = [] } = b .loop .inv .3
-    ∙ ap (λ (ns : Names). reachFrom ns (tableOf (a .args .t .now)) (b .loop .slot)) l ∙ reach-end (tableOf (a .args .t .now)) (b .loop .slot) in
-    record { below = b .loop .inv .0; used = b .loop .inv .1; there = ap (λ (x : Reached). x .slot) (sym r); left = l ∙ ap (λ (x : Reached). x .left) (sym r) }
+    let at-loop = c .before in
+    let args = at-loop .before .before .before .args in
+    let loop = at-loop .loop in
+    let p = args .path .now in
+    let l = left-over p (loop .at) (omega arith) in
+    let r : reach (tableOf (args .t .now)) (namesIn p) ≡ record { slot = loop .slot; left = [] } = loop .inv .3
+    ∙ ap (λ (ns : Names). reachFrom ns (tableOf (args .t .now)) (loop .slot)) l ∙ reach-end (tableOf (args .t .now)) (loop .slot) in
+    record {
+      below = loop .inv .0;
+      used = loop .inv .1;
+      there = ap (λ (x : Reached). x .slot) (sym r);
+      left = l
+          ∙ ap (λ (x : Reached). x .left) (sym r);
+    }
 
 pub reach-spec : {M : Type 1} → statement M
 reach-spec =

@@ -1,4 +1,4 @@
--- The control domain, else the owner, else the first entry that names the domain.
+-- The control domain and the owner have every access; for any other the later entries decide, and else the first entry's access.
 use mathlib.Core.Path.{sym, ap, _∙_}
 use Prim.Native.Nat.{ℕ}
 use Rattle.rules.specs.Node.{Entry, nodeAt}
@@ -22,9 +22,10 @@ entry-at-requires c κs = (c .before .before .before .pre .below, sound-canonica
 returns-2 : tie.Need-returns-2
 returns-2 c =
     let test = c .before .before .before in
-    let a = test .before .before .before in
-    let o = owner-is (a .args .t .now) (a .args .i) (a .pre) in
-    sym (by-owner _ _ (sym (test .before .is-control .ensures) ∙ test .if1 .left)
+    let at-is-control = test .before in
+    let start = at-is-control .before .before in
+    let o = owner-is (start .args .t .now) (start .args .i) (start .pre) in
+    sym (by-owner _ _ (sym (at-is-control .is-control .ensures) ∙ test .if1 .left)
     (c .if2 .taken ∙ c .before .before .entry-at .ensures .1 ∙ ap (λ (e : Entry). e .domain) o))
 
 named-requires : tie.Need-named-requires
@@ -32,14 +33,16 @@ named-requires c κs = search needs
 
 returns-3 : tie.Need-returns-3
 returns-3 c =
-    let test = c .before .before .before .before in
-    let a = test .before .before .before in
-    let o = owner-is (a .args .t .now) (a .args .i) (a .pre) in
+    let test1 = c .before .before .before .before in
+    let at-is-control = test1 .before in
+    let start = at-is-control .before .before in
+    let args = start .args in
+    let o = owner-is (args .t .now) (args .i) (start .pre) in
     let got = c .before .before .before .entry-at in
-    let node = nodeAt (tableOf (a .args .t .now)) (a .args .i) in
+    let node = nodeAt (tableOf (args .t .now)) (args .i) in
     c .named .ensures
-    ∙ ap (λ (f : ℕ). named (a .args .domain) f 1 (node .others)) (got .ensures .0 ∙ ap (λ (e : Entry). e .access) o)
-    ∙ sym (by-others (a .args .domain) node (sym (test .before .is-control .ensures) ∙ test .if1 .left)
+    ∙ ap (λ (f : ℕ). named (args .domain) f 1 (node .others)) (got .ensures .0 ∙ ap (λ (e : Entry). e .access) o)
+    ∙ sym (by-others (args .domain) node (sym (at-is-control .is-control .ensures) ∙ test1 .if1 .left)
     (λ q. c .before .if2 .left (q ∙ sym (got .ensures .1 ∙ ap (λ (e : Entry). e .domain) o))))
 
 pub access-of-spec : {M : Type 1} → statement M

@@ -1,4 +1,4 @@
--- The control domain, else the owner.
+-- The control domain owns every node; for any other its owner decides.
 use lib.Dec.{eqb}
 use borrow.Author.Needs.{needs}
 use Rattle.rules.specs.Node.{Entry}
@@ -23,9 +23,10 @@ returns-2 : tie.Need-returns-2
 unfolding mayOwn
 returns-2 c =
     let test = c .before .before in
-    let a = test .before .before .before in
+    let start = test .before .before .before in
+    let args = start .args in
     rw (sym (test .before .is-control .ensures) ∙ test .if1 .left)
-    (ap (eqb (a .args .domain)) (c .before .entry-at .ensures .1 ∙ ap (λ (e : Entry). e .domain) (owner-is (a .args .t .now) (a .args .i) (a .pre))))
+    (ap (eqb (args .domain)) (c .before .entry-at .ensures .1 ∙ ap (λ (e : Entry). e .domain) (owner-is (args .t .now) (args .i) (start .pre))))
 
 pub may-own-spec : {M : Type 1} → statement M
 may-own-spec = tie.close (tie.spec is-control-requires returns entry-at-requires returns-2)

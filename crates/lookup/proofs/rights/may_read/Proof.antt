@@ -1,3 +1,4 @@
+-- Of the accesses those to read and to both are the odd ones.
 use mathlib.Core.Path.{ap}
 use Prim.Native.Nat.{_%_}
 use lib.Dec.{eqb}

@@ -1,3 +1,4 @@
+-- Of the accesses those to write and to both are the ones from 2 on.
 use mathlib.Core.Path.{ap}
 use lib.Dec.{leb}
 use Rattle.rules.specs.Rights.{Access, mayWrite}

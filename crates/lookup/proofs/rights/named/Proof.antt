@@ -1,3 +1,4 @@
+-- No later entry before k names the domain, so those from k on decide.
 use mathlib.Core.Path.{_≡_, refl, sym, _∙_}
 use Prim.Native.Nat.{_≤_, _-_, suc}
 use native.Mathlib.Omega.{arith}
@@ -24,21 +25,23 @@ entry-count-requires c κs = (c .before .pre .below, sound-canonical _ (c .befor
 
 loop-holds : tie.Need-loop-holds Inv-loop μ-loop
 loop-holds c =
-    let a = c .before .before in
-    let n = count-is (a .args .t .now) (a .args .i) (a .pre) in
+    let start = c .before .before in
+    let n = count-is (start .args .t .now) (start .args .i) (start .pre) in
     (search needs, omega (arith, c .entry-count .ensures, n), c .entry-count .ensures ∙ n, refl)
 
 entry-at-requires : tie.Need-entry-at-requires Inv-loop μ-loop
 entry-at-requires c κs =
-    let a = c .before .before .before .before in
-    (a .pre .below, sound-canonical _ (a .pre .sound) .whole, omega (arith, few (a .args .t .now) (a .args .i) (a .pre)))
+    let start = c .before .before .before .before in
+    (start .pre .below, sound-canonical _ (start .pre .sound) .whole, omega (arith, few (start .args .t .now) (start .args .i) (start .pre)))
 
 returns : tie.Need-returns Inv-loop μ-loop
 returns c =
-    let a = c .before .before .before .before .before .before .before in
-    let b = c .before .before .before .before in
+    let at-loop = c .before .before .before .before in
+    let start = at-loop .before .before .before in
+    let args = start .args in
+    let loop = at-loop .loop in
     let e = c .before .before .entry-at in
-    sym (b .loop .inv .3 ∙ named-by (a .args .t .now) (a .args .i) (a .pre) (a .args .domain) (a .args .first) (b .loop .k) (b .loop .inv .0) (omega arith)
+    sym (loop .inv .3 ∙ named-by (args .t .now) (args .i) (start .pre) (args .domain) (args .first) (loop .k) (loop .inv .0) (omega arith)
     (e .result .access) (e .result .domain) (e .ensures .0) (e .ensures .1) (c .if1 .taken))
 
 add-k : tie.Need-add-k Inv-loop μ-loop
@@ -49,22 +52,25 @@ loop-less c = omega arith
 
 loop-again : tie.Need-loop-again Inv-loop μ-loop
 loop-again c =
-    let a = c .before .before .before .before .before .before .before in
-    let b = c .before .before .before .before in
+    let at-loop = c .before .before .before .before in
+    let start = at-loop .before .before .before in
+    let args = start .args in
+    let loop = at-loop .loop in
     let e = c .before .before .entry-at in (
       omega arith,
       omega arith,
-      b .loop .inv .2,
-      b .loop .inv .3 ∙ not-named-by (a .args .t .now) (a .args .i) (a .pre) (a .args .domain) (a .args .first) (b .loop .k) (b .loop .inv .0) (omega arith)
-      (e .result .domain) (e .ensures .1) (c .if1 .left),
+      loop .inv .2,
+      loop .inv .3 ∙ not-named-by (args .t .now) (args .i) (start .pre) (args .domain) (args .first) (loop .k) (loop .inv .0) (omega arith)
+          (e .result .domain) (e .ensures .1) (c .if1 .left),
     )
 
 returns-2 : tie.Need-returns-2 Inv-loop μ-loop
 returns-2 c =
-    let a = c .before .before .before .before in
-    let b = c .before in
-    sym (b .loop .inv .3 ∙ named-none (a .args .domain) (a .args .first) (nodeAt (tableOf (a .args .t .now)) (a .args .i) .others) (b .loop .k)
-    (b .loop .inv .0) (omega arith))
+    let at-loop = c .before in
+    let args = at-loop .before .before .before .args in
+    let loop = at-loop .loop in
+    sym (loop .inv .3 ∙ named-none (args .domain) (args .first) (nodeAt (tableOf (args .t .now)) (args .i) .others) (loop .k)
+    (loop .inv .0) (omega arith))
 
 pub named-spec : {M : Type 1} → statement M
 named-spec =

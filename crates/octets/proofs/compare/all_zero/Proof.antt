@@ -1,4 +1,4 @@
--- `all_zero` meets its contract. The loop's invariant: the bytes gathered so far, and those from i on, decide.
+-- The or of bytes is 0 where each of them is; after i turns the first i bytes are gathered so.
 use mathlib.Core.Path.{_≡_, refl}
 use mathlib.Core.Bool.{_&&_}
 use Prim.Native.Nat.{_≤_, _-_}

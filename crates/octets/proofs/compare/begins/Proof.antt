@@ -1,4 +1,4 @@
--- `begins` meets its contract: where b is long enough, its front and a are the same bytes.
+-- A text begins another if that is as long at least, and its front of that length has the same bytes.
 use mathlib.Core.Path.{sym, _∙_}
 use lib.Seq.{length-take-le}
 use Rattle.rules.proofs.Compare.{begins-same, begins-short}

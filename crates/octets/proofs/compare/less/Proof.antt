@@ -1,4 +1,4 @@
--- `less` meets its contract. The loop's invariant: the bytes from i on decide.
+-- The bytes before i agree, so those from i on decide; a text that ends first comes first.
 use mathlib.Core.Path.{_≡_, refl, sym, _∙_}
 use Prim.Native.Nat.{_≤_, _-_}
 use native.Mathlib.Omega.{arith}
@@ -27,8 +27,11 @@ shared-slice-read-y : tie.Need-shared-slice-read-y Inv-loop μ-loop
 shared-slice-read-y c = omega arith
 
 returns-2 : tie.Need-returns-2 Inv-loop μ-loop
-returns-2 c = sym (c .before .before .before .before .before .loop .inv .1 .1
-    ∙ less-here _ _ _ (c .before .before .before .before .loop-test .taken) (c .before .before .before .if1 .left) (c .if2 .taken))
+returns-2 c =
+    let turn = c .before .before .before .before in
+    let at-loop = turn .before in
+    sym (at-loop .loop .inv .1 .1
+    ∙ less-here _ _ _ (turn .loop-test .taken) (c .before .before .before .if1 .left) (c .if2 .taken))
 
 add-i : tie.Need-add-i Inv-loop μ-loop
 add-i c = omega arith
@@ -37,8 +40,16 @@ loop-less : tie.Need-loop-less Inv-loop μ-loop
 loop-less c = omega arith
 
 loop-again : tie.Need-loop-again Inv-loop μ-loop
-loop-again c = (omega arith, (omega arith, c .before .before .before .before .before .loop .inv .1 .1
-    ∙ less-next _ _ _ (c .before .before .before .before .loop-test .taken) (c .before .before .before .if1 .left) (c .if2 .left)))
+loop-again c =
+    let turn = c .before .before .before .before in
+    let at-loop = turn .before in (
+      omega arith,
+      (
+        omega arith,
+        at-loop .loop .inv .1 .1
+            ∙ less-next _ _ _ (turn .loop-test .taken) (c .before .before .before .if1 .left) (c .if2 .left),
+      ),
+    )
 
 returns-3 : tie.Need-returns-3 Inv-loop μ-loop
 returns-3 c = sym (c .before .loop .inv .1 .1 ∙ less-ended _ _ (c .before .loop .i) (omega arith) (c .before .loop .inv .1 .0))

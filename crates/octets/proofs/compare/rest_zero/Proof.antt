@@ -1,3 +1,4 @@
+-- The two pieces lie within what is behind the text and leave no byte of it out, so all of it is zero if both are.
 use mathlib.Core.Path.{sym, ap, _∙_}
 use Prim.Native.Nat.{_/_}
 use native.Mathlib.Omega.{arith}
@@ -29,8 +30,9 @@ all-zero-requires c κs = search needs
 
 returns : tie.Need-returns
 returns c =
-    let a = c .before .before .before .before .args in
-    c .all-zero .ensures ∙ ap allZero (behind (a .s .now) (a .at) (a .size) (a .n) (c .before .before .before .before .pre .0))
+    let start = c .before .before .before .before in
+    let args = start .args in
+    c .all-zero .ensures ∙ ap allZero (behind (args .s .now) (args .at) (args .size) (args .n) (start .pre .0))
 
 add-all-zero-3 : tie.Need-add-all-zero-3
 add-all-zero-3 c = search needs
@@ -52,9 +54,9 @@ all-zero-requires-2 c κs = search needs
 
 returns-2 : tie.Need-returns-2
 returns-2 c =
-    let a = c .before .before .before .before .before .args in
-    let late = c .before .all-zero2 .ensures ∙ ap allZero (behind (a .s .now) (a .at) (a .size) (a .size / 2) (omega arith)) in
-    sym (late-fault (drop (a .at) (a .s .now)) (a .n) (a .size / 2) (a .size) (c .before .before .before .if1 .left) (omega arith)
+    let args = c .before .before .before .before .before .args in
+    let late = c .before .all-zero2 .ensures ∙ ap allZero (behind (args .s .now) (args .at) (args .size) (args .size / 2) (omega arith)) in
+    sym (late-fault (drop (args .at) (args .s .now)) (args .n) (args .size / 2) (args .size) (c .before .before .before .if1 .left) (omega arith)
     (sym late ∙ not-true _ (c .if2 .taken)))
 
 add-all-zero-5 : tie.Need-add-all-zero-5
@@ -80,11 +82,12 @@ all-zero-requires-3 c κs = search needs
 
 returns-3 : tie.Need-returns-3
 returns-3 c =
-    let a = c .before .before .before .before .before .before .before .args in
-    let late = c .before .before .before .all-zero2 .ensures ∙ ap allZero (behind (a .s .now) (a .at) (a .size) (a .size / 2) (omega arith)) in
+    let test1 = c .before .before .before .before .before in
+    let args = test1 .before .before .args in
+    let late = c .before .before .before .all-zero2 .ensures ∙ ap allZero (behind (args .s .now) (args .at) (args .size) (args .size / 2) (omega arith)) in
     c .all-zero3 .ensures
-    ∙ ap allZero (piece (a .s .now) (a .at) (a .n) (a .size / 2))
-    ∙ first-decides (drop (a .at) (a .s .now)) (a .n) (a .size / 2) (a .size) (c .before .before .before .before .before .if1 .left) (omega arith)
+    ∙ ap allZero (piece (args .s .now) (args .at) (args .n) (args .size / 2))
+    ∙ first-decides (drop (args .at) (args .s .now)) (args .n) (args .size / 2) (args .size) (test1 .if1 .left) (omega arith)
     (sym late ∙ not-false _ (c .before .before .if2 .left))
 
 pub rest-zero-spec : {M : Type 1} → statement M

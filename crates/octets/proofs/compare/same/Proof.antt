@@ -1,4 +1,4 @@
--- `same` meets its contract. The loop's invariant: the differences gathered so far, and the bytes from i on, decide.
+-- The xor of two bytes is 0 where they agree, and the or of the xors is 0 where all of them do; texts of two lengths differ.
 use mathlib.Core.Path.{_≡_, refl, sym}
 use mathlib.Core.Bool.{_&&_}
 use Prim.Native.Nat.{_≤_, _-_}
@@ -36,8 +36,11 @@ loop-less : tie.Need-loop-less Inv-loop μ-loop
 loop-less c = omega arith
 
 loop-again : tie.Need-loop-again Inv-loop μ-loop
-loop-again c = (omega arith, same-turn _ _ (c .before .before .before .loop .i) (c .before .before .before .loop .differ) (omega arith) (omega arith)
-    (c .before .before .before .loop .inv .1))
+loop-again c = (
+  omega arith,
+  same-turn _ _ (c .before .before .before .loop .i) (c .before .before .before .loop .differ) (omega arith) (omega arith)
+      (c .before .before .before .loop .inv .1),
+)
 
 returns-2 : tie.Need-returns-2 Inv-loop μ-loop
 returns-2 c = same-end _ _ (c .before .loop .i) (c .before .loop .differ) (omega arith) (omega arith) (c .before .loop .inv .1)

@@ -1,5 +1,5 @@
+-- The bytes before i are digits, so those from i on decide.
 use Rattle.rules.proofs.Decimals.{low-digit, high-digit}
--- `all_digits` meets its contract. The loop's invariant: the bytes from i on decide.
 use mathlib.Core.Path.{_≡_, refl, sym, _∙_}
 use Prim.Native.Nat.{_≤_, _-_}
 use native.Mathlib.Omega.{arith}
@@ -35,8 +35,8 @@ loop-less c = omega arith
 
 loop-again : tie.Need-loop-again Inv-loop μ-loop
 loop-again c =
-    let p = c .before .before .before in
-    (omega arith, p .before .loop .inv .1 ∙ one-digit _ _ (p .loop-test .taken) (c .before .if1 .left) (c .if2 .left))
+    let turn = c .before .before .before in
+    (omega arith, turn .before .loop .inv .1 ∙ one-digit _ _ (turn .loop-test .taken) (c .before .if1 .left) (c .if2 .left))
 
 returns-3 : tie.Need-returns-3 Inv-loop μ-loop
 returns-3 c = sym (c .before .loop .inv .1 ∙ digits-end _ _ (c .loop-test .left))

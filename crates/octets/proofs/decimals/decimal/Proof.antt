@@ -1,4 +1,4 @@
--- `decimal` meets its contract: a plain decimal of up to 20 digits is its first ones and the last.
+-- More than 20 digits are past 64 bits; of up to 20, the value of all but the last leaves room for the last digit or does not.
 use mathlib.Core.Path.{_≡_, sym, _∙_}
 use mathlib.Core.Bool.{true}
 use Prim.Native.Nat.{_+_, _*_, _-_, _≤_}
@@ -58,8 +58,8 @@ sub-if3 c = omega (arith, last (c .before .before .before .before))
 
 returns-3 : tie.Need-returns-3
 returns-3 c =
-    let p = c .before .before .before .before .before in
-    large _ (plain p) (omega (arith, last p, c .before .before .value .ensures))
+    let test = c .before .before .before .before .before in
+    large _ (plain test) (omega (arith, last test, c .before .before .value .ensures))
 
 mul-t13 : tie.Need-mul-t13
 mul-t13 c = search needs
@@ -69,10 +69,10 @@ add-t14 c = omega (arith, last (c .before .before .before .before .before))
 
 returns-4 : tie.Need-returns-4
 returns-4 c =
-    let p = c .before .before .before .before .before in
-    let known = last p in
+    let test = c .before .before .before .before .before in
+    let known = last test in
     let first = c .before .before .value .ensures in
-    valued _ _ (plain p) (omega arith) (omega arith)
+    valued _ _ (plain test) (omega arith) (omega arith)
 
 pub decimal-spec : {M : Type 1} → statement M
 decimal-spec =

@@ -1,4 +1,4 @@
--- `number_in` meets its contract: the decimal's answer tells.
+-- A decimal that is malformed or too large is no number of any range within 64 bits; of any other the range decides.
 use mathlib.Core.Path.{sym, _∙_}
 use Rattle.octets.proofs.Ranges.{told}
 use borrow.Author.Needs.{needs}
@@ -21,8 +21,10 @@ enum-told-2 : tie.Need-enum-told-2
 enum-told-2 c = search needs
 
 returns : tie.Need-returns
-returns c = c .within .ensures ∙ sym (told _ _ _ _ _ (c .before .before .before .before .before .before .fits .high .fits)
-    (c .before .before .before .before .decimal .ensures) (c .before .before .n .given .1))
+returns c =
+    let at-decimal = c .before .before .before .before in
+    let at-fits = at-decimal .before .before in
+    c .within .ensures ∙ sym (told _ _ _ _ _ (at-fits .fits .high .fits) (at-decimal .decimal .ensures) (c .before .before .n .given .1))
 
 returns-2 : tie.Need-returns-2
 returns-2 c = sym (told _ _ _ _ _ (c .before .before .before .before .fits .high .fits) (c .before .before .decimal .ensures) (c .enum-told .given .1))

@@ -1,4 +1,4 @@
--- `plain_form` meets its contract: by the first byte.
+-- A text that begins with 0 is plain if it is that digit alone; any other if it is digits.
 use mathlib.Core.Path.{sym, _∙_}
 use native.Mathlib.Omega.{arith}
 use Rattle.rules.proofs.Decimals.{plain-empty, plain-zero, plain-other}

@@ -1,4 +1,4 @@
--- `signed` meets its contract: by the first byte.
+-- A minus sign goes before a decimal from 1 to 2 ^ 63, whose complement fits 64 bits; without it the decimal is below 2 ^ 63.
 use mathlib.Core.Path.{_≡_, sym, ap, _∙_}
 use mathlib.Core.Option.{some}
 use Prim.Native.Nat.{_^_, _≤_}

@@ -1,4 +1,4 @@
--- `value` meets its contract. The loop's invariant: n is the value of the first i digits, and those from i on are still to be read.
+-- After i turns n is the value of the first i digits, which is below 10 ^ i and so within 64 bits.
 use mathlib.Core.Path.{_≡_, refl, _∙_}
 use Prim.Native.Nat.{_≤_, _<_, _-_, _^_}
 use native.Mathlib.Omega.{arith}
@@ -27,8 +27,8 @@ known : (c : tie.After-shared-slice-known Inv-loop μ-loop) →
     let digit = getD (p .before .args .s .now) (p .loop .i) 0 in
     (48 ≤ digit) × (digit ≤ 57) × (p .loop .n < 10 ^ 18)
 known c =
-    let p = c .before .before in
-    read-digit _ _ _ (p .before .pre .0) (c .before .loop-test .taken) (p .before .pre .1) (p .loop .inv .1 .0)
+    let at-loop = c .before .before in
+    read-digit _ _ _ (at-loop .before .pre .0) (c .before .loop-test .taken) (at-loop .before .pre .1) (at-loop .loop .inv .1 .0)
 
 sub-digit : tie.Need-sub-digit Inv-loop μ-loop
 sub-digit c = omega (arith, known c)

@@ -1,4 +1,4 @@
--- `within` meets its contract.
+-- The two tests are the two ends of the range.
 use Rattle.octets.proofs.Ranges.{below, above, inside}
 use Rattle.octets.proofs.decimals.within.Statement.{statement}
 use Rattle.octets.proofs.decimals.within.Tie as tie

@@ -1,4 +1,4 @@
--- `number32` meets its contract: four bytes fit 32 bits.
+-- Each byte is below 256, so the four with their places are within 32 bits.
 use mathlib.Core.Path.{refl}
 use Prim.Native.Nat.{_<_, _+_}
 use native.Mathlib.Omega.{arith}

@@ -1,4 +1,4 @@
--- `put_number32` meets its contract: four stores in a row.
+-- The four stores are, one behind the other, the bytes of n from the low one on.
 use native.Mathlib.Omega.{arith}
 use lib.ListN.{length-set}
 use Rattle.rules.specs.Octets.{fourBytes}

@@ -1,3 +1,4 @@
+-- The bytes are below 256, so both with their places are within 32 bits.
 use mathlib.Core.Path.{refl}
 use Prim.Native.Nat.{_+_}
 use native.Mathlib.Omega.{arith}

@@ -1,4 +1,4 @@
--- `copy` meets its contract. The loop's invariant: the first i bytes are put in.
+-- After i turns the first i bytes of the text are in place.
 use mathlib.Core.Path.{_≡_, refl, sym}
 use Prim.Native.Nat.{_≤_, _-_}
 use native.Mathlib.Omega.{arith}
@@ -34,8 +34,8 @@ loop-less c = omega arith
 
 loop-again : tie.Need-loop-again Inv-loop μ-loop
 loop-again c =
-    let p = c .before .before in
-    (omega arith, (simp length-set (omega arith), paste-next _ _ _ (p .loop .i) (p .loop .inv .1 .1) (omega arith) (omega arith)))
+    let at-loop = c .before .before in
+    (omega arith, (simp length-set (omega arith), paste-next _ _ _ (at-loop .loop .i) (at-loop .loop .inv .1 .1) (omega arith) (omega arith)))
 
 same-length : tie.Need-same-length Inv-loop μ-loop
 same-length c = omega arith

@@ -1,3 +1,4 @@
+-- The zeros behind the text and the text before them are the padded text.
 use mathlib.Core.Path.{sym, ap, _∙_}
 use native.Mathlib.Omega.{arith}
 use borrow.Author.Needs.{needs}
@@ -24,9 +25,10 @@ same-length c = search needs
 returns : tie.Need-returns
 unfolding padded
 returns c =
-    let b = c .before .before .before .before .before .before .before .before .before .before in
-    c .before .before .copy .ensures ∙ ap (paste (b .args .at) (b .args .text .now)) (c .before .before .before .before .before .before .clear .ensures)
-    ∙ sym (paste-append (b .args .at) (b .args .text .now) _ (b .args .into .now) (omega arith))
+    let at-clear = c .before .before .before .before .before .before in
+    let args = at-clear .before .before .before .before .args in
+    c .before .before .copy .ensures ∙ ap (paste (args .at) (args .text .now)) (at-clear .clear .ensures)
+    ∙ sym (paste-append (args .at) (args .text .now) _ (args .into .now) (omega arith))
 
 pub put-text-spec : {M : Type 1} → statement M
 put-text-spec =

@@ -1,4 +1,4 @@
--- `digits` meets its contract. The loop's invariant: the digits counted, and those of what is left, are those of n and one more.
+-- A number of two digits or more has one digit more than its tenth.
 use mathlib.Core.Path.{_≡_}
 use Prim.Native.Nat.{_+_, _-_, _^_, _≤_, _<_}
 use native.Mathlib.Omega.{arith}

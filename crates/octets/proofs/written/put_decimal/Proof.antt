@@ -1,4 +1,4 @@
--- `put_decimal` meets its contract. The loop's invariant: the digits from i on stand, and those before i are the last i of what is left.
+-- Before each turn the digits from i on are in place, and the i digits before them are those of what is left.
 use mathlib.Core.Path.{_≡_, refl, ap}
 use mathlib.Core.List.{_++_}
 use Prim.Native.Nat.{ℕ, _+_, _≤_}

@@ -1,3 +1,4 @@
+-- Each of the 256 entries is the class of its byte.
 use borrow.Author.Needs.{needs}
 use Rattle.paths.proofs.ConstantTables.{classes, classes-right}
 use Rattle.paths.proofs.classes.class_of.Statement.{statement}

@@ -53,9 +53,9 @@ loop-less c = omega arith
 loop-again : tie.Need-loop-again Inv-loop μ-loop
 unfolding classes steps
 loop-again c =
-    let p = c .before .before .before in
-    let e = next-right (p .loop .state) _ (p .loop .inv .1) (array-read-class (c .before)) in
-    (omega arith, rw e (step-small _ _), p .loop .inv .2 ∙ (run-next _ _ _ (c .before .before .loop-test .taken) ∙ rw e refl))
+    let loop = c .before .before .before .loop in
+    let e = next-right (loop .state) _ (loop .inv .1) (array-read-class (c .before)) in
+    (omega arith, rw e (step-small _ _), loop .inv .2 ∙ (run-next _ _ _ (c .before .before .loop-test .taken) ∙ rw e refl))
 
 verdict-requires : tie.Need-verdict-requires Inv-loop μ-loop
 verdict-requires c κs = tt

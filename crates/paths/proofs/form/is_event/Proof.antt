@@ -1,3 +1,4 @@
+-- There are two event names.
 use mathlib.Core.Path.{sym, _∙_}
 use borrow.Author.Needs.{needs}
 use Rattle.rules.specs.Octets.{text}

@@ -1,3 +1,4 @@
+-- Each entry is the machine's step of its row and column.
 use borrow.Author.Needs.{needs}
 use Rattle.paths.proofs.ConstantTables.{steps, steps-right}
 use Rattle.paths.proofs.form.step.Statement.{statement}

@@ -1,3 +1,4 @@
+-- A state tells what kind of text was read; its length, or the event's name, decides.
 use mathlib.Core.Path.{sym, _∙_}
 use mathlib.Core.Logic.{inl, inr}
 use borrow.Author.Needs.{needs}
@@ -16,8 +17,8 @@ returns-2 c = marked-event _ _ (c .before .before .match .keys2) (sym (c .before
 
 returns-3 : tie.Need-returns-3
 returns-3 c =
-    let p = c .before .before in
-    absolute-within _ (p .before .before .before .args .s .now) (p .if3 .left) (c .before .if4 .taken) (c .if5 .taken)
+    let test3 = c .before .before in
+    absolute-within _ (test3 .before .before .before .args .s .now) (test3 .if3 .left) (c .before .if4 .taken) (c .if5 .taken)
 
 returns-4 : tie.Need-returns-4
 returns-4 c = relative-beyond _ (c .before .before .before .args .s .now) (c .before .match .keys1) (c .if1 .left)
@@ -30,8 +31,8 @@ returns-6 c = verdict-rest _ _ (inl (c .if3 .taken)) (c .before .match .rest .0 
 
 returns-7 : tie.Need-returns-7
 returns-7 c =
-    let p = c .before .before in
-    absolute-beyond _ (p .before .before .before .args .s .now) (p .if3 .left) (c .before .if4 .taken) (c .if5 .left)
+    let test3 = c .before .before in
+    absolute-beyond _ (test3 .before .before .before .args .s .now) (test3 .if3 .left) (c .before .if4 .taken) (c .if5 .left)
 
 returns-8 : tie.Need-returns-8
 returns-8 c = verdict-rest _ _ (inr (c .if4 .left)) (c .before .before .match .rest .0 .1) (c .before .before .match .rest .1)

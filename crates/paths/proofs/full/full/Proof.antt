@@ -1,4 +1,4 @@
--- a number has at most 20 digits
+-- The base's text, the domain's decimal, a slash and the path stand one behind the other; a decimal has 20 digits at most, so there is room.
 use mathlib.Core.Path.{_∙_}
 use Prim.Native.Nat.{_≤_}
 use native.Mathlib.Omega.{arith}
@@ -41,18 +41,21 @@ add-result-2 c = omega (arith, short (c .before .before .before .before .before 
 
 same-length : tie.Need-same-length
 same-length c =
-    let p = c .before .before in
-    let q = p .before .before .before .before in
-    p .copy2 .kept .0 ∙ (length-set (q .put-decimal .last .0) _ _ ∙ (q .put-decimal .kept .0 ∙ q .before .before .before .before .copy .kept .0))
+    let at-copy2 = c .before .before in
+    let at-put-decimal = at-copy2 .before .before .before .before in
+    let at-copy = at-put-decimal .before .before .before .before in
+    at-copy2 .copy2 .kept .0 ∙ (length-set (at-put-decimal .put-decimal .last .0) _ _ ∙ (at-put-decimal .put-decimal .kept .0 ∙ at-copy .copy .kept .0))
 
 returns : tie.Need-returns
 unfolding front text
 returns c =
-    let p = c .before .before in
-    let q = p .before .before .before .before in
-    let start = q .before .before .before .before .before .before .before .before .before in
-    full-put (start .args .domain) _ _ _ _ _ _ (start .pre) (q .before .before .before .before .copy .ensures) (q .put-decimal .ensures)
-    (slice-write-into (p .before .before)) (p .copy2 .ensures)
+    let at-copy2 = c .before .before in
+    let at-slice-write-into = at-copy2 .before .before in
+    let at-put-decimal = at-slice-write-into .before .before in
+    let at-copy = at-put-decimal .before .before .before .before in
+    let start = at-copy .before .before .before .before .before in
+    full-put (start .args .domain) _ _ _ _ _ _ (start .pre) (at-copy .copy .ensures) (at-put-decimal .put-decimal .ensures)
+    (slice-write-into at-slice-write-into) (at-copy2 .copy2 .ensures)
 
 pub full-spec : {M : Type 1} → statement M
 full-spec =

@@ -1,4 +1,4 @@
--- The slashes passed, and those to come.
+-- A full path other than the root has a slash before each name; those passed and those to come are counted.
 use mathlib.Core.Path.{_≡_}
 use mathlib.Core.Logic.{⊎-elim}
 use Prim.Native.Nat.{_+_, _≤_, _-_}
@@ -34,13 +34,11 @@ loop-less c = omega arith
 
 loop-again : tie.Need-loop-again Inv-loop μ-loop
 loop-again c =
-    let p = c .before .before .before in
-    let s = p .before .before .args .s .now in
+    let at-loop = c .before .before .before in
+    let s = at-loop .before .before .args .s .now in
     let h = c .before .before .loop-test .taken in
-    ⊎-elim
-    (λ w. omega (arith, slash-here s (p .loop .i) h (w .0 .taken)))
-    (λ w. omega (arith, no-slash-here s (p .loop .i) h (w .0 .left)))
-    (c .if2 .came)
+    ⊎-elim (λ w. omega (arith, slash-here s (at-loop .loop .i) h (w .0 .taken)))
+    (λ w. omega (arith, no-slash-here s (at-loop .loop .i) h (w .0 .left))) (c .if2 .came)
 
 returns-2 : tie.Need-returns-2 Inv-loop μ-loop
 returns-2 c =

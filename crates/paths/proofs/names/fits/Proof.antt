@@ -1,3 +1,4 @@
+-- The two tests are those of the sizes: depth and names.
 use mathlib.Core.Path.{_∙_}
 use borrow.Author.Needs.{needs}
 use Rattle.paths.proofs.PieceLaws.{fits-deep, fits-short}

@@ -1,4 +1,4 @@
--- The name from `at` on ends where the one from `i` on does.
+-- There is no slash from the beginning to i, so the name ends where the text from i on has its first.
 use mathlib.Core.Path.{_≡_, refl, sym, _∙_}
 use Prim.Native.Nat.{_≤_, _-_}
 use native.Mathlib.Omega.{arith}

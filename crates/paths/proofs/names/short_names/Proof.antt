@@ -23,8 +23,8 @@ name-end-requires c κs = omega arith
 ended : (c : tie.After-name-end Inv-loop μ-loop)
     → (c .before .before .loop .at ≤ c .name-end .result) × (c .name-end .result ≤ length (c .before .before .before .before .args .s .now))
 ended c =
-    let p = c .before .before in
-    let h : p .loop .at ≤ length (p .before .before .args .s .now) = omega arith in
+    let at-loop = c .before .before in
+    let h : at-loop .loop .at ≤ length (at-loop .before .before .args .s .now) = omega arith in
     (rw (c .name-end .ensures) (end-low _ _ h), rw (c .name-end .ensures) (end-high _ _ h))
 
 sub-if1 : tie.Need-sub-if1 Inv-loop μ-loop
@@ -32,9 +32,9 @@ sub-if1 c = ended c .0
 
 returns : tie.Need-returns Inv-loop μ-loop
 returns c =
-    let p = c .before .before .before in
-    let h : p .loop .at ≤ length (p .before .before .args .s .now) = omega arith in
-    sym (p .loop .inv .1 ∙ short-long _ _ h _ (c .before .name-end .ensures) (c .if1 .taken))
+    let at-loop = c .before .before .before in
+    let h : at-loop .loop .at ≤ length (at-loop .before .before .args .s .now) = omega arith in
+    sym (at-loop .loop .inv .1 ∙ short-long _ _ h _ (c .before .name-end .ensures) (c .if1 .taken))
 
 add-at : tie.Need-add-at Inv-loop μ-loop
 add-at c = omega (arith, ended (c .before))
@@ -44,9 +44,9 @@ loop-less c = omega (arith, ended (c .before))
 
 loop-again : tie.Need-loop-again Inv-loop μ-loop
 loop-again c =
-    let p = c .before .before .before in
-    let h : p .loop .at ≤ length (p .before .before .args .s .now) = omega arith in
-    (omega (arith, ended (c .before)), p .loop .inv .1 ∙ short-further _ _ h _ (c .before .name-end .ensures) (c .if1 .left))
+    let at-loop = c .before .before .before in
+    let h : at-loop .loop .at ≤ length (at-loop .before .before .args .s .now) = omega arith in
+    (omega (arith, ended (c .before)), at-loop .loop .inv .1 ∙ short-further _ _ h _ (c .before .name-end .ensures) (c .if1 .left))
 
 returns-2 : tie.Need-returns-2 Inv-loop μ-loop
 returns-2 c = sym (c .before .loop .inv .1 ∙ short-over _ _ (c .loop-test .left))

@@ -1,3 +1,4 @@
+-- All but the root lie below the root; below any other lies what goes on with a slash behind its text.
 use mathlib.Core.Path.{sym, _∙_}
 use borrow.Author.Needs.{needs}
 use Rattle.paths.proofs.RelationLaws.{below-short, below-root, below-other}
@@ -18,8 +19,8 @@ begins-requires c κs = search needs
 
 returns-2 : tie.Need-returns-2
 returns-2 c =
-    let p = c .before .before in
-    c .begins .ensures ∙ below-root _ _ (sym (p .before .same .ensures) ∙ p .if1 .taken) (c .before .if2 .left)
+    let test1 = c .before .before in
+    c .begins .ensures ∙ below-root _ _ (sym (test1 .before .same .ensures) ∙ test1 .if1 .taken) (c .before .if2 .left)
 
 reaches-requires : tie.Need-reaches-requires
 reaches-requires c κs = search needs

@@ -1,4 +1,4 @@
--- By the type: each ask carries nothing of the payload.
+-- Each type that takes a path alone has its ask, and none of these carries anything of the payload.
 use mathlib.Core.Path.{sym}
 use borrow.Author.Tests.{ne-eqb}
 use Rattle.payload.specs.Answers.{askOf}

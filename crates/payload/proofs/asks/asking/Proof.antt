@@ -1,4 +1,4 @@
--- By the path, and on the root by the ask.
+-- The root is asked only what it is open to; any other path is asked everything.
 use mathlib.Core.Path.{sym, _∙_}
 use borrow.Author.Tests.{not-true, not-false}
 use Rattle.payload.specs.Answers.{askingOf}
@@ -15,16 +15,16 @@ on-root-requires c κs = search needs
 returns : tie.Need-returns
 unfolding askingOf
 returns c s =
-    let at-root = c .before .before in
+    let test = c .before .before in
     let told = sym (c .before .on-root .ensures s) ∙ not-true _ (c .if2 .taken) in
-    sym (rw (sym (at-root .before .is-root .ensures) ∙ at-root .if1 .taken, told))
+    sym (rw (sym (test .before .is-root .ensures) ∙ test .if1 .taken, told))
 
 returns-2 : tie.Need-returns-2
 unfolding askingOf
 returns-2 c s =
-    let at-root = c .before .before in
+    let test = c .before .before in
     let told = sym (c .before .on-root .ensures s) ∙ not-false _ (c .if2 .left) in
-    sym (rw (sym (at-root .before .is-root .ensures) ∙ at-root .if1 .taken, told))
+    sym (rw (sym (test .before .is-root .ensures) ∙ test .if1 .taken, told))
 
 returns-3 : tie.Need-returns-3
 unfolding askingOf

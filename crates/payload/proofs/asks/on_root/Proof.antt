@@ -1,4 +1,4 @@
--- The root is not removed, SET_PERMS is asked of it by its owner, and the other kinds are open to it.
+-- The root is not removed and keeps its owner; every other ask is open to it.
 use mathlib.Core.Path.{sym, ap, _∙_}
 use Rattle.rules.specs.Payload.{onRoot}
 use Rattle.payload.specs.Meaning.{askMeant}

@@ -1,4 +1,4 @@
--- A path alone, if it is one.
+-- The payload is one string, and that a path; anything else is malformed.
 use mathlib.Core.Path.{sym, _∙_}
 use mathlib.Core.List.{[], _∷_}
 use types.Run.{miss}
@@ -32,8 +32,8 @@ enum-told c = search needs
 
 returns-2 : tie.Need-returns-2
 returns-2 c =
-    let p = c .before .before in
-    plain-not _ _ (sym (p .named .ensures) ∙ c .enum-told .given .1) _ (one (p .before .before) .all)
+    let at-named = c .before .before in
+    plain-not _ _ (sym (at-named .named .ensures) ∙ c .enum-told .given .1) _ (one (at-named .before .before) .all)
 
 ask-of-requires : tie.Need-ask-of-requires
 ask-of-requires c κs = search needs
@@ -44,9 +44,10 @@ asking-requires c κs = search needs
 returns-3 : tie.Need-returns-3
 returns-3 c =
     let at-path = c .before .before .before in
-    let p = at-path .before .before in
-    let o = one (p .before .before) in
-    let is-path = sym (p .named .ensures) ∙ at-path .path .given .1 in
+    let at-named = at-path .before .before in
+    let at-end = at-named .before .before in
+    let o = one at-end in
+    let is-path = sym (at-named .named .ensures) ∙ at-path .path .given .1 in
     plain-means _ _ _ (o .high) is-path _ _ _ (o .all) (c .before .ask-of .ensures) (c .asking .ensures _)
 
 pub plain-spec : {M : Type 1} → statement M

@@ -1,4 +1,4 @@
--- By the payload.
+-- The two payloads are `T` and `F`, each with its nul.
 use mathlib.Core.Path.{sym, _∙_}
 use Rattle.payload.proofs.DomainLaws.{end-commit, end-drop, end-not}
 use borrow.Author.Needs.{needs}

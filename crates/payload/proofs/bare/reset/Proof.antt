@@ -1,4 +1,4 @@
--- By the payload.
+-- The payload is a nul alone.
 use mathlib.Core.Path.{sym, _∙_}
 use Rattle.payload.proofs.DomainLaws.{reset-means, reset-not}
 use borrow.Author.Needs.{needs}

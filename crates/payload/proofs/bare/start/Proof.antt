@@ -1,4 +1,4 @@
--- By the transaction and the payload.
+-- There is no transaction in a transaction, and the payload is a nul alone.
 use mathlib.Core.Path.{sym, _∙_}
 use Rattle.payload.proofs.DomainLaws.{start-inside, start-means, start-not}
 use borrow.Author.Needs.{needs}

@@ -1,3 +1,4 @@
+-- Each type that takes a domain alone has its request.
 use mathlib.Core.Path.{sym}
 use borrow.Author.Tests.{ne-eqb}
 use Rattle.payload.specs.Answers.{toldOf}

@@ -1,4 +1,4 @@
--- Three strings, each read in its turn.
+-- The payload is three strings, each a number within its range: a domain, a page and a channel.
 use mathlib.Core.Path.{_≡_, ap, sym, _∙_}
 use mathlib.Core.List.{[], _∷_}
 use types.Run.{miss}
@@ -29,21 +29,21 @@ three : (c : tie.After-a) → ThreeStrings (c .before .before .before .before .a
 three c = three-told _ _ _ _ (sym (c .before .before .apart .ensures) ∙ c .a .given .1)
 
 first : (c : tie.After-small) (r : Small) → c .small .result ≡ r →
-    numberIn 1 lastDomain (take (c .before .before .before .a .given .0 .0) (c .before .before .before .before .before .before .before .args .s .now))
-    ≡ smallMeant r
+    let at-a = c .before .before .before in
+    let start = at-a .before .before .before .before in
+    numberIn 1 lastDomain (take (at-a .a .given .0 .0) (start .args .s .now)) ≡ smallMeant r
 first c r e = sym (c .small .ensures) ∙ ap smallMeant e
 
 second : (c : tie.After-signed) (r : Number) → c .signed .result ≡ r →
-    signed (part (c .before .before .before .before .before .before .before .before .a .given .0 .0 + 1)
-    (c .before .before .before .before .before .before .before .before .a .given .0 .1 .0)
-    (c .before .before .before .before .before .before .before .before .before .before .before .before .args .s .now)) ≡ meant r
+    let at-a = c .before .before .before .before .before .before .before .before in
+    let start = at-a .before .before .before .before in
+    signed (part (at-a .a .given .0 .0 + 1) (at-a .a .given .0 .1 .0) (start .args .s .now)) ≡ meant r
 second c r e = sym (c .signed .ensures) ∙ ap meant e
 
 third : (c : tie.After-small2) (r : Small) → c .small2 .result ≡ r →
-    numberIn 0 (2 ^ 32 - 1) (part (c .before .before .before .before .before .before .before .before .before .before .before .before .before .a .given .0 .1 .0
-    + 1) (c .before .before .before .before .before .before .before .before .before .before .before .before .before .a .given .0 .1 .1 .0)
-    (c .before .before .before .before .before .before .before .before .before .before .before .before .before .before .before .before .before .args .s .now))
-    ≡ smallMeant r
+    let at-a = c .before .before .before .before .before .before .before .before .before .before .before .before .before in
+    let start = at-a .before .before .before .before in
+    numberIn 0 (2 ^ 32 - 1) (part (at-a .a .given .0 .1 .0 + 1) (at-a .a .given .0 .1 .1 .0) (start .args .s .now)) ≡ smallMeant r
 third c r e = sym (c .small2 .ensures) ∙ ap smallMeant e
 
 returns : tie.Need-returns
@@ -65,8 +65,11 @@ returns-2 : tie.Need-returns-2
 returns-2 c = introduce-no-domain _ _ _ _ (three (c .before .before .before .before .before)) (first (c .before .before) _ (c .enum-told .given .1))
 
 add-second : tie.Need-add-second
-add-second c = let t = three (c .before .before .before .before .before .before) in omega
-    (arith, c .before .before .before .before .before .before .before .before .before .before .good)
+add-second c =
+    let at-a = c .before .before .before .before .before .before in
+    let start = at-a .before .before .before .before in
+    let t = three at-a in
+    omega (arith, start .good)
 
 sub-signed : tie.Need-sub-signed
 sub-signed c = let t = three (c .before .before .before .before .before .before) in omega arith
@@ -87,13 +90,18 @@ enum-told-2 : tie.Need-enum-told-2
 enum-told-2 c = search needs
 
 returns-3 : tie.Need-returns-3
-returns-3 c = introduce-no-page _ _ _ _ (three (c .before .before .before .before .before .before .before .before .before .before)) _
-    (first (c .before .before .before .before .before .before .before) _ (c .before .before .before .before .before .domain .given .1))
-    (second (c .before .before) _ (c .enum-told2 .given .1))
+returns-3 c =
+    let at-domain = c .before .before .before .before .before in
+    let at-small = at-domain .before .before in
+    let at-a = at-small .before .before .before in
+    introduce-no-page _ _ _ _ (three at-a) _ (first at-small _ (at-domain .domain .given .1)) (second (c .before .before) _ (c .enum-told2 .given .1))
 
 add-third : tie.Need-add-third
-add-third c = let t = three (c .before .before .before .before .before .before .before .before .before .before .before) in omega
-    (arith, c .before .before .before .before .before .before .before .before .before .before .before .before .before .before .before .good)
+add-third c =
+    let at-a = c .before .before .before .before .before .before .before .before .before .before .before in
+    let start = at-a .before .before .before .before in
+    let t = three at-a in
+    omega (arith, start .good)
 
 sub-small : tie.Need-sub-small
 sub-small c = let t = three (c .before .before .before .before .before .before .before .before .before .before .before) in omega arith
@@ -114,10 +122,24 @@ enum-told-3 : tie.Need-enum-told-3
 enum-told-3 c = search needs
 
 returns-4 : tie.Need-returns-4
-returns-4 c = introduce-no-channel _ _ _ _ (three (c .before .before .before .before .before .before .before .before .before .before .before .before .before .before .before)) _ (first (c .before .before .before .before .before .before .before .before .before .before .before .before) _ (c .before .before .before .before .before .before .before .before .before .before .domain .given .1)) _ (second (c .before .before .before .before .before .before .before) _ (c .before .before .before .before .before .page .given .1)) (third (c .before .before) _ (c .enum-told3 .given .1))
+returns-4 c =
+    let at-page = c .before .before .before .before .before in
+    let at-signed = at-page .before .before in
+    let at-domain = at-signed .before .before .before in
+    let at-small = at-domain .before .before in
+    let at-a = at-small .before .before .before in
+    introduce-no-channel _ _ _ _ (three at-a) _ (first at-small _ (at-domain .domain .given .1)) _ (second at-signed _ (at-page .page .given .1))
+    (third (c .before .before) _ (c .enum-told3 .given .1))
 
 returns-5 : tie.Need-returns-5
-returns-5 c = introduce-means _ _ _ _ (three (c .before .before .before .before .before .before .before .before .before .before .before .before .before .before .before .before)) _ (first (c .before .before .before .before .before .before .before .before .before .before .before .before .before) _ (c .before .before .before .before .before .before .before .before .before .before .before .domain .given .1)) _ (second (c .before .before .before .before .before .before .before .before) _ (c .before .before .before .before .before .before .page .given .1)) _ (third (c .before .before .before) _ (c .before .channel .given .1))
+returns-5 c =
+    let at-page = c .before .before .before .before .before .before in
+    let at-signed = at-page .before .before in
+    let at-domain = at-signed .before .before .before in
+    let at-small = at-domain .before .before in
+    let at-a = at-small .before .before .before in
+    introduce-means _ _ _ _ (three at-a) _ (first at-small _ (at-domain .domain .given .1)) _ (second at-signed _ (at-page .page .given .1)) _
+    (third (c .before .before .before) _ (c .before .channel .given .1))
 
 pub introduce-spec : {M : Type 1} → statement M
 introduce-spec =

@@ -1,3 +1,4 @@
+-- RELEASE takes no domain 0; the other types do.
 use mathlib.Core.Path.{ap, sym}
 use borrow.Author.Tests.{ne-eqb}
 use Rattle.payload.specs.Answers.{lowOf}

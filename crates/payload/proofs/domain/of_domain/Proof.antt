@@ -1,4 +1,4 @@
--- A domain id alone, if it is one.
+-- The payload is one string, and that a domain id within the type's range.
 use mathlib.Core.Path.{_≡_, ap, sym, _∙_}
 use mathlib.Core.List.{[], _∷_}
 use types.Run.{miss}
@@ -26,13 +26,14 @@ one : (c : tie.After-end) → OneString (c .before .before .before .before .args
 one c = one-told _ _ (sym (c .before .before .apart .ensures) ∙ c .end .given .1)
 
 read : (c : tie.After-small) (r : Small) → c .small .result ≡ r →
-    numberIn (lowOf (c .before .before .before .before .before .before .before .before .args .kind)) lastDomain
-    (take (c .before .before .before .before .end .given .0 .0) (c .before .before .before .before .before .before .before .before .args .s .now))
-    ≡ smallMeant r
+    let at-end = c .before .before .before .before in
+    let args = at-end .before .before .before .before .args in
+    numberIn (lowOf (args .kind)) lastDomain (take (at-end .end .given .0 .0) (args .s .now)) ≡ smallMeant r
 read c r e =
-    let p = c .before .before in
-    ap (λ (n : ℕ). numberIn n lastDomain (take (p .before .before .end .given .0 .0) (p .before .before .before .before .before .before .args .s .now)))
-    (sym (p .low .ensures))
+    let at-low = c .before .before in
+    let at-end = at-low .before .before in
+    let start = at-end .before .before .before .before in
+    ap (λ (n : ℕ). numberIn n lastDomain (take (at-end .end .given .0 .0) (start .args .s .now))) (sym (at-low .low .ensures))
     ∙ (sym (c .small .ensures) ∙ ap smallMeant e)
 
 returns : tie.Need-returns
@@ -60,8 +61,10 @@ about-requires : tie.Need-about-requires
 about-requires c κs = search needs
 
 returns-3 : tie.Need-returns-3
-returns-3 c = domain-means _ _ (one (c .before .before .before .before .before .before .before .before)) _ _ _
-    (read (c .before .before .before .before) _ (c .before .before .domain .given .1)) (c .about .ensures)
+returns-3 c =
+    let at-small = c .before .before .before .before in
+    let at-end = at-small .before .before .before .before in
+    domain-means _ _ (one at-end) _ _ _ (read at-small _ (c .before .before .domain .given .1)) (c .about .ensures)
 
 pub of-domain-spec : {M : Type 1} → statement M
 of-domain-spec =

@@ -1,4 +1,4 @@
--- By the letter and the number.
+-- The first byte is the access's letter, and what is behind it the domain id.
 use mathlib.Core.Path.{refl, ap, sym, _∙_}
 use mathlib.Core.Logic.{inl, inr}
 use mathlib.Core.Option.{none}
@@ -47,16 +47,19 @@ enum-told-2 c = search needs
 
 returns-3 : tie.Need-returns-3
 returns-3 c =
-    entry-told _ _ _ (c .before .before .before .before .before .before .before .before .before .if1 .left)
-    (sym (c .before .before .before .before .before .before .before .letter .ensures)
-    ∙ ap smallMeant (c .before .before .before .before .before .access .given .1))
-    (inl (sym (ap smallMeant (c .enum-told2 .given .1)) ∙ c .before .before .small .ensures))
+    let at-access = c .before .before .before .before .before in
+    let at-letter = at-access .before .before in
+    let test = at-letter .before .before in
+    entry-told _ _ _ (test .if1 .left) (sym (at-letter .letter .ensures)
+    ∙ ap smallMeant (at-access .access .given .1)) (inl (sym (ap smallMeant (c .enum-told2 .given .1)) ∙ c .before .before .small .ensures))
 
 returns-4 : tie.Need-returns-4
 returns-4 c =
-    entry-told _ _ _ (c .before .before .before .before .before .before .before .before .before .before .if1 .left)
-    (sym (c .before .before .before .before .before .before .before .before .letter .ensures)
-    ∙ ap smallMeant (c .before .before .before .before .before .before .access .given .1))
+    let at-access = c .before .before .before .before .before .before in
+    let at-letter = at-access .before .before in
+    let test = at-letter .before .before in
+    entry-told _ _ _ (test .if1 .left) (sym (at-letter .letter .ensures)
+    ∙ ap smallMeant (at-access .access .given .1))
     (inl (sym (ap smallMeant (c .before .domain .given .1)) ∙ c .before .before .before .small .ensures))
 
 pub permission-spec : {M : Type 1} → statement M

@@ -1,3 +1,4 @@
+-- The entries of the strings passed, and those of the strings to come, are the entries of all.
 use Rattle.payload.specs.Answers.{permissionMeant}
 -- What is kept so far, and the strings that are left, decide.
 use mathlib.Core.Path.{_≡_, ap, sym, _∙_}
@@ -34,16 +35,16 @@ enum-told c = search needs
 
 returns : tie.Need-returns Inv-loop μ-loop
 returns c =
-    let p = c .before .before in
-    sym (p .before .loop .inv .2 ∙ entries-end _ _ _ (sym (p .next .ensures) ∙ c .enum-told .given .1))
+    let at-next = c .before .before in
+    sym (at-next .before .loop .inv .2 ∙ entries-end _ _ _ (sym (at-next .next .ensures) ∙ c .enum-told .given .1))
 
 enum-told-2 : tie.Need-enum-told-2 Inv-loop μ-loop
 enum-told-2 c = search needs
 
 returns-2 : tie.Need-returns-2 Inv-loop μ-loop
 returns-2 c =
-    let p = c .before .before in
-    sym (p .before .loop .inv .2 ∙ entries-left _ _ _ (sym (p .next .ensures) ∙ c .enum-told2 .given .1))
+    let at-next = c .before .before in
+    sym (at-next .before .loop .inv .2 ∙ entries-left _ _ _ (sym (at-next .next .ensures) ∙ c .enum-told2 .given .1))
 
 enum-known-start : tie.Need-enum-known-start Inv-loop μ-loop
 enum-known-start c = search needs
@@ -70,33 +71,40 @@ enum-told-3 c = search needs
 
 returns-3 : tie.Need-returns-3 Inv-loop μ-loop
 returns-3 c =
-    let p = c .before .before .before .before .before .before .before in
-    sym
-    (p .before .loop .inv .2
-    ∙ entries-not _ _ _ _ _ _ (sym (p .next .ensures) ∙ c .before .before .before .before .before .start .given .1)
+    let at-start = c .before .before .before .before .before in
+    let at-next = at-start .before .before in
+    let at-loop = at-next .before in
+    sym (at-loop .loop .inv .2
+    ∙ entries-not _ _ _ _ _ _ (sym (at-next .next .ensures) ∙ at-start .start .given .1)
     (sym (ap permissionMeant (c .enum-told3 .given .1)) ∙ c .before .before .permission .ensures))
 
 enum-known-e : tie.Need-enum-known-e Inv-loop μ-loop
 enum-known-e c = search needs
 
 with-requires : tie.Need-with-requires Inv-loop μ-loop
-with-requires c κs = let i = c .before .before .before .before .before .before .before .before .before .loop .inv in omega
-    (arith, c .before .before .before .before .before .before .before .before .before .before .before .before .good)
+with-requires c κs =
+    let at-loop = c .before .before .before .before .before .before .before .before .before in
+    let start = at-loop .before .before .before in
+    let i = at-loop .loop .inv in
+    omega (arith, start .good)
 
 loop-less : tie.Need-loop-less Inv-loop μ-loop
 loop-less c = let t = told (c .before .before .before .before .before .before .before) in omega arith
 
 loop-again : tie.Need-loop-again Inv-loop μ-loop
 loop-again c =
-    let p = c .before .before .before .before .before .before .before .before .before in
-    let t = told (c .before .before .before .before .before .before .before) in
-    let i = p .before .loop .inv in
+    let at-permission = c .before .before .before .before in
+    let at-start = at-permission .before .before .before in
+    let at-next = at-start .before .before in
+    let at-loop = at-next .before in
+    let t = told at-start in
+    let i = at-loop .loop .inv in
     let n = with-count _ _ _ (c .with .ensures) in (
       omega arith,
       omega arith,
       i .2
-          ∙ (entries-more _ _ _ _ _ _ (sym (p .next .ensures) ∙ c .before .before .before .before .before .before .before .start .given .1) _
-          (sym (ap permissionMeant (c .before .before .e .given .1)) ∙ c .before .before .before .before .permission .ensures)
+          ∙ (entries-more _ _ _ _ _ _ (sym (at-next .next .ensures) ∙ at-start .start .given .1) _
+          (sym (ap permissionMeant (c .before .before .e .given .1)) ∙ at-permission .permission .ensures)
           ∙ rw (c .with .ensures)),
     )
 

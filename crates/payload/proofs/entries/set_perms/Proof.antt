@@ -23,16 +23,14 @@ enum-known-end c = search needs
 found : (c : tie.After-end) → takenAt (c .before .before .before .before .before .args .s .now) 0
     ≡ String (c .end .given .0 .0) (c .end .given .0 .1 .0) (c .end .given .0 .1 .1 .0)
 found c =
-    let p = c .before .before in
-    sym (ap (takenAt _) (p .before .new .ensures)) ∙ (sym (p .next .ensures) ∙ c .end .given .1)
+    let at-next = c .before .before in
+    sym (ap (takenAt _) (at-next .before .new .ensures)) ∙ (sym (at-next .next .ensures) ∙ c .end .given .1)
 
 returns : tie.Need-returns
 returns c =
-    let p = c .before in
-    setting-other _
-    (nothing-told _ _
-    (λ start end next h.
-    miss (1 ∷ 2 ∷ []) 0 tt (rw (p .next .ensures ∙ (ap (takenAt _) (p .before .new .ensures) ∙ h)) at (c .match .keys2))))
+    let at-next = c .before in
+    setting-other _ (nothing-told _ _ (λ start end next h.
+    miss (1 ∷ 2 ∷ []) 0 tt (rw (at-next .next .ensures ∙ (ap (takenAt _) (at-next .before .new .ensures) ∙ h)) at (c .match .keys2))))
 
 permissions-requires : tie.Need-permissions-requires
 permissions-requires c κs = let t = string-told _ _ _ _ _ (found (c .before)) in omega arith
@@ -45,8 +43,8 @@ enum-told c = search needs
 
 returns-2 : tie.Need-returns-2
 returns-2 c =
-    let p = c .before .before in
-    setting-not _ _ _ _ (found (p .before .before)) (sym (p .permissions .ensures) ∙ c .enum-told .given .1)
+    let at-permissions = c .before .before in
+    setting-not _ _ _ _ (found (at-permissions .before .before)) (sym (at-permissions .permissions .ensures) ∙ c .enum-told .given .1)
 
 named-requires : tie.Need-named-requires
 named-requires c κs = let t = string-told _ _ _ _ _ (found (c .before .before .before .before .before)) in omega arith
@@ -59,8 +57,8 @@ enum-told-2 c = search needs
 
 returns-3 : tie.Need-returns-3
 returns-3 c =
-    let p = c .before .before in
-    setting-unnamed _ _ _ _ (found (p .before .before .before .before .before .before)) (sym (p .named .ensures) ∙ c .enum-told2 .given .1)
+    let at-named = c .before .before in
+    setting-unnamed _ _ _ _ (found (at-named .before .before .before .before .before .before)) (sym (at-named .named .ensures) ∙ c .enum-told2 .given .1)
 
 setting-requires : tie.Need-setting-requires
 setting-requires c κs = search needs
@@ -68,11 +66,12 @@ setting-requires c κs = search needs
 returns-4 : tie.Need-returns-4
 returns-4 c =
     let at-path = c .before .before in
-    let p = at-path .before .before in
-    let at-entries = p .before .before in
-    let q = at-entries .before .before in
-    let are-entries = sym (q .permissions .ensures) ∙ at-entries .entries .given .1 in
-    setting-means _ _ _ _ (found (q .before .before)) _ (sym (p .named .ensures) ∙ at-path .path .given .1) _ _ are-entries (c .setting .ensures _)
+    let at-named = at-path .before .before in
+    let at-entries = at-named .before .before in
+    let at-permissions = at-entries .before .before in
+    let at-end = at-permissions .before .before in
+    let are-entries = sym (at-permissions .permissions .ensures) ∙ at-entries .entries .given .1 in
+    setting-means _ _ _ _ (found at-end) _ (sym (at-named .named .ensures) ∙ at-path .path .given .1) _ _ are-entries (c .setting .ensures _)
 
 pub set-perms-spec : {M : Type 1} → statement M
 set-perms-spec =

@@ -1,4 +1,4 @@
--- By the count.
+-- No entry at all is malformed; with one or more the path is asked.
 use mathlib.Core.Path.{sym, _∙_}
 use borrow.Author.Tests.{eq-eqb, ne-eqb}
 use Rattle.payload.specs.Answers.{settingOf}

@@ -1,4 +1,4 @@
--- By the count.
+-- The first four have places of their own; every other is only counted.
 use mathlib.Core.Path.{sym}
 use Rattle.payload.proofs.EntryLaws.{with-at, with-more}
 use borrow.Author.Needs.{needs}

@@ -1,4 +1,4 @@
--- By the path's form.
+-- The rule has a limit for an event's name alone, and that is the depth 1.
 use mathlib.Core.Path.{sym}
 use Rattle.payload.specs.Answers.{depthFits}
 use borrow.Author.Needs.{needs}

@@ -1,4 +1,4 @@
--- By the path's form.
+-- The root is the absolute path of one byte.
 use mathlib.Core.Path.{sym}
 use Rattle.payload.specs.Answers.{isRoot}
 use borrow.Author.Needs.{needs}

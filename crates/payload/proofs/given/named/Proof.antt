@@ -1,4 +1,4 @@
--- By the text's form.
+-- A node's path is absolute or relative; an event's name is none.
 use mathlib.Core.Path.{ap, sym, _∙_}
 use lib.Seq.{length-take-le}
 use Rattle.payload.specs.Answers.{namedOf}

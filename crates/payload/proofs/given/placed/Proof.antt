@@ -1,4 +1,4 @@
--- By the text's form.
+-- A place is a path or an event's name.
 use mathlib.Core.Path.{ap, sym, _∙_}
 use lib.Seq.{length-take-le}
 use Rattle.payload.specs.Answers.{placedOf}

@@ -1,4 +1,4 @@
--- By the letter.
+-- The four accesses have a letter each.
 use mathlib.Core.Path.{ap, sym}
 use borrow.Author.Tests.{ne-eqb}
 use Rattle.rules.specs.Payload.{accessLetter}

@@ -1,4 +1,4 @@
--- By the number that is read.
+-- The range ends below 2 ^ 32, so the number loses nothing.
 use native.Mathlib.Omega.{arith}
 use Rattle.rules.specs.Octets.{numberIn}
 use Rattle.rules.proofs.Decimals.{range-bounds}

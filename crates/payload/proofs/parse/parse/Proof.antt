@@ -1,4 +1,4 @@
--- Each type by its own law.
+-- Each type has its payload's form; a type that has none is not handled.
 use mathlib.Core.Path.{refl}
 use Rattle.rules.specs.Payload.{parse}
 use Rattle.payload.specs.Answers.{askOf, lowOf, aboutOf}

@@ -1,4 +1,4 @@
--- What the cursor finds after the first string tells.
+-- What the cursor finds behind the first string is a second one, the end, or bytes left over.
 use mathlib.Core.Path.{_≡_, ap, sym, _∙_}
 use Prim.Native.Nat.{_+_}
 use native.Mathlib.Omega.{arith}
@@ -32,8 +32,9 @@ enum-told-2 c = search needs
 
 returns : tie.Need-returns
 returns c =
-    let p = c .before .before .before .before in
-    one-more _ _ (p .before .before .pre .0) _ _ _ _ (found p _ (c .before .before .end .given .1)) (c .after-two .ensures)
+    let at-next = c .before .before .before .before in
+    let start = at-next .before .before in
+    one-more _ _ (start .pre .0) _ _ _ _ (found at-next _ (c .before .before .end .given .1)) (c .after-two .ensures)
 
 returns-2 : tie.Need-returns-2
 returns-2 c = one-end _ _ (c .before .before .before .before .pre .0) (found (c .before .before) _ (c .enum-told .given .1))

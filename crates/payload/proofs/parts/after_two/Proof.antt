@@ -1,4 +1,4 @@
--- What the cursor finds, and then finds again, tells how many strings there are.
+-- Behind two strings is the end or a third; behind a third nothing more may stand.
 use mathlib.Core.Path.{_≡_, ap, sym, _∙_}
 use Prim.Native.Nat.{_+_}
 use Rattle.payload.specs.Cursor.{takenAt}
@@ -37,31 +37,39 @@ found c t e = sym (ap (takenAt _) (c .before .before .pre .2)) ∙ (sym (c .next
 
 returns : tie.Need-returns
 returns c =
-    let p = c .before .before .before .before .before .before in
-    three-end _ _ _ (p .before .before .pre .0) (p .before .before .pre .1) _ _ _ (found p _ (c .before .before .before .before .end .given .1))
+    let at-end = c .before .before .before .before in
+    let at-next = at-end .before .before in
+    let start = at-next .before .before in
+    three-end _ _ _ (start .pre .0) (start .pre .1) _ _ _ (found at-next _ (at-end .end .given .1))
     (sym (c .before .before .next2 .ensures) ∙ c .enum-told .given .1)
 
 returns-2 : tie.Need-returns-2
 returns-2 c =
-    let p = c .before .before .before .before .before .before in
-    three-more _ _ _ (p .before .before .pre .0) (p .before .before .pre .1) _ _ _ (found p _ (c .before .before .before .before .end .given .1)) _ _ _
+    let at-end = c .before .before .before .before in
+    let at-next = at-end .before .before in
+    let start = at-next .before .before in
+    three-more _ _ _ (start .pre .0) (start .pre .1) _ _ _ (found at-next _ (at-end .end .given .1)) _ _ _
     (sym (c .before .before .next2 .ensures) ∙ c .enum-told2 .given .1)
 
 returns-3 : tie.Need-returns-3
 returns-3 c =
-    let p = c .before .before .before .before .before .before in
-    three-left _ _ _ (p .before .before .pre .0) (p .before .before .pre .1) _ _ _ (found p _ (c .before .before .before .before .end .given .1))
+    let at-end = c .before .before .before .before in
+    let at-next = at-end .before .before in
+    let start = at-next .before .before in
+    three-left _ _ _ (start .pre .0) (start .pre .1) _ _ _ (found at-next _ (at-end .end .given .1))
     (sym (c .before .before .next2 .ensures) ∙ c .enum-told3 .given .1)
 
 returns-4 : tie.Need-returns-4
 returns-4 c =
-    let p = c .before .before in
-    two-end _ _ _ (p .before .before .pre .0) (p .before .before .pre .1) (found p _ (c .enum-told4 .given .1))
+    let at-next = c .before .before in
+    let start = at-next .before .before in
+    two-end _ _ _ (start .pre .0) (start .pre .1) (found at-next _ (c .enum-told4 .given .1))
 
 returns-5 : tie.Need-returns-5
 returns-5 c =
-    let p = c .before .before in
-    two-left _ _ _ (p .before .before .pre .0) (p .before .before .pre .1) (found p _ (c .enum-told5 .given .1))
+    let at-next = c .before .before in
+    let start = at-next .before .before in
+    two-left _ _ _ (start .pre .0) (start .pre .1) (found at-next _ (c .enum-told5 .given .1))
 
 pub after-two-spec : {M : Type 1} → statement M
 after-two-spec =

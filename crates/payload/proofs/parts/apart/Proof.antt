@@ -1,4 +1,4 @@
--- What the first cursor finds tells.
+-- A payload begins with a string, or there is none in it.
 use mathlib.Core.Path.{_≡_, ap, sym, _∙_}
 use Rattle.payload.specs.Cursor.{takenAt}
 use Rattle.payload.specs.declared.cursor.Taken.{Taken}

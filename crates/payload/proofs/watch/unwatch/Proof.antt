@@ -1,4 +1,4 @@
--- Two strings, of which the first is a path.
+-- The payload is two strings, of which the first is a path or an event's name.
 use mathlib.Core.Path.{sym, _∙_}
 use mathlib.Core.List.{[], _∷_}
 use types.Run.{miss}
@@ -34,8 +34,11 @@ returns-2 : tie.Need-returns-2
 returns-2 c = unwatch-not _ _ (sym (c .before .before .placed .ensures) ∙ c .enum-told .given .1) _ (two (c .before .before .before .before) .all)
 
 add-t7 : tie.Need-add-t7
-add-t7 c = let t = two (c .before .before .before .before .before) in omega
-    (arith, c .before .before .before .before .before .before .before .before .before .good)
+add-t7 c =
+    let at-a = c .before .before .before .before .before in
+    let start = at-a .before .before .before .before in
+    let t = two at-a in
+    omega (arith, start .good)
 
 returns-3 : tie.Need-returns-3
 returns-3 c =

@@ -1,4 +1,4 @@
--- Two strings or three.
+-- The payload is two strings or three; the third is the depth.
 use mathlib.Core.Path.{sym, _∙_}
 use Rattle.payload.proofs.PartsLaws.{two-told, three-told}
 use Rattle.payload.proofs.WatchLaws.{watch-strings, watch-one, watch-other}

@@ -1,4 +1,4 @@
--- By the path's form.
+-- The first string is a path or an event's name, and with no depth given there is none to test.
 use mathlib.Core.Path.{sym, _∙_}
 use Rattle.payload.proofs.WatchLaws.{watch-all-not, watch-all-means}
 use borrow.Author.Needs.{needs}
@@ -22,8 +22,9 @@ add-t6 c = search needs
 
 returns-2 : tie.Need-returns-2
 returns-2 c =
-    let p = c .before .before .before in
-    watch-all-means _ _ _ _ (p .before .before .pre .0) (p .before .before .pre .1) (sym (p .placed .ensures) ∙ c .before .path .given .1)
+    let at-placed = c .before .before .before in
+    let start = at-placed .before .before in
+    watch-all-means _ _ _ _ (start .pre .0) (start .pre .1) (sym (at-placed .placed .ensures) ∙ c .before .path .given .1)
 
 pub watch-all-spec : {M : Type 1} → statement M
 watch-all-spec =

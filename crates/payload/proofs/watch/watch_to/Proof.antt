@@ -1,4 +1,4 @@
--- By the path's form and the depth.
+-- The first string is a path or an event's name and the third a depth, which has to suit it.
 use mathlib.Core.Path.{_≡_, ap, sym, _∙_}
 use Prim.Native.Nat.{_+_}
 use native.Mathlib.Omega.{arith}
@@ -22,9 +22,8 @@ enum-told : tie.Need-enum-told
 enum-told c = search needs
 
 read : (c : tie.After-small) (r : Small) → c .small .result ≡ r →
-    numberIn 0 deepestWatch (part (c .before .before .before .before .before .before .before .args .b + 1)
-    (c .before .before .before .before .before .before .before .args .c) (c .before .before .before .before .before .before .before .args .s .now))
-    ≡ smallMeant r
+    let args = c .before .before .before .before .before .before .before .args in
+    numberIn 0 deepestWatch (part (args .b + 1) (args .c) (args .s .now)) ≡ smallMeant r
 read c r e = sym (c .small .ensures) ∙ ap smallMeant e
 
 returns : tie.Need-returns
@@ -53,9 +52,11 @@ enum-told-2 c = search needs
 
 returns-2 : tie.Need-returns-2
 returns-2 c =
-    let p = c .before .before .before .before .before .before .before in
-    let t = p .before .before .pre in
-    watch-no-depth _ _ _ _ (t .0) (omega arith) (sym (p .placed .ensures) ∙ c .before .before .before .before .before .path .given .1) _
+    let at-path = c .before .before .before .before .before in
+    let at-placed = at-path .before .before in
+    let start = at-placed .before .before in
+    let t = start .pre in
+    watch-no-depth _ _ _ _ (t .0) (omega arith) (sym (at-placed .placed .ensures) ∙ at-path .path .given .1) _
     (read (c .before .before) _ (c .enum-told2 .given .1))
 
 depth-fits-requires : tie.Need-depth-fits-requires
@@ -66,17 +67,23 @@ add-t16 c = search needs
 
 returns-3 : tie.Need-returns-3
 returns-3 c =
-    let p = c .before .before .before .before .before .before .before .before .before .before in
-    let t = p .before .before .pre in
-    watch-to-means _ _ _ _ (t .0) (omega arith) (sym (p .placed .ensures) ∙ c .before .before .before .before .before .before .before .before .path .given .1) _
-    _ (read (c .before .before .before .before .before) _ (c .before .before .before .k .given .1)) (sym (c .before .depth-fits .ensures) ∙ c .if1 .taken)
+    let at-small = c .before .before .before .before .before in
+    let at-path = at-small .before .before .before in
+    let at-placed = at-path .before .before in
+    let start = at-placed .before .before in
+    let t = start .pre in
+    watch-to-means _ _ _ _ (t .0) (omega arith) (sym (at-placed .placed .ensures) ∙ at-path .path .given .1) _
+    _ (read at-small _ (c .before .before .before .k .given .1)) (sym (c .before .depth-fits .ensures) ∙ c .if1 .taken)
 
 returns-4 : tie.Need-returns-4
 returns-4 c =
-    let p = c .before .before .before .before .before .before .before .before .before .before in
-    let t = p .before .before .pre in
-    watch-unfit _ _ _ _ (t .0) (omega arith) (sym (p .placed .ensures) ∙ c .before .before .before .before .before .before .before .before .path .given .1) _ _
-    (read (c .before .before .before .before .before) _ (c .before .before .before .k .given .1)) (sym (c .before .depth-fits .ensures) ∙ c .if1 .left)
+    let at-small = c .before .before .before .before .before in
+    let at-path = at-small .before .before .before in
+    let at-placed = at-path .before .before in
+    let start = at-placed .before .before in
+    let t = start .pre in
+    watch-unfit _ _ _ _ (t .0) (omega arith) (sym (at-placed .placed .ensures) ∙ at-path .path .given .1) _ _
+    (read at-small _ (c .before .before .before .k .given .1)) (sym (c .before .depth-fits .ensures) ∙ c .if1 .left)
 
 pub watch-to-spec : {M : Type 1} → statement M
 watch-to-spec =

@@ -1,3 +1,4 @@
+-- Each error has its name, which with its nul fits the reply.
 use Rattle.replies.specs.declared.kinds.Errno.the-variants.{Invalid, Access, Exists, NoEntry, NoSpace, TooBig, Again, NoSystem}
 use Rattle.rules.specs.Answer.{errnoText}
 use Rattle.rules.specs.Octets.{text}

@@ -1,3 +1,4 @@
+-- The type, the two numbers that are copied and the length stand one behind the other.
 use mathlib.Core.Path.{refl}
 use Rattle.replies.proofs.FrameLaws.{header-put}
 use borrow.Author.Needs.{needs}
@@ -35,7 +36,14 @@ same-length : tie.Need-same-length
 same-length c = search needs
 
 returns : tie.Need-returns
-returns c = (refl, header-put _ _ _ _ _ _ _ (c .before .before .before .before .before .before .before .before .before .before .before .before .before .before .before .pre .0) (c .before .before .before .before .before .before .before .before .before .before .before .put-number32 .ensures) (c .before .before .before .before .before .before .copy .ensures) (c .before .before .put-number322 .ensures))
+returns c =
+    let at-copy = c .before .before .before .before .before .before in
+    let at-put-number32 = at-copy .before .before .before .before .before in
+    let start = at-put-number32 .before .before .before .before in (
+      refl,
+      header-put _ _ _ _ _ _ _ (start .pre .0) (at-put-number32 .put-number32 .ensures) (at-copy .copy .ensures)
+          (c .before .before .put-number322 .ensures),
+    )
 
 pub put-header-spec : {M : Type 1} → statement M
 put-header-spec =

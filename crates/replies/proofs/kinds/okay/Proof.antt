@@ -1,3 +1,4 @@
+-- `OK` and its nul stand behind the header, and are three bytes.
 use Rattle.rules.specs.Octets.{text}
 use Rattle.rules.specs.Answer.{OK}
 use mathlib.Core.Path.{refl}

@@ -1,3 +1,4 @@
+-- The count is the three low bits of the fields, and so of their third byte.
 use Rattle.octets.proofs.Bytes.{bytes-known}
 use Rattle.slots.proofs.Reading.{entry-count-byte}
 use borrow.Author.Needs.{needs}

@@ -1,3 +1,4 @@
+-- The name is as many bytes of its field as its length says, and that length is within the field.
 use Rattle.slots.proofs.Reading.{name-part}
 use borrow.Author.Needs.{needs}
 use Rattle.slots.proofs.fields.name.Statement.{statement}
@@ -26,8 +27,8 @@ part-result-end c = search needs
 
 returns : tie.Need-returns
 returns c =
-    let b = c .before .before .before in
-    rw (c .before .name-length .ensures) (name-part (b .args .t .now) (b .args .i) (b .pre .0) (b .pre .2) (b .pre .3))
+    let start = c .before .before .before in
+    rw (c .before .name-length .ensures) (name-part (start .args .t .now) (start .args .i) (start .pre .0) (start .pre .2) (start .pre .3))
 
 pub name-spec : {M : Type 1} → statement M
 name-spec =

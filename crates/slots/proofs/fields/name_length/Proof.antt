@@ -1,3 +1,4 @@
+-- The length is the six bits above the value's, and these are the high bits of the second byte.
 use Prim.Native.Nat.{_+_, _*_}
 use Rattle.rules.specs.Size.{slotSize}
 use Rattle.octets.proofs.Bytes.{bytes-known}

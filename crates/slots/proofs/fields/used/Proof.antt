@@ -1,3 +1,4 @@
+-- The mark of a used slot is the highest bit of its first byte.
 use Rattle.octets.proofs.Bytes.{bytes-known}
 use Rattle.slots.proofs.Reading.{used-byte}
 use borrow.Author.Needs.{needs}

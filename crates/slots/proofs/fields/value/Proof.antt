@@ -1,3 +1,4 @@
+-- The value is as many bytes of its field as its length says, and that length is within the field.
 use Rattle.slots.proofs.Reading.{value-part}
 use borrow.Author.Needs.{needs}
 use Rattle.slots.proofs.fields.value.Statement.{statement}
@@ -26,8 +27,8 @@ part-result-end c = search needs
 
 returns : tie.Need-returns
 returns c =
-    let b = c .before .before .before in
-    rw (c .before .value-length .ensures) (value-part (b .args .t .now) (b .args .i) (b .pre .0) (b .pre .2) (b .pre .3))
+    let start = c .before .before .before in
+    rw (c .before .value-length .ensures) (value-part (start .args .t .now) (start .args .i) (start .pre .0) (start .pre .2) (start .pre .3))
 
 pub value-spec : {M : Type 1} → statement M
 value-spec =

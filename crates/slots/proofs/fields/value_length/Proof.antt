@@ -1,3 +1,4 @@
+-- The length is seven bits: the two low ones of the second byte and the five high ones of the third.
 use Prim.Native.Nat.{_+_, _*_}
 use Rattle.rules.specs.Size.{slotSize}
 use Rattle.octets.proofs.Bytes.{bytes-known}

@@ -1,3 +1,4 @@
+-- The bytes of a free slot are zeros, and the other slots keep theirs.
 use borrow.Author.Needs.{needs}
 use Rattle.slots.proofs.Put.{free-put}
 use Rattle.slots.proofs.writing.clear_slot.Statement.{statement}
@@ -14,8 +15,8 @@ same-length c = search needs
 
 returns : tie.Need-returns
 returns c =
-    let b = c .before .before .before .before .before in
-    free-put _ (b .pre .1) (b .args .i) (b .pre .0) (c .before .before .clear .ensures)
+    let start = c .before .before .before .before .before in
+    free-put _ (start .pre .1) (start .args .i) (start .pre .0) (c .before .before .clear .ensures)
 
 pub clear-slot-spec : {M : Type 1} → statement M
 clear-slot-spec = tie.close (tie.spec mul-clear clear-requires same-length returns)

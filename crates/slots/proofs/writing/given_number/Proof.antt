@@ -1,3 +1,4 @@
+-- The entries that are given are the first `count` of the arrays, each within its 18 bits; past them there is none.
 use native.Mathlib.Omega.{arith}
 use borrow.Author.Needs.{needs}
 use Rattle.slots.proofs.Numbers.{given-at, given-past}
@@ -11,7 +12,9 @@ shared-slice-read-result : tie.Need-shared-slice-read-result
 shared-slice-read-result c = search needs
 
 mul-result-2 : tie.Need-mul-result-2
-mul-result-2 c = let b = c .before .before in omega (arith, b .pre .0 .kinds (b .args .k) (c .before .if1 .taken))
+mul-result-2 c =
+    let start = c .before .before in
+    omega (arith, start .pre .0 .kinds (start .args .k) (c .before .if1 .taken))
 
 mul-result-3 : tie.Need-mul-result-3
 mul-result-3 c = search needs

@@ -1,4 +1,4 @@
--- The control domain leaves the number; any other domain stands in its place.
+-- The control domain leaves the number; any other domain stands in the place of the owner's.
 use mathlib.Core.Path.{sym, _∙_}
 use native.Mathlib.Omega.{arith}
 use borrow.Author.Needs.{needs}

@@ -1,3 +1,4 @@
+-- The entries and the fields with their count are written, and the name and the value stay, so the slot means the node with other entries.
 use native.Mathlib.Omega.{arith}
 use borrow.Author.Needs.{needs}
 use Rattle.slots.proofs.Numbers.{owner-fits, others-fit, others-many}
@@ -25,24 +26,28 @@ put-given-requires c κs = search needs
 
 put-fields-requires : tie.Need-put-fields-requires
 put-fields-requires c κs =
-    let b = c .before .before .before .before .before .before .before .before .before .before .before .before .before .before in
-    let few = b .pre .3 .few in
-    (omega arith, omega arith, omega (arith, name-small (b .args .t .now) (b .args .i)), omega (arith, value-small (b .args .t .now) (b .args .i)), omega arith)
+    let start = c .before .before .before .before .before .before .before .before .before .before .before .before .before .before in
+    let args = start .args in
+    let few = start .pre .3 .few in
+    (omega arith, omega arith, omega (arith, name-small (args .t .now) (args .i)), omega (arith, value-small (args .t .now) (args .i)), omega arith)
 
 same-length : tie.Need-same-length
 same-length c = search needs
 
 returns : tie.Need-returns
 returns c =
-    let b = c .before .before .before .before .before .before .before .before .before .before .before .before .before .before .before .before .before in
-    let p = c .before .before .before .before .before .before in
-    let g = b .pre .3 in
+    let at-put-given = c .before .before .before .before .before .before in
+    let at-value-length = at-put-given .before .before in
+    let at-name-length = at-value-length .before .before in
+    let at-parent = at-name-length .before .before in
+    let start = at-parent .before .before .before .before .before in
+    let g = start .pre .3 in
     let many = others-many _ _ _ g in
     let one = g .least in
     let few = g .few in
-    entries-put _ (b .pre .1) (b .args .i) (b .pre .0) (b .pre .2) _ _ (owner-fits _ _ _ g) (others-fit _ _ _ g) (omega arith) _ _ _ _
-    (p .before .before .before .before .before .before .parent .ensures .1) (p .before .before .before .before .name-length .ensures)
-    (p .before .before .value-length .ensures) (omega arith) (p .put-given .ensures) (c .before .before .put-fields .ensures)
+    entries-put _ (start .pre .1) (start .args .i) (start .pre .0) (start .pre .2) _ _ (owner-fits _ _ _ g) (others-fit _ _ _ g) (omega arith) _ _ _ _
+    (at-parent .parent .ensures .1) (at-name-length .name-length .ensures)
+    (at-value-length .value-length .ensures) (omega arith) (at-put-given .put-given .ensures) (c .before .before .put-fields .ensures)
 
 pub put-entries-spec : {M : Type 1} → statement M
 put-entries-spec =

@@ -1,3 +1,4 @@
+-- Each field is within its bits, so the three stores are the bytes of the packed number.
 use native.Mathlib.Omega.{arith}
 use lib.ListN.{length-set}
 use borrow.Author.Needs.{needs}

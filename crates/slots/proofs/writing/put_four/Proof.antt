@@ -1,3 +1,4 @@
+-- Each entry is within 18 bits, so the nine stores are the bytes of the packed number.
 use native.Mathlib.Omega.{arith}
 use lib.ListN.{length-set}
 use borrow.Author.Needs.{needs}

@@ -1,3 +1,4 @@
+-- The four numbers are those of the entries that are given, and 0 for those that are not.
 use native.Mathlib.Omega.{arith}
 use borrow.Author.Needs.{needs}
 use Rattle.slots.proofs.Numbers.{entries-at, others-many}
@@ -24,11 +25,15 @@ same-length c = search needs
 
 returns : tie.Need-returns
 returns c =
-    let b = c .before .before .before .before .before .before .before .before .before .before .before in
-    let p = c .before .before .before .before in
-    let few = b .pre .1 .few in
-    entries-at (b .args .at) _ _ _ (omega (arith, others-many _ _ _ (b .pre .1))) (p .before .before .before .given-number .ensures .0)
-    (p .before .before .given-number2 .ensures .0) (p .before .given-number3 .ensures .0) (p .given-number4 .ensures .0) (c .before .before .put-four .ensures)
+    let at-given-number4 = c .before .before .before .before in
+    let at-given-number3 = at-given-number4 .before in
+    let at-given-number2 = at-given-number3 .before in
+    let at-given-number = at-given-number2 .before in
+    let start = at-given-number .before .before .before .before in
+    let few = start .pre .1 .few in
+    entries-at (start .args .at) _ _ _ (omega (arith, others-many _ _ _ (start .pre .1))) (at-given-number .given-number .ensures .0)
+    (at-given-number2 .given-number2 .ensures .0) (at-given-number3 .given-number3 .ensures .0) (at-given-number4 .given-number4 .ensures .0)
+    (c .before .before .put-four .ensures)
 
 pub put-given-spec : {M : Type 1} → statement M
 put-given-spec =

@@ -1,3 +1,4 @@
+-- An heir has its parent's entries, but for the owner's domain, which is `inherited`'s.
 use Prim.Native.Nat.{_+_, _*_}
 use borrow.Author.Needs.{needs}
 use Rattle.rules.specs.Size.{slotSize, fieldsSize}
@@ -37,18 +38,20 @@ same-length c = search needs
 
 returns : tie.Need-returns
 returns c =
-    let b = c .before .before .before .before .before .before .before .before .before .before .before .before .before .before in
-    let p = c .before .before .before .before in
-    let q = p .before .before .before .before .before .before in
-    let d = b .args .domain in
-    let n = nodeAt (tableOf (b .args .t .now)) (b .args .parent) in
-    let f = nodeAt-fits (tableOf (b .args .t .now)) (b .args .parent) (decoded-fits (b .args .t .now) .all) in
-    entries-at (b .args .i * slotSize + fieldsSize) (b .args .t .now) (heir d (n .owner)) (n .others) (f .few)
-    (heir-number (n .owner) (n .others) d (f .owner .domain) (q .before .entry-number .ensures .0) (q .inherited .ensures .0))
-    (heir-other (n .owner) (n .others) d 0 (p .before .before .before .before .entry-number2 .ensures .0))
-    (heir-other (n .owner) (n .others) d 1 (p .before .before .entry-number3 .ensures .0))
-    (heir-other (n .owner) (n .others) d 2 (p .entry-number4 .ensures .0))
-    (c .before .before .put-four .ensures)
+    let at-entry-number4 = c .before .before .before .before in
+    let at-entry-number3 = at-entry-number4 .before .before in
+    let at-entry-number2 = at-entry-number3 .before .before in
+    let at-inherited = at-entry-number2 .before .before in
+    let at-entry-number = at-inherited .before in
+    let args = at-entry-number .before .before .before .args in
+    let d = args .domain in
+    let n = nodeAt (tableOf (args .t .now)) (args .parent) in
+    let f = nodeAt-fits (tableOf (args .t .now)) (args .parent) (decoded-fits (args .t .now) .all) in
+    entries-at (args .i * slotSize + fieldsSize) (args .t .now) (heir d (n .owner)) (n .others) (f .few)
+    (heir-number (n .owner) (n .others) d (f .owner .domain) (at-entry-number .entry-number .ensures .0) (at-inherited .inherited .ensures .0))
+    (heir-other (n .owner) (n .others) d 0 (at-entry-number2 .entry-number2 .ensures .0))
+    (heir-other (n .owner) (n .others) d 1 (at-entry-number3 .entry-number3 .ensures .0))
+    (heir-other (n .owner) (n .others) d 2 (at-entry-number4 .entry-number4 .ensures .0)) (c .before .before .put-four .ensures)
 
 pub put-heirs-spec : {M : Type 1} → statement M
 put-heirs-spec =

@@ -1,3 +1,4 @@
+-- Entries, name, value and fields are all the bytes of the slot, and they are those of the new node.
 use native.Mathlib.Omega.{arith}
 use borrow.Author.Needs.{needs}
 use Rattle.slots.proofs.Put.{count-small, new-put}
@@ -27,21 +28,26 @@ put-text-requires-2 c κs = search needs
 
 put-fields-requires : tie.Need-put-fields-requires
 put-fields-requires c κs =
-    let b = c .before .before .before .before .before .before .before .before .before .before .before .before .before .before .before .before .before .before in
-    let room = b .pre .4 in
-    (omega arith, omega arith, omega arith, omega arith, omega (arith, count-small (b .args .t .now) (b .args .parent)))
+    let at-put-text2 = c .before .before .before in
+    let start = at-put-text2 .before .before .before .before .before .before .before .before .before .before .before .before .before .before .before in
+    let room = start .pre .4 in
+    (omega arith, omega arith, omega arith, omega arith, omega (arith, count-small (start .args .t .now) (start .args .parent)))
 
 same-length : tie.Need-same-length
 same-length c = search needs
 
 returns : tie.Need-returns
 returns c =
-    let b = c .before .before .before .before .before .before .before .before .before .before .before .before .before .before .before .before .before .before .before .before .before in
-    let p = c .before .before .before .before .before .before .before .before .before .before in
-    let room = b .pre .4 in
-    new-put _ (b .pre .2) (b .args .i) (b .pre .0) (b .args .parent) _ _ (b .args .domain) _ (b .pre .1) (b .pre .3) (room .name) (room .value) (room .domain)
-    (p .before .before .before .before .before .before .entry-count .ensures) (p .before .before .before .before .put-heirs .ensures) (p .put-text .ensures)
-    (c .before .before .before .before .before .before .put-text2 .ensures) (c .before .before .put-fields .ensures)
+    let at-put-text2 = c .before .before .before .before .before .before in
+    let at-put-text = at-put-text2 .before .before .before .before in
+    let at-put-heirs = at-put-text .before .before .before .before in
+    let at-entry-count = at-put-heirs .before .before in
+    let start = at-entry-count .before .before .before .before .before in
+    let args = start .args in
+    let room = start .pre .4 in
+    new-put _ (start .pre .2) (args .i) (start .pre .0) (args .parent) _ _ (args .domain) _ (start .pre .1) (start .pre .3) (room .name) (room .value)
+    (room .domain) (at-entry-count .entry-count .ensures) (at-put-heirs .put-heirs .ensures) (at-put-text .put-text .ensures)
+    (at-put-text2 .put-text2 .ensures) (c .before .before .put-fields .ensures)
 
 pub put-node-spec : {M : Type 1} → statement M
 put-node-spec =

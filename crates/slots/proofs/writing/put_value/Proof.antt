@@ -1,3 +1,4 @@
+-- The value and the fields with its length are written, and the name and the entries stay, so the slot means the node with another value.
 use native.Mathlib.Omega.{arith}
 use borrow.Author.Needs.{needs}
 use Rattle.slots.proofs.Put.{name-small, count-small, value-put}
@@ -24,18 +25,21 @@ put-text-requires c κs = search needs
 
 put-fields-requires : tie.Need-put-fields-requires
 put-fields-requires c κs =
-    let b = c .before .before .before .before .before .before .before .before .before .before .before .before .before in
-    (omega arith, omega arith, omega (arith, name-small (b .args .t .now) (b .args .i)), omega arith, omega (arith, count-small (b .args .t .now) (b .args .i)))
+    let args = c .before .before .before .before .before .before .before .before .before .before .before .before .before .args in
+    (omega arith, omega arith, omega (arith, name-small (args .t .now) (args .i)), omega arith, omega (arith, count-small (args .t .now) (args .i)))
 
 same-length : tie.Need-same-length
 same-length c = search needs
 
 returns : tie.Need-returns
 returns c =
-    let b = c .before .before .before .before .before .before .before .before .before .before .before .before .before .before .before .before in
-    let p = c .before .before .before .before .before .before in
-    value-put _ (b .pre .1) (b .args .i) (b .pre .0) (b .pre .2) _ (b .pre .3) _ _ _ (p .before .before .before .before .before .before .parent .ensures .1)
-    (p .before .before .before .before .name-length .ensures) (p .before .before .entry-count .ensures) (p .put-text .ensures)
+    let at-put-text = c .before .before .before .before .before .before in
+    let at-entry-count = at-put-text .before .before in
+    let at-name-length = at-entry-count .before .before in
+    let at-parent = at-name-length .before .before in
+    let start = at-parent .before .before .before .before in
+    value-put _ (start .pre .1) (start .args .i) (start .pre .0) (start .pre .2) _ (start .pre .3) _ _ _ (at-parent .parent .ensures .1)
+    (at-name-length .name-length .ensures) (at-entry-count .entry-count .ensures) (at-put-text .put-text .ensures)
     (c .before .before .put-fields .ensures)
 
 pub put-value-spec : {M : Type 1} → statement M

@@ -1,3 +1,4 @@
+-- The slots before i reach the root in time, and what is known of them is the length of their ways.
 use mathlib.Core.Path.{_≡_, refl, sym, _∙_}
 use mathlib.Core.Logic.{⊎-elim}
 use Prim.Native.Nat.{_≤_, _-_}
@@ -7,7 +8,17 @@ use Rattle.rules.specs.Size.{slots}
 use Rattle.soundness.specs.Parts.{every}
 use Rattle.soundness.specs.Walks.{chained}
 use Rattle.soundness.proofs.TableLaws.{
-  every-further, every-stop, every-ended, lost-chained, root-chained, root-level, root-count, unused-chained, Levels, levels-set, levels-lent,
+  every-further,
+  every-stop,
+  every-ended,
+  lost-chained,
+  root-chained,
+  root-level,
+  root-count,
+  unused-chained,
+  Levels,
+  levels-set,
+  levels-lent,
   none-levelled,
 }
 use Rattle.soundness.proofs.chain.all_chained.Statement.{statement}
@@ -33,8 +44,9 @@ slice-aggregate-walk c = search needs
 
 walk-requires : tie.Need-walk-requires Inv-loop μ-loop
 walk-requires c κs =
-    let l = c .before .before .before .before .before in
-    (omega arith, omega arith, levels-lent _ (l .loop .known) _ (l .before .before .pre) (l .loop .inv .2) refl)
+    let at-loop = c .before .before .before .before .before in
+    let start = at-loop .before .before in
+    (omega arith, omega arith, levels-lent _ (at-loop .loop .known) _ (start .pre) (at-loop .loop .inv .2) refl)
 
 enum-known-way : tie.Need-enum-known-way Inv-loop μ-loop
 enum-known-way c = search needs
@@ -44,12 +56,13 @@ enum-told c = search needs
 
 returns : tie.Need-returns Inv-loop μ-loop
 returns c =
-    let l = c .before .before .before .before .before .before .before .before .before in
-    let u = c .before .before .before .before .before .before .before in
-    every-stop (chained _) slots (l .loop .i) (u .before .loop-test .taken)
-    (lost-chained _ _ _ _ _ (c .before .before .before .walk .ensures) (sym (u .used .ensures) ∙ c .before .before .before .before .before .before .if1 .taken)
-    (c .enum-told .given .1))
-    ∙ sym (l .loop .inv .1)
+    let test = c .before .before .before .before .before .before in
+    let at-used = test .before in
+    let turn = at-used .before in
+    let at-loop = turn .before in
+    every-stop (chained _) slots (at-loop .loop .i) (turn .loop-test .taken)
+    (lost-chained _ _ _ _ _ (c .before .before .before .walk .ensures) (sym (at-used .used .ensures) ∙ test .if1 .taken) (c .enum-told .given .1))
+    ∙ sym (at-loop .loop .inv .1)
 
 add-known : tie.Need-add-known Inv-loop μ-loop
 add-known c = record { fits = omega (arith, root-count _ _ _ _ _ (c .before .before .before .before .walk .ensures) _ _ (c .before .way .given .1)) }
@@ -65,18 +78,18 @@ loop-less c = omega arith
 
 loop-again : tie.Need-loop-again Inv-loop μ-loop
 loop-again c =
-    let l = c .before .before .before in
-    let t = l .before .before .args .t .now in
-    let i = l .loop .i in
+    let at-loop = c .before .before .before in
+    let loop = at-loop .loop in
+    let t = at-loop .before .before .args .t .now in
+    let i = loop .i in
     let h = c .before .before .loop-test .taken in (
       omega arith,
-      l .loop .inv .1
+      loop .inv .1
           ∙ every-further (chained t) slots i h
           (⊎-elim (λ w. root-chained t i _ _ _ (w .3 .ensures) _ _ (w .6 .given .1) (sym (c .before .used .ensures) ∙ w .0 .taken))
-          (λ w. unused-chained t i (sym (c .before .used .ensures) ∙ w .0 .left))
-          (c .if1 .came)),
-      ⊎-elim (λ w. rw (w .8) (levels-set t (l .loop .known) i _ h (root-level t i _ _ _ (w .3 .ensures) _ _ (w .6 .given .1)) (l .loop .inv .2)))
-      (λ w. rw (w .1) (l .loop .inv .2)) (c .if1 .came),
+          (λ w. unused-chained t i (sym (c .before .used .ensures) ∙ w .0 .left)) (c .if1 .came)),
+      ⊎-elim (λ w. rw (w .8) (levels-set t (loop .known) i _ h (root-level t i _ _ _ (w .3 .ensures) _ _ (w .6 .given .1)) (loop .inv .2)))
+          (λ w. rw (w .1) (loop .inv .2)) (c .if1 .came),
     )
 
 returns-2 : tie.Need-returns-2 Inv-loop μ-loop

@@ -1,3 +1,4 @@
+-- The count tells how many entries there are; the domains of those, and the bits past them, decide.
 use mathlib.Core.Path.{refl, sym, _∙_}
 use Prim.Native.Nat.{_+_, _*_}
 use native.Mathlib.Omega.{arith}
@@ -24,22 +25,23 @@ lone-entry-requires c κs = search needs
 
 returns : tie.Need-returns
 returns c =
-    let b = c .before .before .before .before in
-    let t = b .args .t .now in
+    let start = c .before .before .before .before in
+    let t = start .args .t .now in
     c .lone-entry .ensures
-    ∙ sym (entries-by t (bytes-known t (c .before .before .before .shared-slice-known .given)) (b .pre .0 .whole) (b .args .i) (b .pre .0 .below)
-    (b .pre .0 .used) (b .pre .1) _ _ 1 refl refl (sym (c .before .if1 .taken) ∙ c .before .before .entry-count .ensures))
+    ∙ sym (entries-by t (bytes-known t (c .before .before .before .shared-slice-known .given)) (start .pre .0 .whole) (start .args .i) (start .pre .0 .below)
+    (start .pre .0 .used) (start .pre .1) _ _ 1 refl refl (sym (c .before .if1 .taken) ∙ c .before .before .entry-count .ensures))
 
 two-entries-requires : tie.Need-two-entries-requires
 two-entries-requires c κs = search needs
 
 returns-2 : tie.Need-returns-2
 returns-2 c =
-    let b = c .before .before .before .before .before in
-    let t = b .args .t .now in
+    let reads = c .before .before .before .before in
+    let start = reads .before in
+    let t = start .args .t .now in
     c .two-entries .ensures
-    ∙ sym (entries-by t (bytes-known t (c .before .before .before .before .shared-slice-known .given)) (b .pre .0 .whole) (b .args .i) (b .pre .0 .below)
-    (b .pre .0 .used) (b .pre .1) _ _ 2 refl refl (sym (c .before .if2 .taken) ∙ c .before .before .before .entry-count .ensures))
+    ∙ sym (entries-by t (bytes-known t (reads .shared-slice-known .given)) (start .pre .0 .whole) (start .args .i) (start .pre .0 .below)
+    (start .pre .0 .used) (start .pre .1) _ _ 2 refl refl (sym (c .before .if2 .taken) ∙ c .before .before .before .entry-count .ensures))
 
 shared-slice-read-first : tie.Need-shared-slice-read-first
 shared-slice-read-first c = search needs
@@ -54,31 +56,37 @@ eight-requires : tie.Need-eight-requires
 eight-requires c κs = search needs
 
 low-domains-requires : tie.Need-low-domains-requires
-low-domains-requires c κs = omega (arith, c .before .shared-slice-known2 .given
-    (c .before .before .before .before .before .before .args .i * slotSize + fieldsSize))
+low-domains-requires c κs = omega (
+  arith,
+  c .before .shared-slice-known2 .given
+      (c .before .before .before .before .before .before .args .i * slotSize + fieldsSize),
+)
 
 returns-3 : tie.Need-returns-3
 returns-3 c =
-    let b = c .before .before .before .before .before .before .before .before in
-    let t = b .args .t .now in
+    let start = c .before .before .before .before .before .before .before .before in
+    let t = start .args .t .now in
     stop _ (sym (c .before .low-domains .ensures) ∙ not-true _ (c .if3 .taken))
-    ∙ sym (entries-by t (bytes-known t (c .before .before .before .shared-slice-known2 .given)) (b .pre .0 .whole) (b .args .i) (b .pre .0 .below)
-    (b .pre .0 .used) (b .pre .1) _ _ _ refl (c .before .before .eight .ensures) refl)
+    ∙ sym (entries-by t (bytes-known t (c .before .before .before .shared-slice-known2 .given)) (start .pre .0 .whole) (start .args .i) (start .pre .0 .below)
+    (start .pre .0 .used) (start .pre .1) _ _ _ refl (c .before .before .eight .ensures .value) refl)
 
 zero-past-requires : tie.Need-zero-past-requires
 zero-past-requires c κs =
-    let s = sizes-of _ _ (c .before .before .before .before .before .before .before .before .pre .1) in
-    omega (arith, c .before .before .before .before .before .before .entry-count .ensures, s .least, s .few)
+    let at-entry-count = c .before .before .before .before .before .before in
+    let start = at-entry-count .before .before in
+    let s = sizes-of _ _ (start .pre .1) in
+    omega (arith, at-entry-count .entry-count .ensures, s .least, s .few)
 
 returns-4 : tie.Need-returns-4
 returns-4 c =
-    let b = c .before .before .before .before .before .before .before .before .before in
-    let t = b .args .t .now in
+    let reads = c .before .before .before .before in
+    let at-entry-count = reads .before .before .before in
+    let start = at-entry-count .before .before in
+    let t = start .args .t .now in
     c .zero-past .ensures
     ∙ pass (sym (c .before .before .low-domains .ensures) ∙ not-false _ (c .before .if3 .left)) refl
-    ∙ sym (entries-by t (bytes-known t (c .before .before .before .before .shared-slice-known2 .given)) (b .pre .0 .whole) (b .args .i) (b .pre .0 .below)
-    (b .pre .0 .used) (b .pre .1) _ _ _ refl (c .before .before .before .eight .ensures)
-    (c .before .before .before .before .before .before .before .entry-count .ensures))
+    ∙ sym (entries-by t (bytes-known t (reads .shared-slice-known2 .given)) (start .pre .0 .whole) (start .args .i) (start .pre .0 .below)
+    (start .pre .0 .used) (start .pre .1) _ _ _ refl (c .before .before .before .eight .ensures .value) (at-entry-count .entry-count .ensures))
 
 pub kept-entries-spec : {M : Type 1} → statement M
 kept-entries-spec =

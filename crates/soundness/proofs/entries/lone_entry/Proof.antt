@@ -1,3 +1,4 @@
+-- The first 18 bits of the nine bytes are the entry; the tests are of its domain and of all that is behind it.
 use mathlib.Core.Path.{refl, _∙_}
 use Prim.Native.Nat.{_+_}
 use native.Mathlib.Omega.{arith}
@@ -40,25 +41,31 @@ mul-if1-2 : tie.Need-mul-if1-2
 mul-if1-2 c = omega (arith, c .shared-slice-known4 .given (c .before .before .before .before .args .at + 1))
 
 add-if1 : tie.Need-add-if1
-add-if1 c = omega (arith, c .shared-slice-known4 .given (c .before .before .before .before .args .at),
-    c .shared-slice-known4 .given (c .before .before .before .before .args .at + 1))
+add-if1 c =
+    let args = c .before .before .before .before .args in
+    omega (arith, c .shared-slice-known4 .given (args .at), c .shared-slice-known4 .given (args .at + 1))
 
 add-if1-2 : tie.Need-add-if1-2
-add-if1-2 c = omega (arith, c .shared-slice-known4 .given (c .before .before .before .before .args .at),
-    c .shared-slice-known4 .given (c .before .before .before .before .args .at + 1),
-    c .shared-slice-known4 .given (c .before .before .before .before .args .at + 2))
+add-if1-2 c =
+    let args = c .before .before .before .before .args in
+    omega (
+      arith,
+      c .shared-slice-known4 .given (args .at),
+      c .shared-slice-known4 .given (args .at + 1),
+      c .shared-slice-known4 .given (args .at + 2),
+    )
 
 returns : tie.Need-returns
 returns c =
-    let b = c .before .before .before .before .before in
-    let t = b .args .t .now in
-    entry-high t (bytes-known t (c .before .shared-slice-known4 .given)) (b .args .at) (b .pre) (c .if1 .taken)
+    let start = c .before .before .before .before .before in
+    let t = start .args .t .now in
+    entry-high t (bytes-known t (c .before .shared-slice-known4 .given)) (start .args .at) (start .pre) (c .if1 .taken)
 
 returns-2 : tie.Need-returns-2
 returns-2 c =
-    let b = c .before .before .before .before .before .before in
-    let t = b .args .t .now in
-    entry-bits t (bytes-known t (c .before .before .shared-slice-known4 .given)) (b .args .at) (b .pre) (c .if2 .taken)
+    let start = c .before .before .before .before .before .before in
+    let t = start .args .t .now in
+    entry-bits t (bytes-known t (c .before .before .shared-slice-known4 .given)) (start .args .at) (start .pre) (c .if2 .taken)
 
 add-four : tie.Need-add-four
 add-four c = search needs
@@ -68,45 +75,31 @@ four-requires c κs = search needs
 
 returns-3 : tie.Need-returns-3
 returns-3 c =
-    let b = c .before .before .before .before .before .before .before .before in
-    let t = b .args .t .now in
+    let test2 = c .before .before in
+    let reads = test2 .before .before in
+    let start = reads .before .before .before .before in
+    let t = start .args .t .now in
     stop _ (ne-eqb _ 0 (c .if3 .taken))
-    ∙ entry-rest t (bytes-known t (c .before .before .before .before .shared-slice-known4 .given)) (b .args .at) (b .pre) _ (c .before .four .ensures .0)
-    (c .before .before .before .if1 .left) (c .before .before .if2 .left)
+    ∙ entry-rest t (bytes-known t (reads .shared-slice-known4 .given)) (start .args .at) (start .pre) _ _ (c .before .four .ensures) refl
+    (test2 .before .if1 .left) (test2 .if2 .left)
 
-add-result : tie.Need-add-result
-add-result c = search needs
+add-two : tie.Need-add-two
+add-two c = search needs
 
-shared-slice-read-result : tie.Need-shared-slice-read-result
-shared-slice-read-result c = search needs
-
-cast-result : tie.Need-cast-result
-cast-result c = omega (arith, c .shared-slice-known5 .given (c .before .before .before .before .before .before .before .before .before .args .at + 7))
-
-mul-result : tie.Need-mul-result
-mul-result c = omega (arith, c .shared-slice-known5 .given (c .before .before .before .before .before .before .before .before .before .args .at + 7))
-
-add-result-2 : tie.Need-add-result-2
-add-result-2 c = search needs
-
-shared-slice-read-result-2 : tie.Need-shared-slice-read-result-2
-shared-slice-read-result-2 c = search needs
-
-cast-result-2 : tie.Need-cast-result-2
-cast-result-2 c = omega (arith, c .shared-slice-known6 .given (c .before .before .before .before .before .before .before .before .before .before .args .at + 8))
-
-add-result-3 : tie.Need-add-result-3
-add-result-3 c = omega (arith, c .shared-slice-known6 .given (c .before .before .before .before .before .before .before .before .before .before .args .at + 7),
-    c .shared-slice-known6 .given (c .before .before .before .before .before .before .before .before .before .before .args .at + 8))
+two-requires : tie.Need-two-requires
+two-requires c κs = search needs
 
 returns-4 : tie.Need-returns-4
 returns-4 c =
-    let b = c .before .before .before .before .before .before .before .before .before .before in
-    let t = b .args .t .now in
-    let f = c .before .before .before in
-    pass (eq-eqb (f .four .result) 0 (c .before .before .if3 .left)) refl
-    ∙ entry-rest t (bytes-known t (c .shared-slice-known6 .given)) (b .args .at) (b .pre) _ (f .four .ensures .0) (f .before .before .if1 .left)
-    (f .before .if2 .left)
+    let at-four = c .before .before in
+    let test2 = at-four .before in
+    let test1 = test2 .before in
+    let reads = test1 .before in
+    let start = reads .before .before .before .before in
+    let t = start .args .t .now in
+    pass (eq-eqb (at-four .four .result) 0 (c .before .if3 .left)) refl
+    ∙ entry-rest t (bytes-known t (reads .shared-slice-known4 .given)) (start .args .at) (start .pre) _ _ (at-four .four .ensures) (c .two .ensures .value)
+    (test1 .if1 .left) (test2 .if2 .left)
 
 pub lone-entry-spec : {M : Type 1} → statement M
 lone-entry-spec =
@@ -129,12 +122,6 @@ lone-entry-spec =
     add-four
     four-requires
     returns-3
-    add-result
-    shared-slice-read-result
-    cast-result
-    mul-result
-    add-result-2
-    shared-slice-read-result-2
-    cast-result-2
-    add-result-3
+    add-two
+    two-requires
     returns-4)

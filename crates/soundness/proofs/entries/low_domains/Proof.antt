@@ -1,3 +1,4 @@
+-- The four tests are the four domains, each the low 16 of an entry's 18 bits.
 use Rattle.soundness.proofs.Tests.{stop, pass}
 use Rattle.soundness.specs.Parts.{lowDomains}
 use borrow.Author.Tests.{lt-leb, le-leb}

@@ -1,3 +1,4 @@
+-- The first 36 bits of the nine bytes are the entries; the tests are of their domains and of all that is behind them.
 use mathlib.Core.Path.{ap, _∙_}
 use Prim.Native.Nat.{ℕ, _+_}
 use native.Mathlib.Omega.{arith}
@@ -52,59 +53,59 @@ cast-fifth c = omega (arith, c .shared-slice-known6 .given (c .before .before .b
 
 mul-if1 : tie.Need-mul-if1
 mul-if1 c =
-    let a = c .before .before .before .before .before .before .args in
-    omega (arith, c .shared-slice-known6 .given (a .at))
+    let start = c .before .before .before .before .before .before in
+    omega (arith, c .shared-slice-known6 .given (start .args .at))
 
 mul-if1-2 : tie.Need-mul-if1-2
 mul-if1-2 c =
-    let a = c .before .before .before .before .before .before .args in
-    omega (arith, c .shared-slice-known6 .given (a .at + 1))
+    let start = c .before .before .before .before .before .before in
+    omega (arith, c .shared-slice-known6 .given (start .args .at + 1))
 
 add-if1 : tie.Need-add-if1
 add-if1 c =
-    let a = c .before .before .before .before .before .before .args in
-    omega (arith, c .shared-slice-known6 .given (a .at), c .shared-slice-known6 .given (a .at + 1))
+    let args = c .before .before .before .before .before .before .args in
+    omega (arith, c .shared-slice-known6 .given (args .at), c .shared-slice-known6 .given (args .at + 1))
 
 add-if1-2 : tie.Need-add-if1-2
 add-if1-2 c =
-    let a = c .before .before .before .before .before .before .args in
-    omega (arith, c .shared-slice-known6 .given (a .at), c .shared-slice-known6 .given (a .at + 1), c .shared-slice-known6 .given (a .at + 2))
+    let args = c .before .before .before .before .before .before .args in
+    omega (arith, c .shared-slice-known6 .given (args .at), c .shared-slice-known6 .given (args .at + 1), c .shared-slice-known6 .given (args .at + 2))
 
 returns : tie.Need-returns
 returns c =
-    let b = c .before .before .before .before .before .before .before in
-    let t = b .args .t .now in
-    two-first t (bytes-known t (c .before .shared-slice-known6 .given)) (b .args .at) (b .pre) (c .if1 .taken)
+    let start = c .before .before .before .before .before .before .before in
+    let t = start .args .t .now in
+    two-first t (bytes-known t (c .before .shared-slice-known6 .given)) (start .args .at) (start .pre) (c .if1 .taken)
 
 mul-if2 : tie.Need-mul-if2
 mul-if2 c = search needs
 
 mul-if2-2 : tie.Need-mul-if2-2
 mul-if2-2 c =
-    let a = c .before .before .before .before .before .before .before .args in
-    omega (arith, c .before .shared-slice-known6 .given (a .at + 3))
+    let start = c .before .before .before .before .before .before .before in
+    omega (arith, c .before .shared-slice-known6 .given (start .args .at + 3))
 
 add-if2 : tie.Need-add-if2
 add-if2 c =
-    let a = c .before .before .before .before .before .before .before .args in
-    omega (arith, c .before .shared-slice-known6 .given (a .at + 3))
+    let start = c .before .before .before .before .before .before .before in
+    omega (arith, c .before .shared-slice-known6 .given (start .args .at + 3))
 
 add-if2-2 : tie.Need-add-if2-2
 add-if2-2 c =
-    let a = c .before .before .before .before .before .before .before .args in
-    omega (arith, c .before .shared-slice-known6 .given (a .at + 3), c .before .shared-slice-known6 .given (a .at + 4))
+    let args = c .before .before .before .before .before .before .before .args in
+    omega (arith, c .before .shared-slice-known6 .given (args .at + 3), c .before .shared-slice-known6 .given (args .at + 4))
 
 returns-2 : tie.Need-returns-2
 returns-2 c =
-    let b = c .before .before .before .before .before .before .before .before in
-    let t = b .args .t .now in
-    two-second t (bytes-known t (c .before .before .shared-slice-known6 .given)) (b .args .at) (b .pre) (c .if2 .taken)
+    let start = c .before .before .before .before .before .before .before .before in
+    let t = start .args .t .now in
+    two-second t (bytes-known t (c .before .before .shared-slice-known6 .given)) (start .args .at) (start .pre) (c .if2 .taken)
 
 returns-3 : tie.Need-returns-3
 returns-3 c =
-    let b = c .before .before .before .before .before .before .before .before .before in
-    let t = b .args .t .now in
-    two-bits t (bytes-known t (c .before .before .before .shared-slice-known6 .given)) (b .args .at) (b .pre) (c .if3 .taken)
+    let start = c .before .before .before .before .before .before .before .before .before in
+    let t = start .args .t .now in
+    two-bits t (bytes-known t (c .before .before .before .shared-slice-known6 .given)) (start .args .at) (start .pre) (c .if3 .taken)
 
 add-four : tie.Need-add-four
 add-four c = search needs
@@ -114,10 +115,11 @@ four-requires c κs = search needs
 
 returns-4 : tie.Need-returns-4
 returns-4 c =
-    let b = c .before .before .before .before .before .before .before .before .before .before in
-    let t = b .args .t .now in
-    ap (λ (n : ℕ). eqb n 0) (c .four .ensures .0)
-    ∙ two-rest t (bytes-known t (c .before .before .before .before .shared-slice-known6 .given)) (b .args .at) (b .pre) (c .before .before .before .if1 .left)
+    let reads = c .before .before .before .before in
+    let start = reads .before .before .before .before .before .before in
+    let t = start .args .t .now in
+    ap (λ (n : ℕ). eqb n 0) (c .four .ensures .value)
+    ∙ two-rest t (bytes-known t (reads .shared-slice-known6 .given)) (start .args .at) (start .pre) (c .before .before .before .if1 .left)
     (c .before .before .if2 .left) (c .before .if3 .left)
 
 pub two-entries-spec : {M : Type 1} → statement M

@@ -1,3 +1,4 @@
+-- Behind three entries are 18 bits, and behind four none.
 use native.Mathlib.Omega.{arith}
 use Rattle.soundness.proofs.EntryLaws.{past-count, past-none}
 use Rattle.soundness.proofs.entries.zero_past.Statement.{statement}

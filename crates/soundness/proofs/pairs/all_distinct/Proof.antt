@@ -1,3 +1,4 @@
+-- Of two siblings with one name the later finds the earlier's key among those met, so no pair that is passed over has one name.
 use Rattle.rules.specs.Size.{slots}
 use Rattle.slots.specs.Slot.{slotAt}
 use Rattle.soundness.proofs.KeyLaws.{key-used}
@@ -7,7 +8,20 @@ use mathlib.Core.Logic.{⊎-elim}
 use Prim.Native.Nat.{_≤_, _-_}
 use native.Mathlib.Omega.{arith}
 use Rattle.soundness.proofs.PairLaws.{
-  row-whole, Taken, taken-next, met-key, Keyed, Apart, Row, keyed-next, apart-next, row-differ, row-names, row-new, all-apart, pair-found,
+  row-whole,
+  Taken,
+  taken-next,
+  met-key,
+  Keyed,
+  Apart,
+  Row,
+  keyed-next,
+  apart-next,
+  row-differ,
+  row-names,
+  row-new,
+  all-apart,
+  pair-found,
 }
 use Rattle.soundness.proofs.pairs.all_distinct.Statement.{statement}
 use Rattle.soundness.proofs.pairs.all_distinct.Tie as tie
@@ -25,8 +39,13 @@ abbrev μ-pairs : tie.MeasureT-pairs
 μ-pairs t keys₀ taken₀ apart₀ i₀ keys taken apart i = slots - i
 
 pairs-holds : tie.Need-pairs-holds Inv-loop μ-loop Inv-pairs μ-pairs
-pairs-holds c = (omega arith, refl, record { long = refl; each = λ j l. absurd (omega arith) }, λ a b n m l h p q. absurd (omega arith),
-    record { long = refl; each = λ j l. absurd (omega arith) })
+pairs-holds c = (
+  omega arith,
+  refl,
+  record { long = refl; each = λ j l. absurd (omega arith) },
+  λ a b n m l h p q. absurd (omega arith),
+  record { long = refl; each = λ j l. absurd (omega arith) },
+)
 
 key-of-requires : tie.Need-key-of-requires Inv-loop μ-loop Inv-pairs μ-pairs
 key-of-requires c κs = (omega arith, c .before .before .before .pre)
@@ -48,17 +67,20 @@ array-read-if2 c = omega arith
 
 same-names-requires : tie.Need-same-names-requires Inv-loop μ-loop Inv-pairs μ-pairs
 same-names-requires c κs =
-    let l = c .before .before in
-    let m = c .before .before .before .before in
-    let k = m .before .before .before .before in
-    let p = k .before .before in
-    let t = p .before .before .args .t .now in
-    let z = met-key _ _ _ (k .key-of .result) (sym (m .may-clash .ensures) ∙ c .before .before .before .if1 .taken) in (
+    let at-loop = c .before .before in
+    let at-may-clash = at-loop .before .before in
+    let at-key-of = at-may-clash .before .before .before .before in
+    let at-pairs-test = at-key-of .before in
+    let at-pairs = at-pairs-test .before in
+    let start = at-pairs .before .before in
+    let t = start .args .t .now in
+    let z = met-key _ _ _ (at-key-of .key-of .result) (sym (at-may-clash .may-clash .ensures) ∙ at-loop .before .if1 .taken) in (
       omega arith,
-      k .before .pairs-test .taken,
-      p .before .before .pre,
-      key-used (slotAt t (l .loop .j)) (k .key-of .result) (sym (c .if2 .taken) ∙ p .pairs .inv .2 .each (l .loop .j) (c .before .loop-test .taken)) z,
-      key-used (slotAt t (p .pairs .i)) (k .key-of .result) (k .key-of .ensures) z,
+      at-pairs-test .pairs-test .taken,
+      start .pre,
+      key-used (slotAt t (at-loop .loop .j)) (at-key-of .key-of .result)
+          (sym (c .if2 .taken) ∙ at-pairs .pairs .inv .2 .each (at-loop .loop .j) (c .before .loop-test .taken)) z,
+      key-used (slotAt t (at-pairs .pairs .i)) (at-key-of .key-of .result) (at-key-of .key-of .ensures) z,
     )
 
 add-j : tie.Need-add-j Inv-loop μ-loop Inv-pairs μ-pairs
@@ -69,17 +91,17 @@ loop-less c = omega arith
 
 loop-again : tie.Need-loop-again Inv-loop μ-loop Inv-pairs μ-pairs
 loop-again c =
-    let l = c .before .before in
-    let k = c .before .before .before .before .before .before .before .before in
-    let p = k .before .before in
-    let t = p .before .before .args .t .now in (
+    let at-loop = c .before .before in
+    let at-key-of = at-loop .before .before .before .before .before .before in
+    let at-pairs = at-key-of .before .before in
+    let start = at-pairs .before .before in
+    let loop = at-loop .loop in
+    let t = start .args .t .now in (
       omega arith,
-      l .loop .inv .1,
-      ⊎-elim
-          (λ w. row-names t (p .pairs .i) (l .loop .j) (sym (w .1 .ensures) ∙ w .2 .left) (l .loop .inv .2))
-          (λ w. row-differ t (p .pairs .keys) (p .pairs .i) (l .loop .j) (k .key-of .result) (p .pairs .inv .2) (k .key-of .ensures)
-          (c .before .loop-test .taken) (w .left) (l .loop .inv .2))
-          (c .if2 .came),
+      loop .inv .1,
+      ⊎-elim (λ w. row-names t (at-pairs .pairs .i) (loop .j) (sym (w .1 .ensures) ∙ w .2 .left) (loop .inv .2))
+          (λ w. row-differ t (at-pairs .pairs .keys) (at-pairs .pairs .i) (loop .j) (at-key-of .key-of .result) (at-pairs .pairs .inv .2)
+          (at-key-of .key-of .ensures) (c .before .loop-test .taken) (w .left) (loop .inv .2)) (c .if2 .came),
     )
 
 mul-keys : tie.Need-mul-keys Inv-loop μ-loop Inv-pairs μ-pairs
@@ -99,21 +121,25 @@ pairs-less c = omega arith
 
 pairs-again : tie.Need-pairs-again Inv-loop μ-loop Inv-pairs μ-pairs
 pairs-again c =
-    let m = c .before in
-    let a = m .before .before .before in
-    let k = a .before in
-    let p = k .before .before in
-    let t = p .before .before .args .t .now in (
+    let at-may-clash = c .before in
+    let at-place-of = at-may-clash .before .before .before in
+    let at-key-of = at-place-of .before in
+    let at-pairs-test = at-key-of .before in
+    let at-pairs = at-pairs-test .before in
+    let start = at-pairs .before .before in
+    let t = start .args .t .now in (
       omega arith,
-      ⊎-elim (λ w. w .3 ∙ w .1 .inv .1) (λ w. w .1 ∙ p .pairs .inv .1) (c .if1 .came),
-      keyed-next t (p .pairs .keys) (p .pairs .i) (k .key-of .result) (k .before .pairs-test .taken) (k .key-of .ensures) (p .pairs .inv .2),
-      apart-next t (p .pairs .i) (p .pairs .inv .3) (⊎-elim
-          (λ w. row-whole t (p .pairs .i) (w .1 .j) (w .1 .inv .0) (w .2 .left) (w .1 .inv .2))
-          (λ w. row-new t (p .pairs .taken) (p .pairs .keys) (p .pairs .i) (k .key-of .result) (a .place-of .result) (k .before .pairs-test .taken)
-          (p .pairs .inv .2) (p .pairs .inv .4) (k .key-of .ensures) (a .place-of .ensures .0) (sym (m .may-clash .ensures) ∙ w .0 .left))
-          (c .if1 .came)),
-      taken-next t (p .pairs .taken) (p .pairs .i) (k .key-of .result) (a .place-of .result) (k .key-of .ensures) (a .place-of .ensures .0)
-      (a .place-of .ensures .1) (p .pairs .inv .4),
+      ⊎-elim (λ w. w .3 ∙ w .1 .inv .1) (λ w. w .1 ∙ at-pairs .pairs .inv .1) (c .if1 .came),
+      keyed-next t (at-pairs .pairs .keys) (at-pairs .pairs .i) (at-key-of .key-of .result) (at-pairs-test .pairs-test .taken) (at-key-of .key-of .ensures)
+          (at-pairs .pairs .inv .2),
+      apart-next t (at-pairs .pairs .i) (at-pairs .pairs .inv .3) (⊎-elim
+          (λ w. row-whole t (at-pairs .pairs .i) (w .1 .j) (w .1 .inv .0) (w .2 .left) (w .1 .inv .2))
+          (λ w. row-new t (at-pairs .pairs .taken) (at-pairs .pairs .keys) (at-pairs .pairs .i) (at-key-of .key-of .result) (at-place-of .place-of .result)
+          (at-pairs-test .pairs-test .taken)
+          (at-pairs .pairs .inv .2) (at-pairs .pairs .inv .4) (at-key-of .key-of .ensures) (at-place-of .place-of .ensures .0)
+          (sym (at-may-clash .may-clash .ensures) ∙ w .0 .left)) (c .if1 .came)),
+      taken-next t (at-pairs .pairs .taken) (at-pairs .pairs .i) (at-key-of .key-of .result) (at-place-of .place-of .result) (at-key-of .key-of .ensures)
+          (at-place-of .place-of .ensures .0) (at-place-of .place-of .ensures .1) (at-pairs .pairs .inv .4),
     )
 
 returns : tie.Need-returns Inv-loop μ-loop Inv-pairs μ-pairs
@@ -121,12 +147,14 @@ returns c = c .before .pairs .inv .1 ∙ all-apart _ (c .before .pairs .i) (c .p
 
 returns-2 : tie.Need-returns-2 Inv-loop μ-loop Inv-pairs μ-pairs
 returns-2 c =
-    let l = c .before .before .before .before in
-    let m = l .before .before in
-    let k = m .before .before .before .before in
-    let p = k .before .before in
-    pair-found (p .before .before .args .t .now) (p .pairs .keys) (p .pairs .i) (l .loop .j) (k .key-of .result) (p .pairs .inv .2) (k .key-of .ensures)
-    (met-key _ _ _ (k .key-of .result) (sym (m .may-clash .ensures) ∙ l .before .if1 .taken))
+    let at-loop = c .before .before .before .before in
+    let test1 = at-loop .before in
+    let at-may-clash = test1 .before in
+    let at-key-of = at-may-clash .before .before .before .before in
+    let at-pairs = at-key-of .before .before in
+    let start = at-pairs .before .before in
+    pair-found (start .args .t .now) (at-pairs .pairs .keys) (at-pairs .pairs .i) (at-loop .loop .j) (at-key-of .key-of .result) (at-pairs .pairs .inv .2)
+    (at-key-of .key-of .ensures) (met-key _ _ _ (at-key-of .key-of .result) (sym (at-may-clash .may-clash .ensures) ∙ test1 .if1 .taken))
     (c .before .before .before .loop-test .taken) (c .before .before .if2 .taken) (sym (c .before .same-names .ensures) ∙ c .if3 .taken)
 
 pub all-distinct-spec : {M : Type 1} → statement M

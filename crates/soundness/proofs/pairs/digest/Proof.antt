@@ -1,3 +1,4 @@
+-- A name of two bytes or more has all the bytes that the digest takes; a shorter one is told apart by its length.
 use Prim.Native.Nat.{_-_}
 use native.Mathlib.Omega.{arith}
 use lib.ListN.{length}
@@ -40,20 +41,32 @@ cast-second : tie.Need-cast-second
 cast-second c = omega (arith, c .shared-slice-known3 .given (length (c .before .before .before .before .before .args .s .now) - 2))
 
 add-result : tie.Need-add-result
-add-result c = let s = c .before .before .before .before .before .args .s .now in let byte =
-    c .shared-slice-known3 .given in omega (arith, byte 0, byte (length s - 1), byte (length s - 2), c .before .before .before .before .before .pre)
+add-result c =
+    let start = c .before .before .before .before .before in
+    let s = start .args .s .now in
+    let byte = c .shared-slice-known3 .given in
+    omega (arith, byte 0, byte (length s - 1), byte (length s - 2), start .pre)
 
 mul-result : tie.Need-mul-result
-mul-result c = let s = c .before .before .before .before .before .args .s .now in let byte =
-    c .shared-slice-known3 .given in omega (arith, byte 0, byte (length s - 1), byte (length s - 2), c .before .before .before .before .before .pre)
+mul-result c =
+    let start = c .before .before .before .before .before in
+    let s = start .args .s .now in
+    let byte = c .shared-slice-known3 .given in
+    omega (arith, byte 0, byte (length s - 1), byte (length s - 2), start .pre)
 
 add-result-2 : tie.Need-add-result-2
-add-result-2 c = let s = c .before .before .before .before .before .args .s .now in let byte =
-    c .shared-slice-known3 .given in omega (arith, byte 0, byte (length s - 1), byte (length s - 2), c .before .before .before .before .before .pre)
+add-result-2 c =
+    let start = c .before .before .before .before .before in
+    let s = start .args .s .now in
+    let byte = c .shared-slice-known3 .given in
+    omega (arith, byte 0, byte (length s - 1), byte (length s - 2), start .pre)
 
 add-result-3 : tie.Need-add-result-3
-add-result-3 c = let s = c .before .before .before .before .before .args .s .now in let byte =
-    c .shared-slice-known3 .given in omega (arith, byte 0, byte (length s - 1), byte (length s - 2), c .before .before .before .before .before .pre)
+add-result-3 c =
+    let start = c .before .before .before .before .before in
+    let s = start .args .s .now in
+    let byte = c .shared-slice-known3 .given in
+    omega (arith, byte 0, byte (length s - 1), byte (length s - 2), start .pre)
 
 returns-3 : tie.Need-returns-3
 returns-3 c =

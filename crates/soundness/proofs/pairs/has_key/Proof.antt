@@ -33,8 +33,11 @@ loop-less c = omega arith
 
 loop-again : tie.Need-loop-again Inv-loop μ-loop
 loop-again c =
-    let p = c .before .before in
-    (omega arith, has-key-turn (p .before .args .key) (p .before .args .keys .now) (p .loop .j) (p .loop .found) (omega arith) (p .loop .inv .1))
+    let at-loop = c .before .before in
+    let loop = at-loop .loop in (
+      omega arith,
+      has-key-turn (at-loop .before .args .key) (at-loop .before .args .keys .now) (loop .j) (loop .found) (omega arith) (loop .inv .1),
+    )
 
 returns : tie.Need-returns Inv-loop μ-loop
 returns c = has-key-end _ _ (c .before .loop .j) (c .before .loop .found) (omega arith) (c .before .loop .inv .1)

@@ -1,3 +1,4 @@
+-- The parent and the name's digest are the key's parts, and a parent is below 128, so the key fits 16 bits.
 use mathlib.Core.Path.{sym, _∙_, ap}
 use native.Mathlib.Omega.{arith}
 use lib.ListN.{length}
@@ -15,8 +16,12 @@ returns : tie.Need-returns
 returns c = key-none _ (sym (c .before .used .ensures) ∙ not-true _ (c .if1 .taken))
 
 parent-requires : tie.Need-parent-requires
-parent-requires c κs = (c .before .before .before .pre .0, c .before .before .before .pre .1 .whole, sym (c .before .used .ensures)
-    ∙ not-false _ (c .if1 .left))
+parent-requires c κs = (
+  c .before .before .before .pre .0,
+  c .before .before .before .pre .1 .whole,
+  sym (c .before .used .ensures)
+      ∙ not-false _ (c .if1 .left),
+)
 
 mul-result : tie.Need-mul-result
 mul-result c = search needs
@@ -26,14 +31,14 @@ add-result c = search needs
 
 name-requires : tie.Need-name-requires
 name-requires c κs =
-    let b = c .before .before .before .before in
+    let start = c .before .before .before .before in
     let u = sym (c .before .before .used .ensures) ∙ not-false _ (c .before .if1 .left) in
-    (b .pre .0, b .pre .1 .whole, u, b .pre .1 .short _ (b .pre .0) u)
+    (start .pre .0, start .pre .1 .whole, u, start .pre .1 .short _ (start .pre .0) u)
 
 digest-requires : tie.Need-digest-requires
 digest-requires c κs =
-    let b = c .before .before .before .before .before in
-    omega (arith, ap length (c .name .ensures), name-short (b .args .t .now) (b .args .i))
+    let args = c .before .before .before .before .before .args in
+    omega (arith, ap length (c .name .ensures), name-short (args .t .now) (args .i))
 
 add-result-2 : tie.Need-add-result-2
 add-result-2 c = search needs
@@ -43,8 +48,9 @@ cast-result c = search needs
 
 returns-2 : tie.Need-returns-2
 returns-2 c =
-    let b = c .before .before .before .before .before .before in
-    key-some (b .args .t .now) (b .args .i) _ _ _ (sym (c .before .before .before .before .used .ensures) ∙ not-false _ (c .before .before .before .if1 .left))
+    let at-used = c .before .before .before .before in
+    let args = at-used .before .before .args in
+    key-some (args .t .now) (args .i) _ _ _ (sym (at-used .used .ensures) ∙ not-false _ (c .before .before .before .if1 .left))
     (c .before .before .parent .ensures .1) (c .before .name .ensures) (c .digest .ensures .0)
 
 pub key-of-spec : {M : Type 1} → statement M

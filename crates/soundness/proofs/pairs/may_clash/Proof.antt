@@ -1,3 +1,4 @@
+-- A free slot's key is 0 and clashes with none; a key whose place was not taken was not met.
 use mathlib.Core.Path.{ap}
 use mathlib.Core.Bool.{not}
 use borrow.Author.Needs.{needs}

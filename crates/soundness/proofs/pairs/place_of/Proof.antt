@@ -1,3 +1,4 @@
+-- The place is a remainder by 1,024.
 use mathlib.Core.Path.{refl}
 use native.Mathlib.Nat.{mod-lt}
 use native.Mathlib.Omega.{arith}

@@ -1,3 +1,4 @@
+-- The bytes of the names are compared.
 use mathlib.Core.Path.{ap₂, _∙_}
 use Rattle.rules.specs.Octets.{same}
 use borrow.Author.Needs.{needs}

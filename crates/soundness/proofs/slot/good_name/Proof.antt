@@ -1,3 +1,4 @@
+-- The root has no name and zeros in its place; any other slot has a name, with zeros behind it.
 use native.Mathlib.Omega.{arith}
 use Rattle.soundness.proofs.SlotLaws.{sizes-of}
 use Rattle.soundness.proofs.KeptNames.{other-kept, root-named, root-kept}
@@ -48,8 +49,10 @@ all-zero-requires c κs = search needs
 
 returns-3 : tie.Need-returns-3
 returns-3 c =
-    let p = c .before .before .before .before .before .before .pre in
-    root-kept _ _ (p .0 .below) (p .0 .used) (sizes-of _ _ (p .1) .name) (c .before .before .before .before .name-length .ensures)
+    let at-name-length = c .before .before .before .before in
+    let start = at-name-length .before .before in
+    let p = start .pre in
+    root-kept _ _ (p .0 .below) (p .0 .used) (sizes-of _ _ (p .1) .name) (at-name-length .name-length .ensures)
     (c .before .before .before .if1 .left) (c .before .before .if2 .left) (c .all-zero .ensures)
 
 pub good-name-spec : {M : Type 1} → statement M

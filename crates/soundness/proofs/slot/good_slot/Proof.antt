@@ -1,3 +1,4 @@
+-- A used slot is good by its parts; a free one is zeros, and the root's is used.
 use mathlib.Core.Path.{sym, _∙_}
 use Rattle.octets.proofs.Bytes.{bytes-known}
 use Rattle.soundness.proofs.SlotLaws.{unused-root, unused-other}
@@ -9,17 +10,22 @@ used-requires : tie.Need-used-requires
 used-requires c κs = search needs
 
 good-used-requires : tie.Need-good-used-requires
-good-used-requires c κs = record { below = c .before .before .before .pre .0; whole = c .before .before .before .pre .1; used = sym (c .before .used .ensures)
-    ∙ c .if1 .taken }
+good-used-requires c κs = record {
+  below = c .before .before .before .pre .0;
+  whole = c .before .before .before .pre .1;
+  used = sym (c .before .used .ensures)
+      ∙ c .if1 .taken;
+}
 
 returns : tie.Need-returns
 returns c = search needs
 
 returns-2 : tie.Need-returns-2
 returns-2 c =
-    let k = c .before .before .before in
-    let b = k .before in
-    unused-root (b .args .t .now) (bytes-known (b .args .t .now) (k .shared-slice-known .given)) (b .pre .1) (b .args .i) (b .pre .0)
+    let reads = c .before .before .before in
+    let start = reads .before in
+    let args = start .args in
+    unused-root (args .t .now) (bytes-known (args .t .now) (reads .shared-slice-known .given)) (start .pre .1) (args .i) (start .pre .0)
     (sym (c .before .before .used .ensures) ∙ c .before .if1 .left) (c .if2 .taken)
 
 mul-from : tie.Need-mul-from
@@ -42,10 +48,12 @@ all-zero-requires c κs = search needs
 
 returns-3 : tie.Need-returns-3
 returns-3 c =
-    let k = c .before .before .before .before .before in
-    let b = k .before in
-    unused-other (b .args .t .now) (bytes-known (b .args .t .now) (k .shared-slice-known .given)) (b .pre .1) (b .args .i) (b .pre .0)
-    (sym (c .before .before .before .before .used .ensures) ∙ c .before .before .before .if1 .left) (c .before .before .if2 .left) (c .all-zero .ensures)
+    let at-used = c .before .before .before .before in
+    let reads = at-used .before in
+    let start = reads .before in
+    let args = start .args in
+    unused-other (args .t .now) (bytes-known (args .t .now) (reads .shared-slice-known .given)) (start .pre .1) (args .i) (start .pre .0)
+    (sym (at-used .used .ensures) ∙ c .before .before .before .if1 .left) (c .before .before .if2 .left) (c .all-zero .ensures)
 
 pub good-slot-spec : {M : Type 1} → statement M
 good-slot-spec =

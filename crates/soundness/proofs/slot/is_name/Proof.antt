@@ -1,3 +1,4 @@
+-- The bytes before i are a name's, so those from i on decide; an empty text is no name.
 use mathlib.Core.Path.{_≡_, refl}
 use Prim.Native.Nat.{_≤_, _-_}
 use native.Mathlib.Omega.{arith}
@@ -25,8 +26,9 @@ name-byte-requires c κs = tt
 
 returns : tie.Need-returns Inv-loop μ-loop
 returns c =
-    let l = c .before .before .before in
-    name-refused _ (l .before .loop .i) (l .before .loop .inv .1) (l .loop-test .taken) (c .before .name-byte .ensures) (not-true _ (c .if1 .taken))
+    let turn = c .before .before .before in
+    let at-loop = turn .before in
+    name-refused _ (at-loop .loop .i) (at-loop .loop .inv .1) (turn .loop-test .taken) (c .before .name-byte .ensures) (not-true _ (c .if1 .taken))
 
 add-i : tie.Need-add-i Inv-loop μ-loop
 add-i c = omega arith
@@ -36,9 +38,11 @@ loop-less c = omega arith
 
 loop-again : tie.Need-loop-again Inv-loop μ-loop
 loop-again c =
-    let l = c .before .before .before in
-    (omega arith, name-further _ (l .before .loop .i) (l .before .loop .inv .1) (l .loop-test .taken) (c .before .name-byte .ensures)
-    (not-false _ (c .if1 .left)))
+    let turn = c .before .before .before in
+    let at-loop = turn .before in (
+      omega arith,
+      name-further _ (at-loop .loop .i) (at-loop .loop .inv .1) (turn .loop-test .taken) (c .before .name-byte .ensures) (not-false _ (c .if1 .left)),
+    )
 
 returns-2 : tie.Need-returns-2 Inv-loop μ-loop
 returns-2 c = name-ended _ (c .before .loop .i) (c .before .loop .inv .1) (c .loop-test .left)

@@ -1,3 +1,4 @@
+-- The name and what stands behind it are the whole field; one in its first half is `short_name`'s.
 use mathlib.Core.Path.{sym, _∙_}
 use borrow.Author.Tests.{not-true, not-false}
 use Rattle.soundness.proofs.KeptNames.{long-fault, long-name}
@@ -31,8 +32,8 @@ all-zero-requires c κs = search needs
 
 returns-2 : tie.Need-returns-2
 returns-2 c =
-    let b = c .before .before .before .before .before in
-    long-fault _ _ _ (b .pre .0) (sym (c .before .all-zero .ensures) ∙ not-true _ (c .if2 .taken))
+    let start = c .before .before .before .before .before in
+    long-fault _ _ _ (start .pre .0) (sym (c .before .all-zero .ensures) ∙ not-true _ (c .if2 .taken))
 
 add-is-name : tie.Need-add-is-name
 add-is-name c = search needs
@@ -51,9 +52,10 @@ is-name-requires c κs = search needs
 
 returns-3 : tie.Need-returns-3
 returns-3 c =
-    let z = c .before .before in
-    let b = z .before .before .before .before .before in
-    long-name (b .args .t .now) (b .args .at) (b .args .n) (b .pre .0) (sym (z .before .all-zero .ensures) ∙ not-false _ (z .if2 .left)) (c .is-name .ensures)
+    let test = c .before .before in
+    let start = test .before .before .before .before .before in
+    let args = start .args in
+    long-name (args .t .now) (args .at) (args .n) (start .pre .0) (sym (test .before .all-zero .ensures) ∙ not-false _ (test .if2 .left)) (c .is-name .ensures)
 
 pub kept-name-spec : {M : Type 1} → statement M
 kept-name-spec =

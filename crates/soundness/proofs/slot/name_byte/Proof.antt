@@ -1,3 +1,4 @@
+-- A name's bytes are letters, digits, `-`, `_` and `@`, and the tests part the byte values between these.
 use Rattle.soundness.proofs.NameLaws.{byte-small, byte-large, byte-digit, byte-other}
 use Rattle.soundness.proofs.slot.name_byte.Statement.{statement}
 use Rattle.soundness.proofs.slot.name_byte.Tie as tie

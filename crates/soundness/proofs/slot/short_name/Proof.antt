@@ -1,3 +1,4 @@
+-- Small letters with zeros behind them are a name with zeros behind it; of any other text the bytes and what is behind them decide.
 use mathlib.Core.Path.{sym, _∙_}
 use borrow.Author.Tests.{not-true, not-false}
 use Rattle.soundness.proofs.KeptNames.{no-name, second-fault, small-name, first-fault, short-name}
@@ -28,8 +29,8 @@ all-zero-requires c κs = search needs
 
 returns-2 : tie.Need-returns-2
 returns-2 c =
-    let b = c .before .before .before .before .before in
-    second-fault _ _ _ (b .pre .0) (sym (c .before .all-zero .ensures) ∙ not-true _ (c .if2 .taken))
+    let start = c .before .before .before .before .before in
+    second-fault _ _ _ (start .pre .0) (sym (c .before .all-zero .ensures) ∙ not-true _ (c .if2 .taken))
 
 add-small-letters : tie.Need-add-small-letters
 add-small-letters c = search needs
@@ -54,10 +55,13 @@ small-letters-requires c κs = search needs
 
 returns-3 : tie.Need-returns-3
 returns-3 c =
-    let z = c .before .before .before .before in
-    let b = z .before .before .before .before .before in
-    small-name (b .args .t .now) (b .args .at) (b .args .n) (b .pre .0) (sym (z .before .all-zero .ensures) ∙ not-false _ (z .if2 .left))
-    (z .before .before .before .if1 .left) (b .pre .1) (sym (c .before .small-letters .ensures) ∙ c .if3 .taken)
+    let test2 = c .before .before .before .before in
+    let at-all-zero = test2 .before in
+    let test1 = at-all-zero .before .before in
+    let start = test1 .before .before in
+    let args = start .args in
+    small-name (args .t .now) (args .at) (args .n) (start .pre .0) (sym (at-all-zero .all-zero .ensures) ∙ not-false _ (test2 .if2 .left))
+    (test1 .if1 .left) (start .pre .1) (sym (c .before .small-letters .ensures) ∙ c .if3 .taken)
 
 add-all-zero-3 : tie.Need-add-all-zero-3
 add-all-zero-3 c = search needs
@@ -82,9 +86,11 @@ all-zero-requires-2 c κs = search needs
 
 returns-4 : tie.Need-returns-4
 returns-4 c =
-    let z = c .before .before .before .before .before .before .before in
-    let b = z .before .before .before .before .before in
-    first-fault (b .args .t .now) (b .args .at) (b .args .n) (b .pre .0) (sym (z .before .all-zero .ensures) ∙ not-false _ (z .if2 .left))
+    let test = c .before .before .before .before .before .before .before in
+    let at-all-zero = test .before in
+    let start = at-all-zero .before .before .before .before in
+    let args = start .args in
+    first-fault (args .t .now) (args .at) (args .n) (start .pre .0) (sym (at-all-zero .all-zero .ensures) ∙ not-false _ (test .if2 .left))
     (sym (c .before .all-zero2 .ensures) ∙ not-true _ (c .if4 .taken))
 
 add-is-name : tie.Need-add-is-name
@@ -104,11 +110,13 @@ is-name-requires c κs = search needs
 
 returns-5 : tie.Need-returns-5
 returns-5 c =
-    let f = c .before .before in
-    let z = f .before .before .before .before .before .before .before in
-    let b = z .before .before .before .before .before in
-    short-name (b .args .t .now) (b .args .at) (b .args .n) (b .pre .0) (sym (z .before .all-zero .ensures) ∙ not-false _ (z .if2 .left))
-    (sym (f .before .all-zero2 .ensures) ∙ not-false _ (f .if4 .left)) (c .is-name .ensures)
+    let test4 = c .before .before in
+    let test2 = test4 .before .before .before .before .before .before .before in
+    let at-all-zero = test2 .before in
+    let start = at-all-zero .before .before .before .before in
+    let args = start .args in
+    short-name (args .t .now) (args .at) (args .n) (start .pre .0) (sym (at-all-zero .all-zero .ensures) ∙ not-false _ (test2 .if2 .left))
+    (sym (test4 .before .all-zero2 .ensures) ∙ not-false _ (test4 .if4 .left)) (c .is-name .ensures)
 
 pub short-name-spec : {M : Type 1} → statement M
 short-name-spec =

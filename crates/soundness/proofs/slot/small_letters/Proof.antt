@@ -1,3 +1,4 @@
+-- Each byte is held against its own last; those gathered so far, and those from i on, decide.
 use mathlib.Core.Path.{_≡_, refl}
 use mathlib.Core.Bool.{_&&_}
 use Prim.Native.Nat.{_+_, _-_, _≤_}
@@ -35,10 +36,14 @@ loop-less c = omega arith
 
 loop-again : tie.Need-loop-again Inv-loop μ-loop
 loop-again c =
-    let l = c .before .before in
-    let b = l .before in
-    (omega arith, rw (← add-assoc (b .before .args .from) (b .loop .i) 1)
-    (letters-turn _ _ (b .loop .i) (b .before .args .from + b .loop .i) (b .loop .all) (l .loop-test .taken) (omega arith) (b .loop .inv .1)))
+    let turn = c .before .before in
+    let at-loop = turn .before in
+    let args = at-loop .before .args in
+    let loop = at-loop .loop in (
+      omega arith,
+      rw (← add-assoc (args .from) (loop .i) 1) (letters-turn _ _ (loop .i) (args .from + loop .i) (loop .all) (turn .loop-test .taken) (omega arith)
+          (loop .inv .1)),
+    )
 
 returns : tie.Need-returns Inv-loop μ-loop
 returns c = letters-end _ _ (c .before .loop .i) (c .before .loop .all) (c .loop-test .left) (c .before .loop .inv .1)

@@ -1,3 +1,4 @@
+-- The tests are those of the sizes, in their order.
 use Prim.Native.Nat.{ℕ}
 use lib.Dec.{leb}
 use Rattle.rules.specs.Size.{longestName, longestValue}
@@ -31,16 +32,21 @@ entry-count-requires c κs = search needs
 returns-3 : tie.Need-returns-3
 unfolding sized
 returns-3 c =
-    let b = c .before .before in
-    pass (under longestName (b .before .before .before .name-length .ensures) (b .before .before .if1 .left))
-    (pass (under longestValue (b .before .value-length .ensures) (b .if2 .left)) (stop _ (ap (leb 1) (sym (c .before .entry-count .ensures) ∙ c .if3 .taken))))
+    let test2 = c .before .before in
+    let test1 = test2 .before .before in
+    let at-name-length = test1 .before in
+    pass (under longestName (at-name-length .name-length .ensures) (test1 .if1 .left))
+    (pass (under longestValue (test2 .before .value-length .ensures) (test2 .if2 .left))
+    (stop _ (ap (leb 1) (sym (c .before .entry-count .ensures) ∙ c .if3 .taken))))
 
 returns-4 : tie.Need-returns-4
 unfolding sized
 returns-4 c =
-    let b = c .before .before in
-    pass (under longestName (b .before .before .before .name-length .ensures) (b .before .before .if1 .left))
-    (pass (under longestValue (b .before .value-length .ensures) (b .if2 .left))
+    let test2 = c .before .before in
+    let test1 = test2 .before .before in
+    let at-name-length = test1 .before in
+    pass (under longestName (at-name-length .name-length .ensures) (test1 .if1 .left))
+    (pass (under longestValue (test2 .before .value-length .ensures) (test2 .if2 .left))
     (pass (ap (leb 1) (sym (c .before .entry-count .ensures)) ∙ le-leb 1 (c .before .entry-count .result) (omega arith))
     (ap (λ (n : ℕ). leb n 4) (c .before .entry-count .ensures))))
 

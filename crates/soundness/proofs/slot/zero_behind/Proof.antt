@@ -1,3 +1,4 @@
+-- The value's length is within its field, so what is behind it lies in the field.
 use mathlib.Core.Path.{ap, _∙_}
 use Prim.Native.Nat.{ℕ, _+_, _*_}
 use native.Mathlib.Omega.{arith}
@@ -27,8 +28,8 @@ rest-zero-requires c κs =
 returns : tie.Need-returns
 unfolding zeroBehind
 returns c =
-    let b = c .before .before .before in
-    c .rest-zero .ensures ∙ ap (λ (n : ℕ). allZero (drop n (take longestValue (drop (b .args .i * slotSize + valueAt) (b .args .t .now)))))
+    let args = c .before .before .before .args in
+    c .rest-zero .ensures ∙ ap (λ (n : ℕ). allZero (drop n (take longestValue (drop (args .i * slotSize + valueAt) (args .t .now)))))
     (c .before .value-length .ensures)
 
 pub zero-behind-spec : {M : Type 1} → statement M

@@ -1,3 +1,4 @@
+-- The slots before i are good, so those from i on decide.
 use mathlib.Core.Path.{_≡_, refl, sym, _∙_}
 use Prim.Native.Nat.{_≤_, _-_}
 use native.Mathlib.Omega.{arith}
@@ -32,8 +33,11 @@ loop-less : tie.Need-loop-less Inv-loop μ-loop
 loop-less c = omega arith
 
 loop-again : tie.Need-loop-again Inv-loop μ-loop
-loop-again c = (omega arith, c .before .before .before .loop .inv .1 ∙ every-further (goodSlot _) slots (c .before .before .before .loop .i)
-    (c .before .before .loop-test .taken) (sym (c .before .good-slot .ensures) ∙ not-false _ (c .if1 .left)))
+loop-again c = (
+  omega arith,
+  c .before .before .before .loop .inv .1 ∙ every-further (goodSlot _) slots (c .before .before .before .loop .i)
+      (c .before .before .loop-test .taken) (sym (c .before .good-slot .ensures) ∙ not-false _ (c .if1 .left)),
+)
 
 returns-2 : tie.Need-returns-2 Inv-loop μ-loop
 returns-2 c = every-ended (goodSlot _) slots (c .before .loop .i) (c .loop-test .left) ∙ sym (c .before .loop .inv .1)

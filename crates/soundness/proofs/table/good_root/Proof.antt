@@ -1,3 +1,4 @@
+-- The two tests are those of the root: its parent and its owner.
 use mathlib.Core.Path.{_∙_}
 use Rattle.soundness.proofs.TableLaws.{root-parent, root-owner}
 use borrow.Author.Needs.{needs}
@@ -20,8 +21,7 @@ returns-2 : tie.Need-returns-2
 returns-2 c =
     let test = c .before .before in
     c .is-control .ensures
-    ∙ root-owner _ (test .before .before .before .pre) _ _ (test .before .parent .ensures .1) (test .if1 .left)
-    (c .before .entry-at .ensures .1)
+    ∙ root-owner _ (test .before .before .before .pre) _ _ (test .before .parent .ensures .1) (test .if1 .left) (c .before .entry-at .ensures .1)
 
 pub good-root-spec : {M : Type 1} → statement M
 good-root-spec = tie.close (tie.spec parent-requires returns entry-at-requires is-control-requires returns-2)

@@ -1,4 +1,4 @@
--- What is found from the start on is what is found from i on.
+-- There is no nul from the cursor to i, so the string ends at the first from i on, or there is none.
 use mathlib.Core.Path.{_≡_, refl, sym, _∙_}
 use Prim.Native.Nat.{_-_}
 use native.Mathlib.Omega.{arith}

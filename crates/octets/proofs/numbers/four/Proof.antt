@@ -1,10 +1,10 @@
--- `four` meets its contract: the bytes are below 256, and a field of four is two of two.
+-- The bytes are below 256, so the sum of their places is the field and fits 64 bits.
 use Prim.Native.Nat.{_+_}
 use native.Mathlib.Omega.{arith}
 use borrow.Author.Needs.{needs}
-use Rattle.soundness.proofs.EntryLaws.{field-four}
-use Rattle.soundness.proofs.entries.four.Statement.{statement}
-use Rattle.soundness.proofs.entries.four.Tie as tie
+use Rattle.octets.proofs.Bytes.{bytes-known, field-four}
+use Rattle.octets.proofs.numbers.four.Statement.{statement}
+use Rattle.octets.proofs.numbers.four.Tie as tie
 
 shared-slice-read-a : tie.Need-shared-slice-read-a
 shared-slice-read-a c = search needs
@@ -68,10 +68,9 @@ add-result-3 c =
 
 returns : tie.Need-returns
 returns c =
-    let b = c .before .before .before .before in
-    let at = b .args .at in
-    let byte = c .shared-slice-known4 .given in
-    (omega (arith, field-four (b .args .t .now) at (b .pre)), omega (arith, byte at, byte (at + 1), byte (at + 2), byte (at + 3)))
+    let start = c .before .before .before .before in
+    let s = start .args .s .now in
+    record { value = omega (arith, field-four s (start .args .at) (start .pre)); bytes = bytes-known s (c .shared-slice-known4 .given) }
 
 pub four-spec : {M : Type 1} → statement M
 four-spec =
