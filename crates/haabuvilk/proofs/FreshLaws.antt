@@ -11,18 +11,8 @@ use borrow.Author.Tests.{eqb-true}
 use Rattle.rules.specs.Size.{tableSize, copiesSize, watchesSize, transactionsSize, domainsSize, watchSize, transactionSize, domainSize, slots, slotSize}
 use Rattle.rules.specs.Octets.{Octets, paste, padded, bigEndian, packFrom, pack}
 use Rattle.rules.specs.Node.{root, freshTable}
-use Rattle.rules.specs.Layout.{
-  entryBits,
-  nodeBits,
-  slotBytes,
-  tableBytes,
-  domainBytes,
-  domainsBytes,
-  watchBytes,
-  watchesBytes,
-  transactionBytes,
-  transactionsBytes,
-}
+use Rattle.rules.specs.Layout.{entryBits, nodeBits, slotBytes, tableBytes, domainBytes, domainsBytes, watchBytes, watchesBytes, transactionBytes}
+use Rattle.rules.specs.Layout.{transactionsBytes}
 use Rattle.rules.specs.World.{freshWorld}
 use Rattle.rules.specs.Call.{Tables, callNumber, sizedTables, tablesOf, freshCall}
 use Rattle.rules.proofs.Compare.{both-true}

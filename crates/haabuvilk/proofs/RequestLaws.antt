@@ -19,34 +19,9 @@ use Rattle.rules.specs.Event.{Record}
 use Rattle.rules.specs.Layout.{domainsOf, recordBytes}
 use Rattle.rules.specs.Sound.{known}
 use Rattle.rules.specs.World as W
-use Rattle.rules.specs.Call.{
-  Verdict,
-  handled,
-  wrongSize,
-  unsound,
-  stranger,
-  broken,
-  overlong,
-  noEvent,
-  callNumber,
-  isHandled,
-  Tables,
-  sizedTables,
-  sound,
-  worldOf,
-  typeOf,
-  txOf,
-  lenOf,
-  payloadOf,
-  frameVerdict,
-  requestVerdict,
-  outcomeOf,
-  outcome,
-  turnedAway,
-  delivered,
-  requestBy,
-  requestCall,
-}
+use Rattle.rules.specs.Call.{Verdict, handled, wrongSize, unsound, stranger, broken, overlong, noEvent, callNumber, isHandled, Tables, sizedTables}
+use Rattle.rules.specs.Call.{sound, worldOf, typeOf, txOf, lenOf, payloadOf, frameVerdict, requestVerdict, outcomeOf, outcome, turnedAway, delivered}
+use Rattle.rules.specs.Call.{requestBy, requestCall}
 use Rattle.rules.proofs.Compare.{both-true}
 use Rattle.rules.proofs.Fields.{length-big}
 use Rattle.replies.specs.declared.kinds.Reply.{Reply}

@@ -7,23 +7,8 @@ use native.Mathlib.Nat.{add-zero, pow-suc}
 use native.Mathlib.Omega.{arith}
 use lib.ListN.{length, getD, take, drop, set, length-drop, drop-of-length-le}
 use Rattle.rules.specs.Octets.{Octets, paste, decimal, isDigit, allDigits, valueFrom, plainForm}
-use Rattle.rules.proofs.Decimals.{
-  digitCount,
-  lastDigits,
-  decimal-last,
-  length-decimal,
-  count-one,
-  count-more,
-  digit-turn,
-  digits-next,
-  digits-at,
-  digit-bounds,
-  bounds-digit,
-  ten-mono,
-  plain-pos,
-  plain-digits,
-  value-last,
-}
+use Rattle.rules.proofs.Decimals.{digitCount, lastDigits, decimal-last, length-decimal, count-one, count-more, digit-turn, digits-next, digits-at}
+use Rattle.rules.proofs.Decimals.{digit-bounds, bounds-digit, ten-mono, plain-pos, plain-digits, value-last}
 use Rattle.rules.proofs.Paste.{paste-nil, paste-before}
 
 -- ── counting: k counted, l left, m in all ──

@@ -11,26 +11,8 @@ use lib.Seq.{drop-cons}
 use borrow.Author.Tests.{eqb-true}
 use Rattle.rules.specs.Size.{longestAbsolute, longestRelative}
 use Rattle.rules.specs.Octets.{Octets, same, isDigit}
-use Rattle.rules.specs.Path.{
-  Names,
-  nameByte,
-  allBytes,
-  isName,
-  allNames,
-  glued,
-  split,
-  Given,
-  malformed,
-  absolute,
-  relative,
-  special,
-  given,
-  afterSlash,
-  checked,
-  specialOf,
-  introduceName,
-  releaseName,
-}
+use Rattle.rules.specs.Path.{Names, nameByte, allBytes, isName, allNames, glued, split, Given, malformed, absolute, relative, special, given}
+use Rattle.rules.specs.Path.{afterSlash, checked, specialOf, introduceName, releaseName}
 use Rattle.rules.proofs.PathLaws.{split-slash, split-other}
 use Rattle.paths.specs.Classes.{classOf, isLetter}
 use Rattle.paths.specs.Machine.{ofName, inName, atName, stepOf, run}

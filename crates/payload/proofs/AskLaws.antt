@@ -13,22 +13,8 @@ use types.Run.{OneOf, miss}
 use denote.Enum.Declared.{tagOf}
 use borrow.Author.Tests.{ne-eqb}
 use Rattle.rules.specs.Octets.{Octets}
-use Rattle.rules.specs.Path.{
-  Domain,
-  Connection,
-  domainOf,
-  Names,
-  Given,
-  malformed,
-  absolute,
-  relative,
-  special,
-  given,
-  base,
-  pathText,
-  slashed,
-  allNames,
-}
+use Rattle.rules.specs.Path.{Domain, Connection, domainOf, Names, Given, malformed, absolute, relative, special, given, base, pathText, slashed}
+use Rattle.rules.specs.Path.{allNames}
 use Rattle.rules.specs.Payload as rules
 use Rattle.rules.specs.Payload.{Parsed, invalid, request, namesOf, proper, onRoot, asking, plain, writing, strings, firstString}
 use Rattle.rules.proofs.PathLaws.{given-full, no-empty-name}

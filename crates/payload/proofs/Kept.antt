@@ -24,19 +24,8 @@ use Rattle.rules.proofs.Tables.{Each, each-append}
 use Rattle.rules.proofs.Slots.{EntryFits}
 use Rattle.rules.proofs.Fitting.{AskFits, take-each}
 use Rattle.rules.proofs.GoodAnswers.{AskGood}
-use Rattle.payload.specs.Meaning.{
-  entryMeant,
-  blank,
-  othersMeant,
-  firstOthers,
-  askMeant,
-  kept,
-  requestKept,
-  askKept,
-  EntrySound,
-  EntriesSound,
-  AskSound,
-}
+use Rattle.payload.specs.Meaning.{entryMeant, blank, othersMeant, firstOthers, askMeant, kept, requestKept, askKept, EntrySound, EntriesSound}
+use Rattle.payload.specs.Meaning.{AskSound}
 use Rattle.payload.specs.declared.answer.Entry.{Entry}
 use Rattle.payload.specs.declared.answer.Entries.{Entries}
 use Rattle.payload.specs.declared.answer.Ask.{Ask}

@@ -26,13 +26,7 @@ use Rattle.payload.specs.declared.answer.Permission.the-variants as perm
 use Rattle.payload.specs.declared.answer.Permissions.{Permissions}
 use Rattle.payload.specs.declared.answer.Permissions.the-variants as permissions
 use Rattle.payload.specs.declared.answer.Request.{Request}
-use Rattle.payload.specs.declared.answer.Request.the-variants.{
-  Invalid,
-  Ask as Asked,
-  Release,
-  DomainPath,
-  IsIntroduced,
-}
+use Rattle.payload.specs.declared.answer.Request.the-variants.{Invalid, Ask as Asked, Release, DomainPath, IsIntroduced}
 
 abbrev pub smallMeant : Small → Option ℕ
 smallMeant (small.Is n) = some n

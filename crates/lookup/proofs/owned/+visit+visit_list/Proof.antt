@@ -10,18 +10,8 @@ use Rattle.rules.specs.Layout.{tableOf}
 use Rattle.slots.proofs.Canonical.{sound-canonical}
 use Rattle.lookup.proofs.ChildrenLaws.{listed}
 use Rattle.lookup.specs.Walk.{ownedAmong}
-use Rattle.lookup.proofs.WalkLaws.{
-  below-none,
-  below-own,
-  below-others,
-  among-over,
-  among-next,
-  among-length,
-  entered-none,
-  entered-one,
-  entered-as,
-  entered-join,
-}
+use Rattle.lookup.proofs.WalkLaws.{below-none, below-own, below-others, among-over, among-next, among-length, entered-none, entered-one}
+use Rattle.lookup.proofs.WalkLaws.{entered-as, entered-join}
 use borrow.Fn.Kinds.{In}
 use borrow.Fn.PlainCycle.{Measures, is, falls, and}
 use Rattle.lookup.proofs.owned.visit.Reads as visit

@@ -6,20 +6,8 @@ use borrow.Author.Needs.{needs}
 use borrow.Author.Tests.{not-true, not-false}
 use lib.ListN.{length, length-set}
 use Rattle.rules.specs.Size.{longestName, longestPath, deepest}
-use Rattle.soundness.proofs.WalkLaws.{
-  walked-root,
-  walked-none,
-  walked-unused,
-  walked-far,
-  walked-near,
-  walked-lost,
-  walked-count,
-  walked-bare,
-  walked-place,
-  walked-up,
-  name-short,
-  Step,
-}
+use Rattle.soundness.proofs.WalkLaws.{walked-root, walked-none, walked-unused, walked-far, walked-near, walked-lost, walked-count, walked-bare}
+use Rattle.soundness.proofs.WalkLaws.{walked-place, walked-up, name-short, Step}
 use Prim.Native.Nat.{ℕ, _+_, _≤_, _<_}
 use borrow.Fn.Kinds.{In}
 use borrow.Fn.PlainCycle.{Measures, is, falls, and}

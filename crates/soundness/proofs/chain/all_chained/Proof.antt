@@ -7,20 +7,8 @@ use borrow.Author.Needs.{needs}
 use Rattle.rules.specs.Size.{slots}
 use Rattle.soundness.specs.Parts.{every}
 use Rattle.soundness.specs.Walks.{chained}
-use Rattle.soundness.proofs.TableLaws.{
-  every-further,
-  every-stop,
-  every-ended,
-  lost-chained,
-  root-chained,
-  root-level,
-  root-count,
-  unused-chained,
-  Levels,
-  levels-set,
-  levels-lent,
-  none-levelled,
-}
+use Rattle.soundness.proofs.TableLaws.{every-further, every-stop, every-ended, lost-chained, root-chained, root-level, root-count}
+use Rattle.soundness.proofs.TableLaws.{unused-chained, Levels, levels-set, levels-lent, none-levelled}
 use Rattle.soundness.proofs.chain.all_chained.Statement.{statement}
 use Rattle.soundness.proofs.chain.all_chained.Tie as tie
 

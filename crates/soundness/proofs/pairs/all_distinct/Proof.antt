@@ -7,22 +7,8 @@ use mathlib.Core.Bool.{true}
 use mathlib.Core.Logic.{⊎-elim}
 use Prim.Native.Nat.{_≤_, _-_}
 use native.Mathlib.Omega.{arith}
-use Rattle.soundness.proofs.PairLaws.{
-  row-whole,
-  Taken,
-  taken-next,
-  met-key,
-  Keyed,
-  Apart,
-  Row,
-  keyed-next,
-  apart-next,
-  row-differ,
-  row-names,
-  row-new,
-  all-apart,
-  pair-found,
-}
+use Rattle.soundness.proofs.PairLaws.{row-whole, Taken, taken-next, met-key, Keyed, Apart, Row, keyed-next, apart-next, row-differ, row-names}
+use Rattle.soundness.proofs.PairLaws.{row-new, all-apart, pair-found}
 use Rattle.soundness.proofs.pairs.all_distinct.Statement.{statement}
 use Rattle.soundness.proofs.pairs.all_distinct.Tie as tie
 
