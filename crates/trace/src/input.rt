@@ -9,9 +9,9 @@ use octets::sizes::LEN_AT;
 use octets::sizes::LONGEST_PAYLOAD;
 
 // A sender's two bytes stand before its message.
-const MESSAGE_AT: usize = 2;
+pub const MESSAGE_AT: usize = 2;
 
-pub const HEAD_SIZE: usize = MESSAGE_AT + HEADER_SIZE;
+const HEAD_SIZE: usize = MESSAGE_AT + HEADER_SIZE;
 
 const LENGTH_AT: usize = MESSAGE_AT + LEN_AT;
 
@@ -50,26 +50,25 @@ pub fn is_oversize(input: &[u8; INPUT_SIZE]) -> bool {
     MOST_PAYLOAD < number32(input, LENGTH_AT)
 }
 
-pub fn sender(high: u8, low: u8) -> u32 {
-    high as u32 * 256 + low as u32
-}
-
-// Reads a sender and its message, and answers how many bytes both have; or 0, where they end short. Of an oversize message
-// only the header is read.
-pub fn read_message(input: &mut [u8]) -> usize
+// The place behind the message that stands in the input, which is the header alone where the message is oversize.
+pub fn end_of(input: &[u8]) -> usize
     requires { ⌜ length (now input) ≡ 4114 ⌝ }
-    ensures { λ r. ⌜ r ≤ 4114 ⌝ }
+    ensures { λ r. ⌜ (18 ≤ r) × (r ≤ 4114) ⌝ }
 {
-    if !fill(&mut input[..HEAD_SIZE]) {
-        return 0;
-    }
     let len = number32(input, LENGTH_AT);
     if MOST_PAYLOAD < len {
         return HEAD_SIZE;
     }
-    let end = HEAD_SIZE + len as usize;
-    if !fill(&mut input[HEAD_SIZE..end]) {
-        return 0;
+    HEAD_SIZE + len as usize
+}
+
+// Reads a sender and its message, and answers whether the input had both.
+pub fn read_message(input: &mut [u8]) -> bool
+    requires { ⌜ length (now input) ≡ 4114 ⌝ }
+{
+    if !fill(&mut input[0..HEAD_SIZE]) {
+        return false;
     }
-    end
+    let end = end_of(input);
+    fill(&mut input[HEAD_SIZE..end])
 }

@@ -4,12 +4,13 @@ mod line;
 
 use haabuvilk::fresh::haabuvilk_fresh;
 use haabuvilk::request::haabuvilk_request;
-use input::HEAD_SIZE;
 use input::INPUT_SIZE;
+use input::MESSAGE_AT;
+use input::end_of;
 use input::is_oversize;
 use input::read_message;
-use input::sender;
 use line::print_call;
+use octets::numbers::two;
 use octets::sizes::COPIES_SIZE;
 use octets::sizes::DOMAINS_SIZE;
 use octets::sizes::EVENTS_SIZE;
@@ -18,67 +19,43 @@ use octets::sizes::TABLE_SIZE;
 use octets::sizes::TRANSACTIONS_SIZE;
 use octets::sizes::WATCHES_SIZE;
 
-// Reads a message, makes the call and prints its line. False where nothing more is to be read.
-fn serve(
-    number: u64,
-    nodes: &mut [u8],
-    copies: &mut [u8],
-    watches: &mut [u8],
-    transactions: &mut [u8],
-    domains: &mut [u8],
-    events: &mut [u8],
-) -> bool {
+// Makes the call of each message that is read, and prints its line. The number of a line falls short of its largest value in
+// any run, and the count is what makes the loop end.
+fn serve_all(
+    nodes: &mut [u8; TABLE_SIZE],
+    copies: &mut [u8; COPIES_SIZE],
+    watches: &mut [u8; WATCHES_SIZE],
+    transactions: &mut [u8; TRANSACTIONS_SIZE],
+    domains: &mut [u8; DOMAINS_SIZE],
+) {
     let mut input = [0u8; INPUT_SIZE];
-    let end = read_message(&mut input);
-    if end < HEAD_SIZE {
-        return false;
-    }
-    let from = sender(input[0], input[1]);
     let mut reply = [0u8; REPLY_SIZE];
+    let mut events = [0u8; EVENTS_SIZE];
     let mut reply_length: u32 = 0;
     let mut event_count: u32 = 0;
     let mut page: u64 = 0;
     let mut channel: u32 = 0;
-    let call = haabuvilk_request(
-        nodes,
-        copies,
-        watches,
-        transactions,
-        domains,
-        from,
-        &input[2..end],
-        &mut reply,
-        events,
-        &mut reply_length,
-        &mut event_count,
-        &mut page,
-        &mut channel,
-    );
-    let is_printed = print_call(number, call, &reply, event_count);
-    is_printed && !is_oversize(&input)
-}
-
-// The number of a line falls short of its largest value in any run, and the count is what makes the loop end.
-fn serve_all(
-    nodes: &mut [u8],
-    copies: &mut [u8],
-    watches: &mut [u8],
-    transactions: &mut [u8],
-    domains: &mut [u8],
-    events: &mut [u8],
-) {
     let mut number: u64 = 1;
-    while number < u64::MAX
-        && serve(
-            number,
+    while number < u64::MAX && read_message(&mut input) {
+        let end = end_of(&input);
+        let call = haabuvilk_request(
             nodes,
             copies,
             watches,
             transactions,
             domains,
-            events,
-        )
-    {
+            two(&input, 0),
+            &input[MESSAGE_AT..end],
+            &mut reply,
+            &mut events,
+            &mut reply_length,
+            &mut event_count,
+            &mut page,
+            &mut channel,
+        );
+        if !print_call(number, call, &reply, event_count) || is_oversize(&input) {
+            return;
+        }
         number += 1;
     }
 }
@@ -89,7 +66,6 @@ fn main() {
     let mut watches = [0u8; WATCHES_SIZE];
     let mut transactions = [0u8; TRANSACTIONS_SIZE];
     let mut domains = [0u8; DOMAINS_SIZE];
-    let mut events = [0u8; EVENTS_SIZE];
     haabuvilk_fresh(
         &mut nodes,
         &mut copies,
@@ -103,6 +79,5 @@ fn main() {
         &mut watches,
         &mut transactions,
         &mut domains,
-        &mut events,
     );
 }

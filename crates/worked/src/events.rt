@@ -4,14 +4,17 @@ use crate::print::print_number;
 use crate::print::print_octets;
 use crate::words::part;
 use haabuvilk::event_message::haabuvilk_event_message;
+use octets::sizes::DOMAINS_SIZE;
+use octets::sizes::EVENTS_SIZE;
 use octets::sizes::HEADER_SIZE;
 use octets::sizes::MESSAGE_SIZE;
+use octets::sizes::WATCHES_SIZE;
 
 // Prints the payload of the event message of a record for a watch, if there is one.
 fn print_event<'a>(
-    watches: &'a [u8],
-    domains: &[u8],
-    events: &'a [u8],
+    watches: &'a [u8; WATCHES_SIZE],
+    domains: &[u8; DOMAINS_SIZE],
+    events: &'a [u8; EVENTS_SIZE],
     event_count: u32,
     record: u32,
     watch: u32,
@@ -31,16 +34,17 @@ fn print_event<'a>(
     if call != 0 {
         return;
     }
-    print_number(b"    watch ", watch);
+    print(b"    watch");
+    print_number(watch);
     print(b" hears ");
     print_octets(part(&message, HEADER_SIZE, length as usize));
     print(b"\n");
 }
 
 fn print_record<'a>(
-    watches: &'a [u8],
-    domains: &[u8],
-    events: &'a [u8],
+    watches: &'a [u8; WATCHES_SIZE],
+    domains: &[u8; DOMAINS_SIZE],
+    events: &'a [u8; EVENTS_SIZE],
     event_count: u32,
     record: u32,
 ) {
@@ -52,7 +56,12 @@ fn print_record<'a>(
 }
 
 // Prints a line for each watch and each record that it hears.
-pub fn print_events<'a>(watches: &'a [u8], domains: &[u8], events: &'a [u8], event_count: u32) {
+pub fn print_events<'a>(
+    watches: &'a [u8; WATCHES_SIZE],
+    domains: &[u8; DOMAINS_SIZE],
+    events: &'a [u8; EVENTS_SIZE],
+    event_count: u32,
+) {
     let mut record: u32 = 0;
     while record < event_count {
         print_record(watches, domains, events, event_count, record);

@@ -1,4 +1,4 @@
-// The words of a step.
+// The words of a line.
 ghost use Prim.Native.Nat.{_≤_, min};
 ghost use lib.ListN.{length};
 use octets::Number;
@@ -26,6 +26,30 @@ pub fn part(s: &[u8], start: usize, end: usize) -> &[u8] {
         return &s[..0];
     }
     &s[start..end]
+}
+
+// What stands behind the first k blanks.
+pub fn behind(s: &[u8], k: usize) -> &[u8] {
+    let mut at = 0;
+    let mut i = 0;
+    while i < k && at < s.len() {
+        at = find(s, at, b' ') + 1;
+        i += 1;
+    }
+    part(s, at, s.len())
+}
+
+// The word behind the first k blanks.
+pub fn word(s: &[u8], k: usize) -> &[u8] {
+    let rest = behind(s, k);
+    part(rest, 0, find(rest, 0, b' '))
+}
+
+pub fn is_number(word: &[u8]) -> bool {
+    match number_in(word, 0, 4294967295) {
+        Number::Is(_) => true,
+        Number::Not => false,
+    }
 }
 
 // The number that a word says, or 0.

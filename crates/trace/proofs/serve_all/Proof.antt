@@ -1,74 +1,94 @@
+-- The buffers keep their sizes, and the number of lines has a largest value, which it never passes.
 use mathlib.Core.Path.{_≡_}
 use Prim.Native.Nat.{_-_, _^_}
 use lib.ListN.{length}
+use Rattle.rules.specs.Size.{eventsSize}
 use borrow.Author.Needs.{needs}
 use Rattle.trace.proofs.serve_all.Statement.{statement}
 use Rattle.trace.proofs.serve_all.Tie as tie
 
 abbrev Inv-loop : tie.InvT-loop
-Inv-loop nodes₀ copies₀ watches₀ transactions₀ domains₀ events₀ number₀ nodes copies watches transactions domains events number =
-    (length nodes ≡ length nodes₀) × ((length copies ≡ length copies₀) × ((length watches ≡ length watches₀) × ((length transactions ≡ length transactions₀) × ((length domains ≡ length domains₀) × (length events ≡ length events₀)))))
+Inv-loop nodes₀ copies₀ watches₀ transactions₀ domains₀ input₀ reply₀ events₀ reply-length₀ event-count₀ page₀ channel₀ number₀
+    nodes copies watches transactions domains input reply events reply-length event-count page channel number =
+    (length input ≡ 4114) × ((length reply ≡ 4112) × (length events ≡ eventsSize))
 
 abbrev μ-loop : tie.MeasureT-loop
-μ-loop nodes₀ copies₀ watches₀ transactions₀ domains₀ events₀ number₀ nodes copies watches transactions domains events number =
+μ-loop nodes₀ copies₀ watches₀ transactions₀ domains₀ input₀ reply₀ events₀ reply-length₀ event-count₀ page₀ channel₀ number₀
+    nodes copies watches transactions domains input reply events reply-length event-count page channel number =
     2 ^ 64 - number
 
 loop-holds : tie.Need-loop-holds Inv-loop μ-loop
 loop-holds c = search needs
 
-serve-requires : tie.Need-serve-requires Inv-loop μ-loop
-serve-requires c κs = search needs
+slice-aggregate-read-message : tie.Need-slice-aggregate-read-message Inv-loop μ-loop
+slice-aggregate-read-message c = search needs
 
-add-number : tie.Need-add-number Inv-loop μ-loop
-add-number c = search needs
+read-message-requires : tie.Need-read-message-requires Inv-loop μ-loop
+read-message-requires c κs = search needs
 
-loop-less : tie.Need-loop-less Inv-loop μ-loop
-loop-less c = search needs
+slice-aggregate-end-of : tie.Need-slice-aggregate-end-of Inv-loop μ-loop
+slice-aggregate-end-of c = search needs
 
-loop-again : tie.Need-loop-again Inv-loop μ-loop
-loop-again c = search needs
+end-of-requires : tie.Need-end-of-requires Inv-loop μ-loop
+end-of-requires c κs = search needs
 
-same-length : tie.Need-same-length Inv-loop μ-loop
-same-length c = search needs
+slice-aggregate-two : tie.Need-slice-aggregate-two Inv-loop μ-loop
+slice-aggregate-two c = search needs
 
-same-length-2 : tie.Need-same-length-2 Inv-loop μ-loop
-same-length-2 c = search needs
+two-requires : tie.Need-two-requires Inv-loop μ-loop
+two-requires c κs = search needs
 
-same-length-3 : tie.Need-same-length-3 Inv-loop μ-loop
-same-length-3 c = search needs
+sub-haabuvilk-request : tie.Need-sub-haabuvilk-request Inv-loop μ-loop
+sub-haabuvilk-request c = search needs
 
-same-length-4 : tie.Need-same-length-4 Inv-loop μ-loop
-same-length-4 c = search needs
+part-haabuvilk-request-start : tie.Need-part-haabuvilk-request-start Inv-loop μ-loop
+part-haabuvilk-request-start c = search needs
 
-same-length-5 : tie.Need-same-length-5 Inv-loop μ-loop
-same-length-5 c = search needs
+part-haabuvilk-request-end : tie.Need-part-haabuvilk-request-end Inv-loop μ-loop
+part-haabuvilk-request-end c = search needs
 
-same-length-6 : tie.Need-same-length-6 Inv-loop μ-loop
-same-length-6 c = search needs
+slice-aggregate-haabuvilk-request : tie.Need-slice-aggregate-haabuvilk-request Inv-loop μ-loop
+slice-aggregate-haabuvilk-request c = search needs
+
+slice-aggregate-haabuvilk-request-2 : tie.Need-slice-aggregate-haabuvilk-request-2 Inv-loop μ-loop
+slice-aggregate-haabuvilk-request-2 c = search needs
+
+haabuvilk-request-requires : tie.Need-haabuvilk-request-requires Inv-loop μ-loop
+haabuvilk-request-requires c κs = search needs
+
+print-call-requires : tie.Need-print-call-requires Inv-loop μ-loop
+print-call-requires c κs = search needs
+
+is-oversize-requires : tie.Need-is-oversize-requires Inv-loop μ-loop
+is-oversize-requires c κs = search needs
 
 returns : tie.Need-returns Inv-loop μ-loop
 returns c = search needs
 
-same-length-7 : tie.Need-same-length-7 Inv-loop μ-loop
-same-length-7 c = search needs
+add-number : tie.Need-add-number Inv-loop μ-loop
+add-number c =
+    let print = c .before .before .before .before .before .before .before .before .before .before in
+    let call = print .before .before .before .before .before .before .before .before .before .before in
+    search (needs, call .before .before .before .before .before .before .before .before .before .before .loop-test)
 
-same-length-8 : tie.Need-same-length-8 Inv-loop μ-loop
-same-length-8 c = search needs
+loop-less : tie.Need-loop-less Inv-loop μ-loop
+loop-less c =
+    let print = c .before .before .before .before .before .before .before .before .before .before in
+    let call = print .before .before .before .before .before .before .before .before .before .before in
+    search (needs, call .before .before .before .before .before .before .before .before .before .before .loop-test)
 
-same-length-9 : tie.Need-same-length-9 Inv-loop μ-loop
-same-length-9 c = search needs
-
-same-length-10 : tie.Need-same-length-10 Inv-loop μ-loop
-same-length-10 c = search needs
-
-same-length-11 : tie.Need-same-length-11 Inv-loop μ-loop
-same-length-11 c = search needs
-
-same-length-12 : tie.Need-same-length-12 Inv-loop μ-loop
-same-length-12 c = search needs
+loop-again : tie.Need-loop-again Inv-loop μ-loop
+loop-again c =
+    let print = c .before .before .before .before .before .before .before .before .before .before in
+    let call = print .before .before .before .before .before .before .before .before .before .before in
+    let begun = call .before .before .before .before .before .before .before .before in
+    (search (needs, begun .read-message, begun .before .before .before .loop), (search needs, search needs))
 
 returns-2 : tie.Need-returns-2 Inv-loop μ-loop
 returns-2 c = search needs
+
+returns-3 : tie.Need-returns-3 Inv-loop μ-loop
+returns-3 c = search needs
 
 pub serve-all-spec : {M : Type 1} → statement M
 serve-all-spec =
@@ -77,21 +97,23 @@ serve-all-spec =
     Inv-loop
     μ-loop
     loop-holds
-    serve-requires
+    slice-aggregate-read-message
+    read-message-requires
+    slice-aggregate-end-of
+    end-of-requires
+    slice-aggregate-two
+    two-requires
+    sub-haabuvilk-request
+    part-haabuvilk-request-start
+    part-haabuvilk-request-end
+    slice-aggregate-haabuvilk-request
+    slice-aggregate-haabuvilk-request-2
+    haabuvilk-request-requires
+    print-call-requires
+    is-oversize-requires
+    returns
     add-number
     loop-less
     loop-again
-    same-length
-    same-length-2
-    same-length-3
-    same-length-4
-    same-length-5
-    same-length-6
-    returns
-    same-length-7
-    same-length-8
-    same-length-9
-    same-length-10
-    same-length-11
-    same-length-12
-    returns-2)
+    returns-2
+    returns-3)

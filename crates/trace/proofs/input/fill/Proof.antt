@@ -1,3 +1,4 @@
+-- Each read that gives bytes leaves fewer to be read.
 use mathlib.Core.Path.{_≡_}
 use Prim.Native.Nat.{_≤_, _-_}
 use lib.ListN.{length}

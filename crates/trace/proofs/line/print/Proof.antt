@@ -1,3 +1,4 @@
+-- Five numbers of at most 20 digits, each with a byte behind it, are 105 bytes.
 use mathlib.Core.Path.{sym}
 use native.Mathlib.Omega.{arith}
 use lib.Seq.{length-take-le}

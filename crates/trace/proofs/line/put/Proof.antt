@@ -1,3 +1,4 @@
+-- A number of 64 bits has at most 20 digits, and a byte stands behind it.
 use Prim.Native.Nat.{ℕ, _<_, _≤_, _^_}
 use lib.Dec.{lit≤}
 use native.Mathlib.Omega.{arith}

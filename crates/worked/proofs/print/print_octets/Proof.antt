@@ -1,3 +1,4 @@
+-- At most 64 bytes are put into a text of 64.
 use mathlib.Core.Path.{_≡_, sym}
 use Prim.Native.Nat.{_≤_, _-_}
 use native.Mathlib.Omega.{arith}

@@ -1,3 +1,4 @@
+-- A turn prints one of the bytes, and there is a place for each.
 use Prim.Native.Nat.{_≤_, _-_}
 use lib.ListN.{length}
 use borrow.Author.Needs.{needs}
@@ -5,10 +6,19 @@ use Rattle.worked.proofs.print.print_slot.Statement.{statement}
 use Rattle.worked.proofs.print.print_slot.Tie as tie
 
 abbrev Inv-loop : tie.InvT-loop
-Inv-loop nodes slot start three i₀ t7 i = i ≤ length three
+Inv-loop nodes line start three i₀ t7 i = i ≤ length three
 
 abbrev μ-loop : tie.MeasureT-loop
-μ-loop nodes slot start three i₀ t7 i = length three - i
+μ-loop nodes line start three i₀ t7 i = length three - i
+
+word-requires : tie.Need-word-requires Inv-loop μ-loop
+word-requires c κs = search needs
+
+number-requires : tie.Need-number-requires Inv-loop μ-loop
+number-requires c κs = search needs
+
+cast-start : tie.Need-cast-start Inv-loop μ-loop
+cast-start c = search needs
 
 mul-start : tie.Need-mul-start Inv-loop μ-loop
 mul-start c = search needs
@@ -58,6 +68,9 @@ print-slot-spec =
     (tie.spec
     Inv-loop
     μ-loop
+    word-requires
+    number-requires
+    cast-start
     mul-start
     add-part
     part-requires

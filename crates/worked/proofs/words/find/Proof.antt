@@ -1,3 +1,4 @@
+-- The place goes up from `from`, and stops at the end.
 use Prim.Native.Nat.{_≤_, _-_}
 use lib.ListN.{length}
 use borrow.Author.Needs.{needs}

@@ -1,3 +1,4 @@
+-- A turn for each of the 14 types.
 use Prim.Native.Nat.{_≤_, _-_}
 use borrow.Author.Needs.{needs}
 use Rattle.worked.proofs.words.type_of.Statement.{statement}
