@@ -15,13 +15,13 @@ use call::ask;
 use form::is_formed;
 use form::is_slot;
 use haabuvilk::fresh::haabuvilk_fresh;
+use libc::STDERR_FILENO;
 use libc::STDIN_FILENO;
 use octets::sizes::COPIES_SIZE;
 use octets::sizes::DOMAINS_SIZE;
 use octets::sizes::TABLE_SIZE;
 use octets::sizes::TRANSACTIONS_SIZE;
 use octets::sizes::WATCHES_SIZE;
-use print::complain;
 use print::print;
 use print::print_slot;
 use print::print_words;
@@ -74,7 +74,10 @@ fn main() {
     let mut input = [0u8; INPUT_SIZE];
     let n = io::read_full(STDIN_FILENO, &mut input);
     if n == INPUT_SIZE {
-        complain(b"16,384 bytes or more");
+        io::write_all(
+            STDERR_FILENO,
+            b"worked: the input has 16,384 bytes or more\n",
+        );
         return;
     }
     if !is_formed(&input[..n]) {

@@ -29,10 +29,10 @@ pub fn print_words(input: &[u8], from: usize) -> usize
     end + 1
 }
 
-// Tells standard error what the input has that is no worked line.
-pub fn complain(what: &[u8]) {
+// Tells standard error which line of the input is not of the form.
+pub fn complain(line: &[u8]) {
     io::write_all(STDERR_FILENO, b"worked: neither words nor a step: ");
-    io::write_all(STDERR_FILENO, what);
+    io::write_all(STDERR_FILENO, line);
     io::write_all(STDERR_FILENO, b"\n");
 }
 

@@ -28,7 +28,7 @@ slice-aggregate-haabuvilk-fresh-5 : tie.Need-slice-aggregate-haabuvilk-fresh-5 I
 slice-aggregate-haabuvilk-fresh-5 c = search needs
 
 haabuvilk-fresh-requires : tie.Need-haabuvilk-fresh-requires Inv-loop μ-loop
-haabuvilk-fresh-requires c κs = search needs
+haabuvilk-fresh-requires c κs = tt
 
 print-words-requires : tie.Need-print-words-requires Inv-loop μ-loop
 print-words-requires c κs = search needs
@@ -40,22 +40,22 @@ shared-slice-read-if1 : tie.Need-shared-slice-read-if1 Inv-loop μ-loop
 shared-slice-read-if1 c = search needs
 
 find-requires : tie.Need-find-requires Inv-loop μ-loop
-find-requires c κs = search needs
+find-requires c κs = tt
 
 part-requires : tie.Need-part-requires Inv-loop μ-loop
-part-requires c κs = search needs
+part-requires c κs = tt
 
 print-requires : tie.Need-print-requires Inv-loop μ-loop
-print-requires c κs = search needs
+print-requires c κs = tt
 
 is-slot-requires : tie.Need-is-slot-requires Inv-loop μ-loop
-is-slot-requires c κs = search needs
+is-slot-requires c κs = tt
 
 print-slot-requires : tie.Need-print-slot-requires Inv-loop μ-loop
-print-slot-requires c κs = search needs
+print-slot-requires c κs = tt
 
 ask-requires : tie.Need-ask-requires Inv-loop μ-loop
-ask-requires c κs = search needs
+ask-requires c κs = tt
 
 add-at : tie.Need-add-at Inv-loop μ-loop
 add-at c = search needs

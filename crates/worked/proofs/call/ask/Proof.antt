@@ -23,10 +23,10 @@ put-message-requires : tie.Need-put-message-requires Inv-loop μ-loop
 put-message-requires c κs = search needs
 
 sender-requires : tie.Need-sender-requires Inv-loop μ-loop
-sender-requires c κs = search needs
+sender-requires c κs = tt
 
 times-requires : tie.Need-times-requires Inv-loop μ-loop
-times-requires c κs = search needs
+times-requires c κs = tt
 
 loop-holds : tie.Need-loop-holds Inv-loop μ-loop
 loop-holds c = search needs
@@ -47,7 +47,7 @@ slice-aggregate-haabuvilk-request-2 : tie.Need-slice-aggregate-haabuvilk-request
 slice-aggregate-haabuvilk-request-2 c = search needs
 
 haabuvilk-request-requires : tie.Need-haabuvilk-request-requires Inv-loop μ-loop
-haabuvilk-request-requires c κs = search needs
+haabuvilk-request-requires c κs = tt
 
 slice-aggregate-count-up : tie.Need-slice-aggregate-count-up Inv-loop μ-loop
 slice-aggregate-count-up c = search needs
@@ -56,7 +56,7 @@ count-up-requires : tie.Need-count-up-requires Inv-loop μ-loop
 count-up-requires c κs = search needs
 
 still-requires : tie.Need-still-requires Inv-loop μ-loop
-still-requires c κs = search needs
+still-requires c κs = tt
 
 loop-less : tie.Need-loop-less Inv-loop μ-loop
 loop-less c = search needs
@@ -65,13 +65,13 @@ loop-again : tie.Need-loop-again Inv-loop μ-loop
 loop-again c = (search needs, (search needs, search needs))
 
 print-reply-requires : tie.Need-print-reply-requires Inv-loop μ-loop
-print-reply-requires c κs = search needs
+print-reply-requires c κs = tt
 
 print-events-requires : tie.Need-print-events-requires Inv-loop μ-loop
-print-events-requires c κs = search needs
+print-events-requires c κs = tt
 
 returns : tie.Need-returns Inv-loop μ-loop
-returns c = search needs
+returns c = tt
 
 pub ask-spec : {M : Type 1} → statement M
 ask-spec =
