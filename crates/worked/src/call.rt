@@ -91,6 +91,39 @@ fn still(left: u32, reply: &[u8; REPLY_SIZE]) -> u32
     left - 1
 }
 
+// Makes the call, and answers its number; what is told of a new domain is dropped.
+fn request(
+    nodes: &mut [u8; TABLE_SIZE],
+    copies: &mut [u8; COPIES_SIZE],
+    watches: &mut [u8; WATCHES_SIZE],
+    transactions: &mut [u8; TRANSACTIONS_SIZE],
+    domains: &mut [u8; DOMAINS_SIZE],
+    from: u32,
+    message: &[u8],
+    reply: &mut [u8; REPLY_SIZE],
+    events: &mut [u8; EVENTS_SIZE],
+    event_count: &mut u32,
+) -> u32 {
+    let mut reply_length: u32 = 0;
+    let mut page: u64 = 0;
+    let mut channel: u32 = 0;
+    haabuvilk_request(
+        nodes,
+        copies,
+        watches,
+        transactions,
+        domains,
+        from,
+        message,
+        reply,
+        events,
+        &mut reply_length,
+        event_count,
+        &mut page,
+        &mut channel,
+    )
+}
+
 // Makes the calls of a request, and prints what came of the last.
 pub fn ask(
     nodes: &mut [u8; TABLE_SIZE],
@@ -103,29 +136,22 @@ pub fn ask(
     let mut message = [0u8; REPLY_SIZE];
     let mut reply = [0u8; REPLY_SIZE];
     let mut events = [0u8; EVENTS_SIZE];
-    let mut reply_length: u32 = 0;
     let mut event_count: u32 = 0;
-    let mut page: u64 = 0;
-    let mut channel: u32 = 0;
     let mut call: u32 = 0;
     let end = put_message(&mut message, line);
-    let from = sender(line);
     let mut left = times(line);
     while left != 0 {
-        call = haabuvilk_request(
+        call = request(
             nodes,
             copies,
             watches,
             transactions,
             domains,
-            from,
+            sender(line),
             &message[0..end],
             &mut reply,
             &mut events,
-            &mut reply_length,
             &mut event_count,
-            &mut page,
-            &mut channel,
         );
         count_up(&mut message, end);
         left = still(left, &reply);
