@@ -64,21 +64,25 @@ watch-decoded s head =
     }
 
 change-decoded : (s : Octets) → ChangeFits (changeIn s)
-unfolding changeIn namesIn allNames pathText
+unfolding changeIn namesIn allNames pathText bitsAt
 change-decoded s = go (given t) (means t)
   where
     t : Octets
     t = textAt s 2 longestPath (bitsAt (field s 0 2) 0 9)
 
+    few : bitsAt (field s 0 2) 9 3 < 8
+    few = mod-lt _ (lit< tt)
+
     go : (g : Given) → Means t g
         → ChangeFits (record {
           removal = eqb (bitsAt (field s 0 2) 15 1) 1;
+          parents = bitsAt (field s 0 2) 9 3;
           names = elim g [ malformed ↦ [] | absolute ns ↦ ns | relative ns ↦ [] | special e ↦ [] ];
         })
-    go malformed m = record { names = refl; short = lit≤ tt }
-    go (absolute ns) m = record { names = m .names; short = rw (← m .text) (text-short s 2 longestPath _) }
-    go (relative ns) m = record { names = refl; short = lit≤ tt }
-    go (special e) m = record { names = refl; short = lit≤ tt }
+    go malformed m = record { parents = few; names = refl; short = lit≤ tt }
+    go (absolute ns) m = record { parents = few; names = m .names; short = rw (← m .text) (text-short s 2 longestPath _) }
+    go (relative ns) m = record { parents = few; names = refl; short = lit≤ tt }
+    go (special e) m = record { parents = few; names = refl; short = lit≤ tt }
 
 pub transaction-in : (s : Octets) (x : Transaction) → transactionIn s ≡ some x → transactionAt s (field s 0 3) ≡ x
 unfolding transactionIn

@@ -3,7 +3,7 @@ use mathlib.Core.Path.{_≡_, refl, sym, _∙_, ap, subst}
 use mathlib.Core.Bool.{Bool, true, false, not, _&&_, false≢true, and-eq-true-iff}
 use mathlib.Core.List.{List, [], _∷_, nil≢cons, cons≢nil, head-eq-of-cons-eq}
 use mathlib.Core.Option.{Option, none, some}
-use Prim.Native.Nat.{ℕ, zero, suc, _+_, _≤_}
+use Prim.Native.Nat.{ℕ, zero, suc, _+_, _-_, _≤_, _<_}
 use native.Mathlib.Omega.{arith}
 use lib.ListN.{length, getD}
 use lib.Dec.{eqb, leb, eqb·suc-zero}
@@ -25,6 +25,8 @@ use Rattle.rules.proofs.GoodTables.{Good, nodeAt-is, IsChild, child-som
 use Rattle.rules.proofs.RootWays.{reaches-node, node-reaches, root-reaches, reaches-zero}
 use Rattle.rules.proofs.GoodNodes.{rewritten, NoChild, made-good, removed-good}
 use Rattle.rules.proofs.Senders.{control-zero}
+use Rattle.rules.proofs.Changes.{GoodParts, parts-good}
+use Rattle.rules.proofs.Absent.{left-short}
 
 -- ── where a path leads ──
 
@@ -218,29 +220,39 @@ there-fits t g f ns a l =
     and-eq-true-iff (leb (length ns) deepest) (shortNames ns) .1 (le-leb (length ns) deepest (omega (arith, r .1)), short-there t f ns 0 l)
 
 module _ (d : Domain) (ns : Names) (t : Table) (g : Good t) (f : Fitting t) (names : allNames ns ≡ true) where
-  -- an answer's change names the path, and is a good one
+  -- an answer's change names the path, is a good one, and has fewer new parents than names of the path are left, if any are
   abbrev Told : Answer → Type 0
-  Told a = (c : Change) → a .change ≡ some c → (c .names ≡ ns) × (goodChange c ≡ true)
+  Told a = (c : Change) → a .change ≡ some c → (c .names ≡ ns) × (goodChange c ≡ true) × (c .parents ≤ length (reach t ns .left) - 1)
 
   untold : (r : Reply) → Told (unchanged d ns t r)
   unfolding unchanged
   untold r c e = absurd (nothing e)
 
-  told : (removal : Bool) (after : Table) → fits ns ≡ true → (removal ≡ true → ns ≡ [] → ⊥) → Told (changed d ns t removal after)
-  unfolding changed goodChange
-  told removal after h z c e = rw (← some-is e) (refl, and-eq-true-iff (fits ns) (not (removal && eqb (length ns) 0)) .1 (h, go removal ns z))
-    where
-      go : (b : Bool) (ns : Names) → (b ≡ true → ns ≡ [] → ⊥) → not (b && eqb (length ns) 0) ≡ true
-      go false ns z = refl
-      go true [] z = absurd (z refl refl)
-      go true (n ∷ ns) z = rw eqb·suc-zero
+  told : (removal : Bool) (parents : ℕ) (after : Table) → fits ns ≡ true → parents ≤ length (reach t ns .left) - 1
+      → (removal ≡ true → (parents ≡ 0) × (0 < length ns)) → Told (changed d ns t removal parents after)
+  unfolding changed reach
+  told removal parents after h p z c e =
+      let parts : GoodParts (record { removal = removal; parents = parents; names = ns }) =
+      record { fitting = h; above = omega (arith, left-short ns t 0); removed = z } in
+      rw (← some-is e) (refl, parts-good _ parts, p)
 
-  created-told : (r : Reached) (v : Octets) → Told (created d ns t r v)
+  -- a node that is there is written, or has its entries set
+  rewritten-told : (after : Table) → reach t ns .left ≡ [] → Told (changed d ns t false 0 after)
+  rewritten-told after e = told false 0 after (there-fits t g f ns names e) (omega arith) (λ b. absurd (false≢true b))
+
+  created-told : (r : Reached) (v : Octets) → reach t ns ≡ r → Told (created d ns t r v)
   unfolding created
-  created-told r v =
+  created-told r v e =
+      let few : length (r .left) - 1 ≤ length (reach t ns .left) - 1 = rw e (omega arith) in
       cond-case Told (mayWrite d (nodeAt t (r .slot))) _ _
-      (cond-known Told (room d ns t (r .left) v) _ _ (λ h. told false _ (roomy d ns t (r .left) v h .1) (λ b. absurd (false≢true b))) (λ h. untold _))
+      (cond-known Told (room d ns t (r .left) v) _ _ (λ h. told false _ _ (roomy d ns t (r .left) v h .1) few (λ b. absurd (false≢true b)))
+      (λ h. untold _))
       (untold _)
+
+  below-root : (ns : Names) → proper rm ns ≡ true → 0 < length ns
+  unfolding proper onRoot
+  below-root [] p = absurd (false≢true p)
+  below-root (n ∷ ns) p = omega arith
 
   answered-told : (a : Ask) → proper a ns ≡ true → (l : Names) (i : ℕ) → reach t ns ≡ record { slot = i; left = l } →
       Told (answered d ns t a (record { slot = i; left = l }))
@@ -252,22 +264,27 @@ module _ (d : Domain) (ns : Names) (t : Table) (g : Good t) (f : Fitting t) (nam
   answered-told getPerms p [] i e = untold _
   answered-told getPerms p (n ∷ l) i e = untold _
   answered-told (write v) p [] i e =
-      cond-case Told (mayWrite d (nodeAt t i)) _ _ (cond-case Told (leb (length v) longestValue) _ _
-      (told false _ (there-fits t g f ns names (ap Reached.left e)) (λ b. absurd (false≢true b))) (untold _)) (untold _)
-  answered-told (write v) p (n ∷ l) i e = created-told _ v
+      cond-case Told (mayWrite d (nodeAt t i)) _ _ 
+      (cond-case Told (leb (length v) longestValue) _ _ (rewritten-told _ (ap Reached.left e)) (untold _)) (untold _)
+  answered-told (write v) p (n ∷ l) i e = created-told _ v e
   answered-told mkdir p [] i e = untold _
-  answered-told mkdir p (n ∷ l) i e = created-told _ []
+  answered-told mkdir p (n ∷ l) i e = created-told _ [] e
   answered-told rm p [] i e = cond-case Told (mayWrite d (nodeAt t i)) _ _
-      (told true _ (there-fits t g f ns names (ap Reached.left e)) (λ b z. false≢true (rw (z, proper) at p))) (untold _)
+      (told true 0 _ (there-fits t g f ns names (ap Reached.left e)) (omega arith) (λ b. (refl, below-root ns p))) (untold _)
   answered-told rm p (n ∷ l) i e = untold _
   answered-told (setPerms o es) p [] i e =
       cond-case Told (maySet d ns t (nodeAt t i) o) _ _
-      (cond-case Told (leb (suc (length es)) mostEntries) _ _ (told false _ (there-fits t g f ns names (ap Reached.left e)) (λ b. absurd (false≢true b)))
-      (untold _)) (untold _)
+      (cond-case Told (leb (suc (length es)) mostEntries) _ _ (rewritten-told _ (ap Reached.left e)) (untold _)) (untold _)
   answered-told (setPerms o es) p (n ∷ l) i e = untold _
 
--- a node request's change names its path, within the sizes
-pub change-good : (d : Domain) (a : Ask) (ns : Names) (t : Table) → Good t → Fitting t → allNames ns ≡ true → proper a ns ≡ true
-    → (c : Change) → answer d a ns t .change ≡ some c → (c .names ≡ ns) × (goodChange c ≡ true)
-unfolding answer
-change-good d a ns t g f hn hp = answered-told d ns t g f hn a hp (reach t ns .left) (reach t ns .slot) refl
+module _ (d : Domain) (a : Ask) (ns : Names) (t : Table) (g : Good t) (f : Fitting t) (names : allNames ns ≡ true) (p : proper a ns ≡ true) (c : Change)
+    (e : answer d a ns t .change ≡ some c) where
+  -- a node request's change names its path, within the sizes
+  pub change-good : (c .names ≡ ns) × (goodChange c ≡ true)
+  unfolding answer
+  change-good = let h = answered-told d ns t g f names a p (reach t ns .left) (reach t ns .slot) refl c e in (h .0, h .1)
+
+  -- and the parents that it created were not there
+  pub parents-absent : c .parents ≤ length (reach t ns .left) - 1
+  unfolding answer
+  parents-absent = answered-told d ns t g f names a p (reach t ns .left) (reach t ns .slot) refl c e .2

@@ -19,6 +19,8 @@ pub mod EntryLayouts
 pub mod TransactionLayouts
 pub mod DecodedEntries
 pub mod PathLaws
+pub mod Changes
+pub mod Absent
 pub mod BelowLaws
 pub mod Joined
 pub mod RelativeLaws

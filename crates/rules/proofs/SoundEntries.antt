@@ -24,6 +24,7 @@ use Rattle.rules.proofs.Compare.{same-eq, eq-same}
 use Rattle.rules.proofs.Tables.{Each, each-set, each-map}
 use Rattle.rules.proofs.Places.{nothing, some-is, At, set-cases, not-has}
 use Rattle.rules.proofs.PathLaws.{Means, means, fits-length}
+use Rattle.rules.proofs.Changes.{good-parts, parents-few}
 use Rattle.rules.proofs.GoodTables.{Good}
 use Rattle.rules.proofs.GoodRequests.{PlaceGood, DepthGood}
 use Rattle.rules.proofs.EntryLayouts.{PlaceFits, DepthFits}
@@ -178,9 +179,6 @@ place-fits w c (path r ns) h f = (f .0, fits-length ns h)
 place-fits w c (event e) h f = (f, special-is e f .1)
 
 pub change-fits : (c : Change) (ns : Names) → allNames ns ≡ true → (c .names ≡ ns) × (goodChange c ≡ true) → ChangeFits c
-unfolding goodChange
 change-fits c ns h t =
-    record {
-      names = rw (t .0) h;
-      short = fits-length (c .names) (and-eq-true-iff (fits (c .names)) (not (c .removal && eqb (length (c .names)) 0)) .0 (t .1) .0);
-    }
+    let p = good-parts c (t .1) in
+    record { parents = parents-few c p; names = rw (t .0) h; short = fits-length (c .names) (p .fitting) }

@@ -12,14 +12,15 @@ use Rattle.rules.specs.Size.{longestPath, mostChanges, changeSize, trans
 use Rattle.rules.specs.Octets.{Octets, padded, bit, _bits_, chunks, bigEndian, bigFrom, field, pack, packFrom, bitsAt}
 use Rattle.rules.specs.Path.{allNames, pathText, namesIn}
 use Rattle.rules.specs.Answer.{Change}
-use Rattle.rules.specs.Layout.{textAt, changeBytes, transactionBytes, changeIn, transactionAt, transactionIn, transactionsBytes, transactionsOf}
-use Rattle.rules.specs.Layout.{Transactions, Transaction}
+use Rattle.rules.specs.Layout.{textAt, changeBits, changeBytes, transactionBytes, changeIn, transactionAt, transactionIn, transactionsBytes}
+use Rattle.rules.specs.Layout.{transactionsOf, Transactions, Transaction}
 use Rattle.rules.proofs.Slots.{length-padded, text-padded}
 use Rattle.rules.proofs.Tables.{Each, each-map, length-encoded, decoded, decoded-at}
 use Rattle.rules.proofs.PathLaws.{text-names}
 use Rattle.rules.proofs.Fields.{length-big, field-first, bit-small, bit-back}
 
 pub record ChangeFits (c : Change) : Type 0 where
+  pub parents : c .parents < 8
   pub names : allNames (c .names) ≡ true
   pub short : length (pathText (c .names)) ≤ longestPath
 
@@ -30,22 +31,23 @@ pub record TransactionFits (x : Transaction) : Type 0 where
 
 -- ── changes ──
 
-change-head : (b l : ℕ) → b < 2 → l < 512
-    → let m = pack (1 bits b ∷ 6 bits 0 ∷ 9 bits l ∷ []) in (m < 256 ^ 2) × (bitsAt m 15 1 ≡ b) × (bitsAt m 0 9 ≡ l)
+change-head : (b k l : ℕ) → b < 2 → k < 8 → l < 512
+    → let m = pack (1 bits b ∷ 3 bits 0 ∷ 3 bits k ∷ 9 bits l ∷ []) in (m < 256 ^ 2) × (bitsAt m 15 1 ≡ b) × (bitsAt m 9 3 ≡ k) × (bitsAt m 0 9 ≡ l)
 unfolding pack packFrom bitsAt
-change-head b l hb hl = (omega arith, omega arith, omega arith)
+change-head b k l hb hk hl = (omega arith, omega arith, omega arith, omega arith)
 
 module _ (c : Change) (f : ChangeFits c) where
   change-fields : ℕ
-  change-fields = pack (1 bits bit (c .removal) ∷ 6 bits 0 ∷ 9 bits length (pathText (c .names)) ∷ [])
+  change-fields = pack (changeBits c)
 
   change-seam : changeBytes c ≡ bigEndian 2 change-fields ++ (padded longestPath (pathText (c .names)) ++ [])
   unfolding changeBytes change-fields
   change-seam = rw (append-nil (padded longestPath (pathText (c .names))))
 
-  fields-read : (change-fields < 256 ^ 2) × (bitsAt change-fields 15 1 ≡ bit (c .removal)) × (bitsAt change-fields 0 9 ≡ length (pathText (c .names)))
-  unfolding change-fields
-  fields-read = change-head _ _ (bit-small (c .removal)) (omega (arith, f .short))
+  fields-read : (change-fields < 256 ^ 2) × (bitsAt change-fields 15 1 ≡ bit (c .removal)) × (bitsAt change-fields 9 3 ≡ c .parents)
+      × (bitsAt change-fields 0 9 ≡ length (pathText (c .names)))
+  unfolding change-fields changeBits
+  fields-read = change-head _ _ _ (bit-small (c .removal)) (f .parents) (omega (arith, f .short))
 
   change-width : length (changeBytes c) ≡ changeSize
   unfolding changeBytes
@@ -58,12 +60,12 @@ module _ (c : Change) (f : ChangeFits c) where
   change-names : namesIn (textAt (changeBytes c) 2 longestPath (bitsAt change-fields 0 9)) ≡ c .names
   change-names =
       ap namesIn (rw change-seam (text-padded (bigEndian 2 change-fields) (pathText (c .names)) [] 2 longestPath _ (length-big 2 change-fields) (f .short)
-      (fields-read .2)))
+      (fields-read .3)))
       ∙ text-names (c .names) (f .names) (omega (arith, f .short))
 
   change-read : changeIn (changeBytes c) ≡ c
   unfolding changeIn
-  change-read = rw change-head-read λ i. record { removal = removal-read i; names = change-names i }
+  change-read = rw change-head-read λ i. record { removal = removal-read i; parents = fields-read .2 i; names = change-names i }
     where
       removal-read : eqb (bitsAt change-fields 15 1) 1 ≡ c .removal
       removal-read = rw (fields-read .1) (bit-back (c .removal))

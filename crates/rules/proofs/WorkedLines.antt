@@ -18,15 +18,16 @@ use Rattle.rules.specs.Payload.{plain, writing, setting, settingAll, dep
 use Rattle.rules.specs.Payload.{introducePayload, ofDomain, bare, startPayload, endPayload, parse}
 use Rattle.rules.specs.Answer.{errnoText, OK, accessText, entryText, permissions, nameList, listing, listed, unchanged, changed, absent, looked}
 use Rattle.rules.specs.Answer.{sized, stocked, room, created, written, directoryMade, taken, maySet, permitted, answered, answer}
-use Rattle.rules.specs.Event.{placeText, deepEnough, mayHear, hearsAt, hears, maskOf, anyBit, kept, heardChange, heard, isEvent, heardOf}
-use Rattle.rules.specs.Event.{onlyFrom, firstHeard}
+use Rattle.rules.specs.Event.{placeText, lineage, eventsOf, deepEnough, mayHear, hearsAt, hears, maskOf, anyBit, kept, heardEvent}
+use Rattle.rules.specs.Event.{heardChange, heard, isEvent, heardOf, onlyFrom, firstHeard}
 use Rattle.rules.specs.Layout.{textAt, entryBits, nodeBits, slotBytes, entryAt, nodeOf, slotOf, tableBytes, tableOf, domainBytes, domainIn}
 use Rattle.rules.specs.Layout.{domainsBytes, domainsOf, isRelative, depthBits, watchBits, watchBytes, placeIn, watchAt, watchIn, watchesBytes}
-use Rattle.rules.specs.Layout.{watchesOf, changeBytes, transactionBytes, changeIn, transactionAt, transactionIn, transactionsBytes}
+use Rattle.rules.specs.Layout.{watchesOf, changeBits, changeBytes, transactionBytes, changeIn, transactionAt, transactionIn, transactionsBytes}
 use Rattle.rules.specs.Layout.{transactionsOf, maskBits, recordBytes}
 use Rattle.rules.specs.Sound.{goodEntries, reachesRoot, goodName, goodNode, goodNodes, goodRoot, clash, distinct, goodTable, soundTable}
 use Rattle.rules.specs.Sound.{introduced, known, goodDomains, soundDomains, noNul, strictlyBelow, eventDepth, goodPlace, twin, watched}
-use Rattle.rules.specs.Sound.{goodWatch, goodWatches, soundWatches, goodChange, goodChanges, goodTransactions, soundTransactions}
+use Rattle.rules.specs.Sound.{goodWatch, goodWatches, soundWatches, goodRemoval, goodChange, goodChanges, goodTransactions}
+use Rattle.rules.specs.Sound.{soundTransactions}
 use Rattle.rules.specs.World.{freshWorld, staled, staledIf, withoutTransactions, withoutWatches, speaksFor, left, to, onStore, transactionOf}
 use Rattle.rules.specs.World.{inTransaction, copyOf, asked, placeFits, watching, unwatching, starting, closing, committing, ending, introducing}
 use Rattle.rules.specs.World.{removalOf, releasing, resetting, forControl, forPlace, introducedText, handle}
@@ -44,12 +45,12 @@ unfolding domainOf isControl flatMap text same less begins allZero padded paste 
     children pathUp pathOf ownedBelow ownedBy withoutAll named accessOf mayRead mayWrite mayOwn readable before ended strings firstString accessLetter entryOf
     entriesOf namesOf placeOf onRoot proper asking plain writing setting settingAll depthFor watchingTo watchPayload unwatchPayload introducingOf
     introducePayload ofDomain bare startPayload endPayload parse errnoText OK accessText entryText permissions nameList listing listed unchanged changed absent
-    looked sized stocked room created written directoryMade taken maySet permitted answered answer placeText deepEnough mayHear hearsAt hears maskOf anyBit
-    kept heardChange heard isEvent heardOf onlyFrom firstHeard textAt entryBits nodeBits slotBytes entryAt nodeOf slotOf tableBytes tableOf domainBytes
-    domainIn domainsBytes domainsOf isRelative depthBits watchBits watchBytes placeIn watchAt watchIn watchesBytes watchesOf changeBytes transactionBytes
-    changeIn transactionAt transactionIn transactionsBytes transactionsOf maskBits recordBytes goodEntries reachesRoot goodName goodNode goodNodes goodRoot
+    looked sized stocked room created written directoryMade taken maySet permitted answered answer placeText lineage eventsOf deepEnough mayHear hearsAt hears
+    maskOf anyBit kept heardEvent heardChange heard isEvent heardOf onlyFrom firstHeard textAt entryBits nodeBits slotBytes entryAt nodeOf slotOf tableBytes tableOf
+    domainBytes domainIn domainsBytes domainsOf isRelative depthBits watchBits watchBytes placeIn watchAt watchIn watchesBytes watchesOf changeBits changeBytes
+    transactionBytes changeIn transactionAt transactionIn transactionsBytes transactionsOf maskBits recordBytes goodEntries reachesRoot goodName goodNode goodNodes goodRoot
     clash distinct goodTable soundTable introduced known goodDomains soundDomains noNul strictlyBelow eventDepth goodPlace twin watched goodWatch goodWatches
-    soundWatches goodChange goodChanges goodTransactions soundTransactions freshWorld staled staledIf withoutTransactions withoutWatches speaksFor left to
+    soundWatches goodRemoval goodChange goodChanges goodTransactions soundTransactions freshWorld staled staledIf withoutTransactions withoutWatches speaksFor left to
     onStore transactionOf inTransaction copyOf asked placeFits watching unwatching starting closing committing ending introducing removalOf releasing resetting
     forControl forPlace introducedText handle callNumber isHandled sizedTables sound worldOf tablesOf freshCall typeOf txOf lenOf payloadOf frameVerdict
     requestVerdict replyType replyPayload replyTo outcomeOf outcome turnedAway delivered requestBy requestCall sameTables isSeen allSeen stepsHold lineHolds

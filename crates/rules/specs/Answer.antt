@@ -2,7 +2,7 @@
 use mathlib.Core.Bool.{Bool, true, false, cond, _&&_, _||_}
 use mathlib.Core.List.{List, [], _∷_, _++_, flatMap}
 use mathlib.Core.Option.{Option, none, some}
-use Prim.Native.Nat.{ℕ, suc}
+use Prim.Native.Nat.{ℕ, suc, _-_}
 use lib.ListN.{length, getD}
 use lib.Dec.{eqb, leb}
 use Rattle.rules.specs.Size.{longestValue, longestPayload, mostEntries}
@@ -36,9 +36,10 @@ pub data Reply : Type 0 where
 unfoldable pub OK : Reply
 OK = done (text "OK" ++ nul)
 
--- a change names a path, which it wrote, made or removed
+-- a change names a path, which it wrote, made or removed; with it, it created so many of the nodes right above
 pub record Change : Type 0 where
   pub removal : Bool
+  pub parents : ℕ
   pub names : Names
 
 pub record Answer : Type 0 where
@@ -75,8 +76,8 @@ module _ (d : Domain) (ns : Names) (t : Table) where
   unfoldable pub unchanged : Reply → Answer
   unchanged r = record { reply = r; table = t; change = none }
 
-  unfoldable pub changed : Bool → Table → Answer
-  changed removal after = record { reply = OK; table = after; change = some (record { removal = removal; names = ns }) }
+  unfoldable pub changed : Bool → ℕ → Table → Answer
+  changed removal parents after = record { reply = OK; table = after; change = some (record { removal = removal; parents = parents; names = ns }) }
 
   -- "An absent path is ENOENT if the sender may read the nearest present ancestor, else EACCES."
   unfoldable pub absent : ℕ → Errno
@@ -107,7 +108,7 @@ module _ (d : Domain) (ns : Names) (t : Table) where
   created r v =
       let after = made (r .left) (r .slot) d v t in
       cond (mayWrite d (nodeAt t (r .slot)))
-      (cond (room (r .left) v) (changed false after) (unchanged (refused ENOSPC)))
+      (cond (room (r .left) v) (changed false (length (r .left) - 1) after) (unchanged (refused ENOSPC)))
       (unchanged (refused EACCES))
 
   -- WRITE needs write
@@ -115,7 +116,7 @@ module _ (d : Domain) (ns : Names) (t : Table) where
   written v r =
       elim (r .left) [
         | [] ↦ cond (mayWrite d (nodeAt t (r .slot)))
-            (cond (leb (length v) longestValue) (changed false (withValue t (r .slot) v)) (unchanged (refused ENOSPC)))
+            (cond (leb (length v) longestValue) (changed false 0 (withValue t (r .slot) v)) (unchanged (refused ENOSPC)))
             (unchanged (refused EACCES))
         | n ∷ rest ↦ created r v
       ]
@@ -132,7 +133,7 @@ module _ (d : Domain) (ns : Names) (t : Table) where
   unfoldable pub taken : Reached → Answer
   taken r =
       elim (r .left) [
-        | [] ↦ cond (mayWrite d (nodeAt t (r .slot))) (changed true (removed t (r .slot))) (unchanged (refused EACCES))
+        | [] ↦ cond (mayWrite d (nodeAt t (r .slot))) (changed true 0 (removed t (r .slot))) (unchanged (refused EACCES))
         | n ∷ rest ↦ unchanged (elim rest [ [] ↦ cond (mayRead d (nodeAt t (r .slot))) OK (refused EACCES) | m ∷ more ↦ refused (absent (r .slot)) ])
       ]
 
@@ -144,7 +145,7 @@ module _ (d : Domain) (ns : Names) (t : Table) where
   permitted o es r =
       elim (r .left) [
         | [] ↦ cond (maySet (nodeAt t (r .slot)) o)
-            (cond (leb (suc (length es)) mostEntries) (changed false (withEntries t (r .slot) o es)) (unchanged (refused ENOSPC)))
+            (cond (leb (suc (length es)) mostEntries) (changed false 0 (withEntries t (r .slot) o es)) (unchanged (refused ENOSPC)))
             (unchanged (refused EACCES))
         | n ∷ rest ↦ unchanged (refused (absent (r .slot)))
       ]

@@ -1,9 +1,9 @@
 -- Who hears what: watches, and the records of a call's events.
 use mathlib.Core.Bool.{Bool, true, false, cond, _&&_, _||_}
-use mathlib.Core.List.{List, [], _∷_, flatMap}
+use mathlib.Core.List.{List, [], _∷_, map, flatMap}
 use mathlib.Core.Option.{Option, none, some}
-use Prim.Native.Nat.{ℕ, suc}
-use lib.ListN.{length}
+use Prim.Native.Nat.{ℕ, zero, suc, _-_}
+use lib.ListN.{length, take}
 use lib.Dec.{eqb, leb}
 use Rattle.rules.specs.Octets.{Octets, same, decimal}
 use Rattle.rules.specs.Domain.{Domain, Connection, domainOf}
@@ -32,7 +32,23 @@ unfoldable pub placeText : Place → Octets
 placeText (path r ns) = pathText ns
 placeText (event e) = e
 
--- ── one change and one watch ──
+-- ── the events of a change ──
+
+-- what happened to a path: it was removed, or it was created or changed
+pub record Happening : Type 0 where
+  pub removal : Bool
+  pub names : Names
+
+-- a path behind the k right above it, topmost first
+unfoldable pub lineage : ℕ → Names → List Names
+lineage zero ns = ns ∷ []
+lineage (suc k) ns = take (length ns - suc k) ns ∷ lineage k ns
+
+-- "each created node makes its own event, topmost first, the named path last"
+unfoldable pub eventsOf : Change → List Happening
+eventsOf c = map (λ (ns : Names). record { removal = c .removal; names = ns }) (lineage (c .parents) (c .names))
+
+-- ── one event and one watch ──
 
 -- "no depth given or k at most the depth"
 unfoldable pub deepEnough : Option ℕ → ℕ → Bool
@@ -45,16 +61,16 @@ module _ (before after : Table) where
   mayHear d ns = readable before d ns || readable after d ns
 
   -- "p is w, or k levels below it", or "p was removed, lies above w"
-  unfoldable pub hearsAt : Watch → Names → Change → Bool
-  hearsAt w wn c =
-      elim (beyond wn (c .names)) [
-        | some rest ↦ deepEnough (w .depth) (length rest) && mayHear (domainOf (w .owner)) (c .names)
-        | none ↦ elim (beyond (c .names) wn) [ none ↦ false | some rest ↦ c .removal && mayHear (domainOf (w .owner)) wn ]
+  unfoldable pub hearsAt : Watch → Names → Happening → Bool
+  hearsAt w wn e =
+      elim (beyond wn (e .names)) [
+        | some rest ↦ deepEnough (w .depth) (length rest) && mayHear (domainOf (w .owner)) (e .names)
+        | none ↦ elim (beyond (e .names) wn) [ none ↦ false | some rest ↦ e .removal && mayHear (domainOf (w .owner)) wn ]
       ]
 
   -- an `@` watch hears no change of a node
-  unfoldable pub hears : Change → Watch → Bool
-  hears c w = elim (w .place) [ path r wn ↦ hearsAt w wn c | event e ↦ false ]
+  unfoldable pub hears : Happening → Watch → Bool
+  hears e w = elim (w .place) [ path r wn ↦ hearsAt w wn e | event name ↦ false ]
 
 -- ── records ──
 
@@ -71,10 +87,13 @@ anyBit (b ∷ bs) = b || anyBit bs
 unfoldable pub kept : List Bool → Octets → List Record
 kept m p = cond (anyBit m) (record { mask = m; path = p } ∷ []) []
 
-unfoldable pub heardChange : Table → Table → Watches → Change → List Record
-heardChange before after ws c = kept (maskOf (hears before after c) ws) (pathText (c .names))
+unfoldable pub heardEvent : Table → Table → Watches → Happening → List Record
+heardEvent before after ws e = kept (maskOf (hears before after e) ws) (pathText (e .names))
 
--- "A change makes one event, for the named path; a commit makes those of its changes, in order": ws are the watches after the call
+unfoldable pub heardChange : Table → Table → Watches → Change → List Record
+heardChange before after ws c = flatMap (heardEvent before after ws) (eventsOf c)
+
+-- "a commit makes those of its changes, in order": ws are the watches after the call
 unfoldable pub heard : Table → Table → Watches → List Change → List Record
 heard before after ws cs = flatMap (heardChange before after ws) cs
 

@@ -129,7 +129,7 @@ watchesBytes ws = flatMap watchBytes ws
 unfoldable pub watchesOf : Octets → Watches
 watchesOf s = map watchIn (chunks mostWatches watchSize s)
 
--- ── transactions: open 1, stale 1, zero 2, changes 4; holder 16; eight changes of: removed 1, zero 6, path length 9; path ──
+-- ── transactions: open 1, stale 1, zero 2, changes 4; holder 16; eight changes of: removed 1, zero 3, new parents 3, path length 9; path ──
 
 pub record Transaction : Type 0 where
   pub holder : Connection
@@ -149,10 +149,11 @@ asStale x = record { holder = x .holder; stale = true; changes = x .changes }
 abbrev pub withChange : Transaction → Change → Transaction
 withChange x c = record { holder = x .holder; stale = x .stale; changes = x .changes ++ (c ∷ []) }
 
+unfoldable pub changeBits : Change → List Bits
+changeBits c = 1 bits bit (c .removal) ∷ 3 bits 0 ∷ 3 bits c .parents ∷ 9 bits length (pathText (c .names)) ∷ []
+
 unfoldable pub changeBytes : Change → Octets
-changeBytes c =
-    bigEndian changeFieldsSize (pack (1 bits bit (c .removal) ∷ 6 bits 0 ∷ 9 bits length (pathText (c .names)) ∷ []))
-    ++ padded longestPath (pathText (c .names))
+changeBytes c = bigEndian changeFieldsSize (pack (changeBits c)) ++ padded longestPath (pathText (c .names))
 
 unfoldable pub transactionBytes : Option Transaction → Octets
 transactionBytes none = replicate transactionSize 0
@@ -163,7 +164,11 @@ transactionBytes (some x) =
 unfoldable pub changeIn : Octets → Change
 changeIn s =
     let head = field s 0 changeFieldsSize in
-    record { removal = eqb (bitsAt head 15 1) 1; names = namesIn (textAt s changeFieldsSize longestPath (bitsAt head 0 9)) }
+    record {
+      removal = eqb (bitsAt head 15 1) 1;
+      parents = bitsAt head 9 3;
+      names = namesIn (textAt s changeFieldsSize longestPath (bitsAt head 0 9));
+    }
 
 unfoldable pub transactionAt : Octets → ℕ → Transaction
 transactionAt s head =

@@ -2,9 +2,9 @@
 use mathlib.Core.Bool.{Bool, true, false, not, _&&_, _||_}
 use mathlib.Core.List.{List, [], _∷_}
 use mathlib.Core.Option.{Option, none, some}
-use Prim.Native.Nat.{ℕ, zero, suc}
+use Prim.Native.Nat.{ℕ, zero, suc, _-_}
 use lib.ListN.{length, getD}
-use lib.Dec.{eqb, leb}
+use lib.Dec.{eqb, ltb, leb}
 use Rattle.rules.specs.Size.{tableSize, deepest, lastDomain, domainsSize, watchesSize, transactionsSize}
 use Rattle.rules.specs.Octets.{Octets, same}
 use Rattle.rules.specs.Entries.{has}
@@ -126,9 +126,13 @@ soundWatches ds s =
 
 -- ── transactions ──
 
--- a full path within the sizes, and not a removed `/`
+-- a removed path has no new parents and is not `/`
+unfoldable pub goodRemoval : Change → Bool
+goodRemoval c = not (c .removal) || (eqb (c .parents) 0 && ltb 0 (length (c .names)))
+
+-- a full path within the sizes, with no more new parents than it has nodes above it besides the root
 unfoldable pub goodChange : Change → Bool
-goodChange c = fits (c .names) && not (c .removal && eqb (length (c .names)) 0)
+goodChange c = fits (c .names) && (leb (c .parents) (length (c .names) - 1) && goodRemoval c)
 
 unfoldable pub goodChanges : List Change → Bool
 goodChanges [] = true

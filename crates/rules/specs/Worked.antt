@@ -191,8 +191,8 @@ added =
       steps = call 0 (WRITE "/a" "1") OK ∷ call 0 START (done (string "1")) ∷ call 0 (WRITE "/a" "1") OK ∷ call 0 (COMMIT 1) (refused EAGAIN) ∷ [];
     }
     ∷ record {
-      says = "`/ab` is not below `/a`: a watch on `/a` is silent for WRITE `/ab` and hears WRITE `/a/b`.";
-      steps = heardBy 0 (WATCH "/a") OK 1 ∷ heardBy 0 (WRITE "/ab" "1") OK 0 ∷ heardBy 0 (WRITE "/a/b" "1") OK 1 ∷ [];
+      says = "`/ab` is not below `/a`: a watch on `/a` is silent for WRITE `/ab`, and hears `/a` and `/a/b` at WRITE `/a/b`.";
+      steps = heardBy 0 (WATCH "/a") OK 1 ∷ heardBy 0 (WRITE "/ab" "1") OK 0 ∷ heardBy 0 (WRITE "/a/b" "1") OK 2 ∷ [];
     }
     ∷ record {
       says = "A removal's watchers are judged by the store before it too: a watch on `/a/b` hears RM `/a`.";
@@ -211,8 +211,16 @@ added =
           ∷ call 5 (WRITE "/a" "2") (refused EACCES) ∷ [];
     }
     ∷ record {
-      says = "Watch `/a` depth 0 is silent for WRITE `/a/b`; depth 1 hears it.";
-      steps = heardBy 0 (WATCHTO "/a" "0") OK 1 ∷ heardBy 0 (WRITE "/a/b" "1") OK 0 ∷ heardBy 0 (WATCHTO "/a" "1") OK 1
+      says = "With `/a` present, watch `/a` depth 0 is silent for WRITE `/a/b`; depth 1 hears it.";
+      steps = call 0 (MKDIR "/a") OK ∷ heardBy 0 (WATCHTO "/a" "0") OK 1 ∷ heardBy 0 (WRITE "/a/b" "1") OK 0 ∷ heardBy 0 (WATCHTO "/a" "1") OK 1
           ∷ heardBy 0 (WRITE "/a/b" "1") OK 1 ∷ heardBy 0 (WRITE "/a/b/c" "1") OK 0 ∷ [];
+    }
+    ∷ record {
+      says = "On the fresh store watch `/a` depth 0 hears `/a` at WRITE `/a/b`, and nothing at the next.";
+      steps = heardBy 0 (WATCHTO "/a" "0") OK 1 ∷ heardBy 0 (WRITE "/a/b" "1") OK 1 ∷ heardBy 0 (WRITE "/a/b" "1") OK 0 ∷ [];
+    }
+    ∷ record {
+      says = "Each created node is heard: a watch on `/local` with depth 2 hears three of the four that WRITE `/local/domain/5/x` creates.";
+      steps = heardBy 0 (WATCHTO "/local" "2") OK 1 ∷ heardBy 0 (WRITE "/local/domain/5/x" "1") OK 3 ∷ [];
     }
     ∷ []

@@ -195,7 +195,7 @@ module _ (w : World) where
       (left (refused ENOSPC)))
 
   unfoldable pub removalOf : ℕ → Change
-  removalOf i = record { removal = true; names = pathOf (w .nodes) i }
+  removalOf i = record { removal = true; parents = 0; names = pathOf (w .nodes) i }
 
   -- "RELEASE drops the domain's watches and transactions and every node it owns, with all below."
   unfoldable pub releasing : Domain → Outcome
