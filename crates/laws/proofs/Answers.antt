@@ -37,7 +37,7 @@ module _ (d : Domain) (ns : Names) (t : Table) where
   -- an answer that changes the table or not
   pub data Shape : Bool → Answer → Type 0 where
     stays : (r : Reply) → isEAGAIN r ≡ false → Shape false (unchanged d ns t r)
-    alters-to : (removal : Bool) (after : Table) → Shape true (changed d ns t removal after)
+    alters-to : (removal : Bool) (parents : ℕ) (after : Table) → Shape true (changed d ns t removal parents after)
 
   absent-is : (i : ℕ) → isEAGAIN (refused (absent d ns t i)) ≡ false
   unfolding absent
@@ -52,16 +52,16 @@ module _ (d : Domain) (ns : Names) (t : Table) where
   abbrev Shaped : Answer → Type 0
   Shaped a = Shape (succeeds (a .reply)) a
 
-  cond-shaped : (b c : Bool) (removal : Bool) (after : Table)
-      → Shaped (cond b (cond c (changed d ns t removal after) (unchanged d ns t (refused ENOSPC))) (unchanged d ns t (refused EACCES)))
+  cond-shaped : (b c : Bool) (removal : Bool) (parents : ℕ) (after : Table)
+      → Shaped (cond b (cond c (changed d ns t removal parents after) (unchanged d ns t (refused ENOSPC))) (unchanged d ns t (refused EACCES)))
   unfolding succeeds changed unchanged OK
-  cond-shaped true true removal after = alters-to removal after
-  cond-shaped true false removal after = stays _ refl
-  cond-shaped false c removal after = stays _ refl
+  cond-shaped true true removal parents after = alters-to removal parents after
+  cond-shaped true false removal parents after = stays _ refl
+  cond-shaped false c removal parents after = stays _ refl
 
   created-shape : (r : Reached) (v : Octets) → Shaped (created d ns t r v)
   unfolding created
-  created-shape r v = cond-shaped (mayWrite d (nodeAt t (r .slot))) (room d ns t (r .left) v) false _
+  created-shape r v = cond-shaped (mayWrite d (nodeAt t (r .slot))) (room d ns t (r .left) v) false _ _
 
   -- a path that is not there, where success would change the table
   absent-shaped : (i : ℕ) → Shaped (unchanged d ns t (refused (absent d ns t i)))
@@ -82,14 +82,14 @@ module _ (d : Domain) (ns : Names) (t : Table) where
   shaped directory l i h = looked-shape (listed t) i (listed-is i) l
   shaped read l i h = looked-shape _ i refl l
   shaped getPerms l i h = looked-shape _ i refl l
-  shaped (write v) [] i h = cond-shaped (mayWrite d (nodeAt t i)) (leb (length v) longestValue) false _
+  shaped (write v) [] i h = cond-shaped (mayWrite d (nodeAt t i)) (leb (length v) longestValue) false 0 _
   shaped (write v) (n ∷ l) i h = created-shape _ v
   shaped mkdir [] i h = rw (h, and-false) (stays _ (ok-is (mayWrite d (nodeAt t i))))
   shaped mkdir (n ∷ l) i h = rw (h, and-true) (created-shape _ [])
-  shaped rm [] i h = rw (h, and-true) (cond-shaped (mayWrite d (nodeAt t i)) true true _)
+  shaped rm [] i h = rw (h, and-true) (cond-shaped (mayWrite d (nodeAt t i)) true true 0 _)
   shaped rm (n ∷ []) i h = rw (h, and-false) (stays _ (ok-is (mayRead d (nodeAt t i))))
   shaped rm (n ∷ m ∷ l) i h = rw (h, and-false) (stays _ (absent-is i))
-  shaped (setPerms o es) [] i h = cond-shaped (maySet d ns t (nodeAt t i) o) (leb (suc (length es)) mostEntries) false _
+  shaped (setPerms o es) [] i h = cond-shaped (maySet d ns t (nodeAt t i) o) (leb (suc (length es)) mostEntries) false 0 _
   shaped (setPerms o es) (n ∷ l) i h = absent-shaped i
 
 pub answer-shape : (d : Domain) (a : Ask) (ns : Names) (t : Table) → Shape d ns t (alters t ns (answer d a ns t .reply) a) (answer d a ns t)

@@ -218,7 +218,7 @@ nodes-gone t d g l =
 
 -- ── who hears ──
 
-mask-at : (f : Watch → Bool) (ws : Watches) (i : ℕ) (v : Watch) → At ws i v → f v ≡ true → getD (maskOf f ws) i false ≡ true
+pub mask-at : (f : Watch → Bool) (ws : Watches) (i : ℕ) (v : Watch) → At ws i v → f v ≡ true → getD (maskOf f ws) i false ≡ true
 unfolding maskOf
 mask-at f [] i v e h = absurd (nothing e)
 mask-at f (none ∷ ws) zero v e h = absurd (nothing e)
@@ -226,7 +226,7 @@ mask-at f (none ∷ ws) (suc i) v e h = mask-at f ws i v e h
 mask-at f (some u ∷ ws) zero v e h = ap f (some-is e) ∙ h
 mask-at f (some u ∷ ws) (suc i) v e h = mask-at f ws i v e h
 
-any-bit : (bs : List Bool) (i : ℕ) → getD bs i false ≡ true → anyBit bs ≡ true
+pub any-bit : (bs : List Bool) (i : ℕ) → getD bs i false ≡ true → anyBit bs ≡ true
 unfolding anyBit
 any-bit [] i e = absurd (false≢true e)
 any-bit (b ∷ bs) zero e = rw e

@@ -12,3 +12,5 @@ pub mod SoundCalls
 pub mod Parents
 pub mod Making
 pub mod Gone
+pub mod Records
+pub mod Heard

@@ -47,7 +47,7 @@ keeps d a ns t = go (answer-shape d a ns t)
   where
     go : {b : Bool} {x : Answer} → Shape d ns t b x → x .change ≡ none → x .table ≡ t
     go (stays r e) h = refl
-    go (alters-to removal after) h = absurd (nothing (sym h))
+    go (alters-to removal parents after) h = absurd (nothing (sym h))
 
 -- one more single at the end
 pub extended : (t copy : Table) (log : List Single) (d : Domain) (a : Ask) (ns : Names) → replay t log ≡ copy → Agrees t log

@@ -90,7 +90,7 @@ module _ (w : World) (tx : ℕ) where
   left-step r e = record { kept = kept-all _; sent = left-sent r e }
 
   -- a node request outside transactions
-  on-store-reply : (a : Answer) → onStore w a .reply ≡ a .reply
+  pub on-store-reply : (a : Answer) → onStore w a .reply ≡ a .reply
   unfolding onStore left to
   on-store-reply a = go (a .change)
     where
@@ -101,7 +101,7 @@ module _ (w : World) (tx : ℕ) where
   on-store-step : {d : ℕ} {ns : Names} {b : Bool} {a : Answer} → Shape d ns (w .nodes) b a → Step (changing b) (onStore w a)
   unfolding onStore unchanged changed to OK staledIf isEmpty
   on-store-step (stays r e) = left-step r e
-  on-store-step (alters-to removal after) = record { kept = kept-staledIf true _ _ (kept-all _); sent = tt }
+  on-store-step (alters-to removal parents after) = record { kept = kept-staledIf true _ _ (kept-all _); sent = tt }
 
   -- a request in transaction j, which has an effect on its copy alone
   abbrev on-copy : ℕ → Bool → Effect
@@ -134,7 +134,7 @@ module _ (w : World) (tx : ℕ) where
       go : {b : Bool} {a : Answer} → Shape d ns t b a → b ≡ alters t ns (a .reply) q →
           let o = inTransaction w j x a in Step (on-copy j (alters t ns (o .reply) q)) o
       go (stays r e) p = rw (← p) (stays-on-copy j r e)
-      go (alters-to removal after) p =
+      go (alters-to removal parents after) p =
           cond-case (λ (o : Outcome). Step (on-copy j (alters t ns (o .reply) q)) o) (ltb (length (x .changes)) mostChanges) _ _
           (rw (← p) (record {
             kept = kept-set (on-copy j true) _ _ _ refl (λ k r. rw (ne-eqb j k (λ e. r (sym e)))) (λ x′ y e f. one-more j x x′ y _ (sym h ∙ e) f)

@@ -7,3 +7,4 @@ pub mod Soundness
 pub mod Parents
 pub mod Making
 pub mod Gone
+pub mod Heard

@@ -2,7 +2,7 @@
 use mathlib.Core.Path.{_≡_, ap}
 use mathlib.Core.Bool.{Bool, true, false, cond}
 use mathlib.Core.List.{List, [], _∷_}
-use Prim.Native.Nat.{ℕ, suc, _≤_, _<_}
+use Prim.Native.Nat.{ℕ, suc, _-_, _≤_, _<_}
 use native.Mathlib.Omega.{arith}
 use lib.ListN.{length}
 use borrow.Author.Tests.{le-leb, lt-leb}
@@ -51,7 +51,7 @@ module _ (d : Domain) (t p : Octets) (i at : ℕ) (r : Reaches t p i at) where
 
   pub created-done : (v : Octets) → mayWrite d (nodeAt (tableOf t) i) ≡ true → room d (namesIn p) (tableOf t) (leftAt p at) v ≡ true →
       created d (namesIn p) (tableOf t) (reach (tableOf t) (namesIn p)) v
-      ≡ changed d (namesIn p) (tableOf t) false (made (leftAt p at) i d v (tableOf t))
+      ≡ changed d (namesIn p) (tableOf t) false (length (leftAt p at) - 1) (made (leftAt p at) i d v (tableOf t))
   unfolding created
   created-done v m f = rw (reached t p i at r, m, f)
 
@@ -99,7 +99,7 @@ module _ (d : Domain) (t p : Octets) (i at : ℕ) (r : Reaches t p i at) where
     write-long v m l = rw (whole t p i at r h, m, lt-leb (length v) longestValue l)
 
     pub write-done : (v : Octets) → mayWrite d (nodeAt (tableOf t) i) ≡ true → length v ≤ longestValue →
-        answer d (P.write v) (namesIn p) (tableOf t) ≡ changed d (namesIn p) (tableOf t) false (withValue (tableOf t) i v)
+        answer d (P.write v) (namesIn p) (tableOf t) ≡ changed d (namesIn p) (tableOf t) false 0 (withValue (tableOf t) i v)
     unfolding answer answered written
     write-done v m l = rw (whole t p i at r h, m, le-leb (length v) longestValue l)
 
@@ -114,7 +114,7 @@ module _ (d : Domain) (t p : Octets) (i at : ℕ) (r : Reaches t p i at) where
     rm-denied m = rw (whole t p i at r h, m)
 
     pub rm-done : mayWrite d (nodeAt (tableOf t) i) ≡ true →
-        answer d P.rm (namesIn p) (tableOf t) ≡ changed d (namesIn p) (tableOf t) true (removed (tableOf t) i)
+        answer d P.rm (namesIn p) (tableOf t) ≡ changed d (namesIn p) (tableOf t) true 0 (removed (tableOf t) i)
     unfolding answer answered taken
     rm-done m = rw (whole t p i at r h, m)
 
@@ -130,6 +130,6 @@ module _ (d : Domain) (t p : Octets) (i at : ℕ) (r : Reaches t p i at) where
       perms-many m l = rw (whole t p i at r h, m, lt-leb (suc (length es)) mostEntries l)
 
       pub perms-done : maySet d (namesIn p) (tableOf t) (nodeAt (tableOf t) i) o ≡ true → suc (length es) ≤ mostEntries →
-          answer d (P.setPerms o es) (namesIn p) (tableOf t) ≡ changed d (namesIn p) (tableOf t) false (withEntries (tableOf t) i o es)
+          answer d (P.setPerms o es) (namesIn p) (tableOf t) ≡ changed d (namesIn p) (tableOf t) false 0 (withEntries (tableOf t) i o es)
       unfolding answer answered permitted
       perms-done m l = rw (whole t p i at r h, m, le-leb (suc (length es)) mostEntries l)

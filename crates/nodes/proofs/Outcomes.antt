@@ -56,11 +56,12 @@ module _ (d : Domain) (ns : Names) (t : Octets) (k : Canonical t) (a : A.Answer)
 
 -- ── a change ──
 
-pub changed-so : (d : Domain) (ns : Names) (ts : Table) (a : A.Answer) (before : Octets) (removal : Bool) (ts′ : Table) (t′ after : Octets) (e : Effect)
-    (r : Answer) → (r .effect ≡ e) × Told OK (r .reply) before after → effectMeant e ns ≡ some (record { removal = removal; names = ns }) →
-    a ≡ changed d ns ts removal ts′ → t′ ≡ tableBytes ts′ → Answers ns a t′ before after r
+pub changed-so : (d : Domain) (ns : Names) (ts : Table) (a : A.Answer) (before : Octets) (removal : Bool) (parents : ℕ) (ts′ : Table) (t′ after : Octets)
+    (e : Effect) (r : Answer) → (r .effect ≡ e) × Told OK (r .reply) before after →
+    effectMeant e ns ≡ some (record { removal = removal; parents = parents; names = ns }) → a ≡ changed d ns ts removal parents ts′ →
+    t′ ≡ tableBytes ts′ → Answers ns a t′ before after r
 unfolding changed
-changed-so d ns ts a before removal ts′ t′ after e r q m h b =
+changed-so d ns ts a before removal parents ts′ t′ after e r q m h b =
     rw h (record { table = b; change = ap (λ (x : Effect). effectMeant x ns) (q .0) ∙ m; reply = q .1 })
 
 -- ── where a path leads ──

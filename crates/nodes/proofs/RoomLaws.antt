@@ -3,6 +3,7 @@ use mathlib.Core.Path.{_≡_, ap, ap₂}
 use mathlib.Core.Bool.{true, false}
 use Prim.Native.Nat.{ℕ, suc, _+_, _≤_, _<_}
 use native.Mathlib.Numerals.{add-one}
+use native.Mathlib.Omega.{arith}
 use lib.ListN.{length, getD, drop, drop-of-length-le}
 use lib.Seq.{drop-cons}
 use lib.Dec.{leb}
@@ -17,6 +18,7 @@ use Rattle.rules.specs.Layout.{tableOf}
 use Rattle.rules.proofs.Compare.{both-true}
 use Rattle.rules.proofs.Fitting.{short-left}
 use Rattle.slots.proofs.LeftLaws.{left-below}
+use Rattle.lookup.proofs.ReachLaws.{left-first}
 use Rattle.paths.proofs.PieceLaws.{split-first}
 use Rattle.slots.specs.Left.{leftAt}
 use Rattle.lookup.specs.Reach.{Reaches}
@@ -38,6 +40,9 @@ module _ (s : Octets) (i : ℕ) (h : i < length s) where
 
   pub left-length : length (leftAt s i) ≡ length (split (drop i s))
   left-length = ap length (left-below s i h)
+
+pub some-left : (s : Octets) (i : ℕ) → i < length s → 1 ≤ length (leftAt s i)
+some-left s i h = omega (arith, ap length (left-first s i h))
 
 pub name-last : (s : Octets) (i : ℕ) → length s ≤ i → length (split (drop i s)) ≡ 1
 unfolding split

@@ -34,8 +34,8 @@ pub record Ready (t p reply : Octets) (d : Domain) : Type 0 where
 -- a change names the path that was asked for
 abbrev pub effectMeant : Effect → Names → Option A.Change
 effectMeant Nothing ns = none
-effectMeant Wrote ns = some (record { removal = false; names = ns })
-effectMeant Removed ns = some (record { removal = true; names = ns })
+effectMeant (Wrote parents) ns = some (record { removal = false; parents = parents; names = ns })
+effectMeant Removed ns = some (record { removal = true; parents = 0; names = ns })
 
 -- the rule book's answer to a request for the path ns, given by r, the table t and the reply
 pub record Answers (ns : Names) (a : A.Answer) (t before after : Octets) (r : Answer) : Type 0 where

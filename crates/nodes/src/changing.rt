@@ -3,7 +3,7 @@ ghost use mathlib.Core.Path.{_≡_};
 ghost use Prim.Native.Nat.{_<_};
 ghost use lib.ListN.{length};
 ghost use Rattle.rules.specs.Size.{replySize};
-ghost use Rattle.rules.specs.Path.{Domain, namesIn};
+ghost use Rattle.rules.specs.Path.{Domain, Names, namesIn};
 ghost use Rattle.rules.specs.Node.{reach};
 ghost use Rattle.rules.specs.Payload.{write, mkdir};
 ghost use Rattle.rules.specs.Answer.{OK, room, created};
@@ -53,11 +53,11 @@ pub fn names_left(path: &[u8], at: usize) -> usize
     n
 }
 
-// Whether what is left of a path can be made, with a value.
-fn has_room(t: &[u8], path: &[u8], at: usize, value: &[u8]) -> bool
-    requires { ⌜ Standing (now t) (now path) × (at < length (now path)) ⌝ }
-    ensures { λ r. ⌜ ((d : Domain) → r ≡ room d (namesIn (now (path .entry))) (tableOf (now (t .entry))) (leftAt (now (path .entry)) at)
-        (now (value .entry))) ⌝ }
+// Whether a path of which so many names are left can be made, with a value.
+fn has_room(t: &[u8], path: &[u8], left: usize, value: &[u8]) -> bool
+    requires { ⌜ Standing (now t) (now path) ⌝ }
+    ensures { λ r. ⌜ ((d : Domain) (names : Names) → left ≡ length names →
+        r ≡ room d (namesIn (now (path .entry))) (tableOf (now (t .entry))) names (now (value .entry))) ⌝ }
 {
     if LONGEST_VALUE < value.len() {
         return false;
@@ -65,7 +65,7 @@ fn has_room(t: &[u8], path: &[u8], at: usize, value: &[u8]) -> bool
     if !fits(path) {
         return false;
     }
-    names_left(path, at) <= free_count(t)
+    left <= free_count(t)
 }
 
 // Makes what is left of a path below slot i, with a value in the last node.
@@ -86,11 +86,13 @@ fn create(
     if !may_write(t, i, domain) {
         return refusal(Errno::Access);
     }
-    if !has_room(t, path, at, value) {
+    let left = names_left(path, at);
+    if !has_room(t, path, left, value) {
         return refusal(Errno::NoSpace);
     }
     make(t, i, path, at, domain, value);
-    success(reply, Effect::Wrote)
+    let parents = left - 1;
+    success(reply, Effect::Wrote(parents))
 }
 
 pub fn write(t: &mut [u8], domain: u32, path: &[u8], value: &[u8], reply: &mut [u8]) -> Answer
@@ -111,7 +113,7 @@ pub fn write(t: &mut [u8], domain: u32, path: &[u8], value: &[u8], reply: &mut [
         return refusal(Errno::NoSpace);
     }
     put_value(t, slot, value);
-    success(reply, Effect::Wrote)
+    success(reply, Effect::Wrote(0))
 }
 
 pub fn mkdir(t: &mut [u8], domain: u32, path: &[u8], reply: &mut [u8]) -> Answer

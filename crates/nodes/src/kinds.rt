@@ -1,10 +1,10 @@
 // What a node request answers.
 use replies::kinds::Reply;
 
-// What was done to the path that was asked for.
+// What was done to the path that was asked for: a written one was there, or was made with so many parents.
 pub enum Effect {
     Nothing,
-    Wrote,
+    Wrote(usize),
     Removed,
 }
 

@@ -82,5 +82,5 @@ pub fn set_perms(
         return refusal(Errno::NoSpace);
     }
     permit(t, slot, entries);
-    success(reply, Effect::Wrote)
+    success(reply, Effect::Wrote(0))
 }

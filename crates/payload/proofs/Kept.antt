@@ -65,16 +65,16 @@ length-others k h =
 module _ (d : Domain) (ns : Names) (t : Table) where
   -- entries are put on a slot if they are few, and refused by their number else
   putting : ℕ → nodes.Entry → List nodes.Entry → Answer
-  putting i o es = cond (leb (suc (length es)) mostEntries) (changed d ns t false (withEntries t i o es)) (unchanged d ns t (refused ENOSPC))
+  putting i o es = cond (leb (suc (length es)) mostEntries) (changed d ns t false 0 (withEntries t i o es)) (unchanged d ns t (refused ENOSPC))
 
   put-kept : (i : ℕ) (o : nodes.Entry) (es : List nodes.Entry) → putting i o (firstOthers es) ≡ putting i o es
   unfolding putting
   put-kept i o es = rw (length-first es) (by (leb (suc (length es)) mostEntries) refl)
     where
       by : (b : Bool) → leb (suc (length es)) mostEntries ≡ b →
-          cond b (changed d ns t false (withEntries t i o (firstOthers es))) (unchanged d ns t (refused ENOSPC))
-          ≡ cond b (changed d ns t false (withEntries t i o es)) (unchanged d ns t (refused ENOSPC))
-      by true h = ap (λ (l : List nodes.Entry). changed d ns t false (withEntries t i o l)) (first-few es (leb-true _ _ h))
+          cond b (changed d ns t false 0 (withEntries t i o (firstOthers es))) (unchanged d ns t (refused ENOSPC))
+          ≡ cond b (changed d ns t false 0 (withEntries t i o es)) (unchanged d ns t (refused ENOSPC))
+      by true h = ap (λ (l : List nodes.Entry). changed d ns t false 0 (withEntries t i o l)) (first-few es (leb-true _ _ h))
       by false h = refl
 
   permitted-kept : (o : nodes.Entry) (es : List nodes.Entry) (l : Names) (i : ℕ) →

@@ -80,7 +80,7 @@ returns-4 c =
     let may = short .before .before in
     let there = may .before .before in
     let a = there .before .before .before .before .before .before .before in
-    changed-so (a .args .domain) _ _ _ (a .args .reply .now) _ _ _ _ _ _ (c .before .before .success .ensures) refl
+    changed-so (a .args .domain) _ _ _ (a .args .reply .now) _ _ _ _ _ _ _ (c .before .before .success .ensures) refl
     (write-done _ _ _ _ _ (there .before .reach .ensures) (there .if1 .left) _ (sym (may .may-write .ensures) ∙ not-false _ (short .before .if2 .left))
     (short .if3 .left))
     (put .put-value .ensures)

@@ -82,7 +82,7 @@ returns-4 c =
     let may = few .before .before .before in
     let there = may .before .before in
     let a = there .before .before .before .before .before .before .before in
-    changed-so (a .args .domain) _ _ _ (a .args .reply .now) _ _ _ _ _ _ (c .before .before .success .ensures) refl
+    changed-so (a .args .domain) _ _ _ (a .args .reply .now) _ _ _ _ _ _ _ (c .before .before .success .ensures) refl
     (perms-done _ _ _ _ _ (there .before .before .reach .ensures) (there .if1 .left) _ _
     (sym (may .may-set .ensures _ _ refl) ∙ not-false _ (few .before .before .if2 .left))
     (omega (arith, length-others (a .args .entries) (a .pre .1 .some-entry), few .if3 .left)))

@@ -60,7 +60,7 @@ returns-3 c =
     let may = put .before .before .before in
     let there = may .before .before in
     let a = there .before .before .before .before .before .before in
-    changed-so (a .args .domain) _ _ _ (a .args .reply .now) _ _ _ _ _ _ (c .before .before .success .ensures) refl
+    changed-so (a .args .domain) _ _ _ (a .args .reply .now) _ _ _ _ _ _ _ (c .before .before .success .ensures) refl
     (rm-done _ _ _ _ _ (there .before .reach .ensures) (there .if1 .left) (sym (may .may-write .ensures) ∙ not-false _ (put .before .before .if2 .left)))
     (put .remove .ensures)
 
