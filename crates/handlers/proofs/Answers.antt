@@ -1,18 +1,18 @@
 -- What a node request's answer leaves: a sound table, a path within the sizes, and `OK` where it changed something.
 use mathlib.Core.Path.{_≡_, refl, sym, ap, subst, _∙_}
-use mathlib.Core.Bool.{Bool, true, false, cond, not, _&&_, and-eq-true-iff}
+use mathlib.Core.Bool.{Bool, true, false, cond}
 use mathlib.Core.List.{[], _∷_}
 use mathlib.Core.Option.{none, some, Option·none-ne-some}
-use Prim.Native.Nat.{ℕ, suc, _-_, _≤_}
+use Prim.Native.Nat.{ℕ, suc, _-_, _≤_, _<_}
 use native.Mathlib.Omega.{arith}
-use lib.Dec.{eqb, leb}
-use lib.ListN.{length}
-use Rattle.rules.specs.Size.{longestValue, longestPath, mostEntries, replySize, tableSize}
+use lib.Dec.{leb}
+use lib.ListN.{length, take}
+use Rattle.rules.specs.Size.{longestValue, longestPath, mostEntries, deepest, replySize, tableSize}
 use Rattle.rules.specs.Octets.{Octets}
 use Rattle.rules.specs.Domain.{Domain}
-use Rattle.rules.specs.Path.{Names, namesIn, pathText, fits}
+use Rattle.rules.specs.Path.{Names, namesIn, pathText}
 use Rattle.rules.specs.Node.{Table, Reached, nodeAt, reach}
-use Rattle.rules.specs.Rights.{mayWrite}
+use Rattle.rules.specs.Rights.{mayWrite, readable}
 use Rattle.rules.specs.Payload as P
 use Rattle.rules.specs.Answer.{Reply, OK, Change, Answer, unchanged, changed, room, created, looked, written, directoryMade, taken, maySet, permitted, answered}
 use Rattle.rules.specs.Answer.{answer}
@@ -21,7 +21,9 @@ use Rattle.rules.specs.Sound.{goodChange, soundTable}
 use Rattle.rules.proofs.Cases.{cond-case}
 use Rattle.rules.proofs.Slots.{table-read}
 use Rattle.rules.proofs.PathLaws.{full, fits-length}
-use Rattle.rules.proofs.GoodAnswers.{change-good}
+use Rattle.rules.proofs.Changes.{GoodParts, good-parts, parents-few}
+use Rattle.rules.proofs.Absent.{unread}
+use Rattle.rules.proofs.GoodAnswers.{change-good, parents-absent}
 use Rattle.rules.proofs.GoodRequests.{AskedGood}
 use Rattle.rules.proofs.SoundWorld.{TableSound, asked-sound, table-encoded, table-decoded}
 use Rattle.transactions.specs.Transaction.{changeGiven}
@@ -54,16 +56,16 @@ module _ (d : Domain) (ns : Names) (t : Table) where
     unfolding unchanged
     still r = (λ c e. absurd (Option·none-ne-some c e), λ e. refl)
 
-    done : (removal : Bool) → K removal → (after : Table) → Okay K (changed d ns t removal after)
+    done : (removal : Bool) → K removal → (parents : ℕ) (after : Table) → Okay K (changed d ns t removal parents after)
     unfolding changed
-    done removal k after = (λ c e. (refl, subst K (let q : removal ≡ c .removal = cc in q) k), λ e. absurd (Option·none-ne-some _ (sym e)))
+    done removal k parents after = (λ c e. (refl, subst K (let q : removal ≡ c .removal = cc in q) k), λ e. absurd (Option·none-ne-some _ (sym e)))
 
     either : (b : Bool) (x y : Answer) → Okay K x → Okay K y → Okay K (cond b x y)
     either = cond-case (Okay K)
 
     created-okay : K false → (r : Reached) (v : Octets) → Okay K (created d ns t r v)
     unfolding created
-    created-okay k r v = either (mayWrite d (nodeAt t (r .slot))) _ _ (either (room d ns t (r .left) v) _ _ (done false k _) (still _)) (still _)
+    created-okay k r v = either (mayWrite d (nodeAt t (r .slot))) _ _ (either (room d ns t (r .left) v) _ _ (done false k _ _) (still _)) (still _)
 
   answered-okay : (a : P.Ask) (l : Names) (i : ℕ) → Okay (Removes a) (answered d ns t a (record { slot = i; left = l }))
   unfolding answered looked written directoryMade taken permitted
@@ -74,14 +76,14 @@ module _ (d : Domain) (ns : Names) (t : Table) where
   answered-okay P.getPerms [] i = still _ _
   answered-okay P.getPerms (n ∷ l) i = still _ _
   answered-okay (P.write v) [] i =
-      either _ (mayWrite d (nodeAt t i)) _ _ (either _ (leb (length v) longestValue) _ _ (done _ false refl _) (still _ _)) (still _ _)
+      either _ (mayWrite d (nodeAt t i)) _ _ (either _ (leb (length v) longestValue) _ _ (done _ false refl 0 _) (still _ _)) (still _ _)
   answered-okay (P.write v) (n ∷ l) i = created-okay _ refl _ v
   answered-okay P.mkdir [] i = still _ _
   answered-okay P.mkdir (n ∷ l) i = created-okay _ refl _ []
-  answered-okay P.rm [] i = either _ (mayWrite d (nodeAt t i)) _ _ (done _ true refl _) (still _ _)
+  answered-okay P.rm [] i = either _ (mayWrite d (nodeAt t i)) _ _ (done _ true refl 0 _) (still _ _)
   answered-okay P.rm (n ∷ l) i = still _ _
   answered-okay (P.setPerms o es) [] i =
-      either _ (maySet d ns t (nodeAt t i) o) _ _ (either _ (leb (suc (length es)) mostEntries) _ _ (done _ false refl _) (still _ _)) (still _ _)
+      either _ (maySet d ns t (nodeAt t i) o) _ _ (either _ (leb (suc (length es)) mostEntries) _ _ (done _ false refl 0 _) (still _ _)) (still _ _)
   answered-okay (P.setPerms o es) (n ∷ l) i = still _ _
 
   module _ (a : P.Ask) where
@@ -99,14 +101,18 @@ module _ (d : Domain) (ns : Names) (t : Table) where
 
 -- ── the effect of a change ──
 
-abbrev pub madeBy : Bool → Effect
-madeBy false = Wrote
-madeBy true = Removed
+-- an effect is this change of the path
+abbrev pub Makes : Effect → Octets → Bool → ℕ → Type 0
+Makes x path removed parents = effectMeant x (namesIn path) ≡ some (changeGiven removed parents path)
 
-pub change-made : (removed : Bool) (path : Octets) (x : Effect) → x ≡ madeBy removed → effectMeant x (namesIn path) ≡ some (changeGiven removed path)
-unfolding changeGiven
-change-made false path x e = ap (λ (y : Effect). effectMeant y (namesIn path)) e
-change-made true path x e = ap (λ (y : Effect). effectMeant y (namesIn path)) e
+module _ (path : Octets) (x : Effect) where
+  pub wrote-makes : (parents : ℕ) → x ≡ Wrote parents → Makes x path false parents
+  unfolding changeGiven
+  wrote-makes parents e = ap (λ (y : Effect). effectMeant y (namesIn path)) e
+
+  pub removed-makes : x ≡ Removed → Makes x path true 0
+  unfolding changeGiven
+  removed-makes e = ap (λ (y : Effect). effectMeant y (namesIn path)) e
 
 -- ── a request in its bounds ──
 
@@ -134,11 +140,33 @@ module _ {d : Domain} {ask : Ask} {path s : Octets} (k : Asking d ask path s) wh
       pub left-back : tableOf t′ ≡ answer d request (namesIn path) (tableOf t) .table
       left-back = ap tableOf e ∙ table-read _ (after .fitting .long) (after .fitting .all)
 
-    -- the path of its change
-    pub path-short : (c : Change) → answer d request (namesIn path) (tableOf t) .change ≡ some c → length path ≤ longestPath
-    unfolding goodChange
-    path-short c e =
-        let b = table-decoded t h in
-        let g = change-good d request (namesIn path) (tableOf t) (b .good) (b .fitting) (full path (k .full) .names) (k .proper) c e in
-        let f = and-eq-true-iff (fits (c .names)) (not (c .removal && eqb (length (c .names)) 0)) .0 (g .1) .0 in
-        subst (λ (x : Octets). length x ≤ longestPath) (ap pathText (g .0) ∙ sym (full path (k .full) .text)) (fits-length (c .names) f)
+    module _ (c : Change) (e : answer d request (namesIn path) (tableOf t) .change ≡ some c) where
+      named : (c .names ≡ namesIn path) × (goodChange c ≡ true)
+      named =
+          let b = table-decoded t h in
+          change-good d request (namesIn path) (tableOf t) (b .good) (b .fitting) (full path (k .full) .names) (k .proper) c e
+
+      parts : GoodParts c
+      parts = good-parts c (named .1)
+
+      -- the path of its change
+      pub path-short : length path ≤ longestPath
+      path-short =
+          subst (λ (x : Octets). length x ≤ longestPath) (ap pathText (named .0) ∙ sym (full path (k .full) .text)) (fits-length (c .names) (parts .fitting))
+
+      -- the parents that it created
+      pub parents-above : c .parents ≤ length (namesIn path) - 1
+      parents-above = subst (λ (ns : Names). c .parents ≤ length ns - 1) (named .0) (parts .above)
+
+      pub parents-small : c .parents < deepest
+      parents-small = parents-few c parts
+
+      pub parents-new : (j : ℕ) → 1 ≤ j → j ≤ c .parents → (x : Domain) →
+          readable (tableOf t) x (take (length (namesIn path) - j) (namesIn path)) ≡ false
+      parents-new j l m x =
+          let b = table-decoded t h in
+          let few = parents-absent d request (namesIn path) (tableOf t) (b .good) (b .fitting) (full path (k .full) .names) (k .proper) c e in
+          unread (tableOf t) (namesIn path) j (omega (arith, few)) x
+
+      pub removal-alone : c .removal ≡ true → c .parents ≡ 0
+      removal-alone r = parts .removed r .0

@@ -25,7 +25,7 @@ use Rattle.rules.proofs.Tables.{decoded-at}
 use Rattle.rules.proofs.Paste.{paste-own}
 use Rattle.rules.proofs.EntryLayouts.{whole, map-whole}
 use Rattle.slots.proofs.Canonical.{sound-canonical}
-use Rattle.transactions.specs.Transaction.{transactionOf, changeGiven, changedBy}
+use Rattle.transactions.specs.Transaction.{transactionOf, changeGiven, changedBy, RoomForChange}
 use Rattle.payload.specs.Meaning.{askMeant}
 use Rattle.payload.specs.declared.answer.Ask.{Ask}
 use Rattle.nodes.specs.Answers.{effectMeant, Answers, Answered}
@@ -39,11 +39,11 @@ use Rattle.replies.specs.Framed.{Told}
 use Rattle.replies.specs.Handled.{Handled}
 use Rattle.replies.specs.declared.kinds.Outcome.{Outcome}
 use Rattle.replies.specs.Does.{tables, itsNodes, itsWatches, itsDomains}
-use Rattle.handlers.specs.Asking.{copyIn, Asking, InCopy, Changing, ninthReply}
+use Rattle.handlers.specs.Asking.{copyIn, Asking, InCopy, ninthReply}
 use Rattle.handlers.proofs.Alone.{copies-alone, transactions-alone}
 use Rattle.handlers.proofs.Ways.{outcomeOf, same-tables, done-so}
 use Rattle.handlers.proofs.StartLaws.{copy-put}
-use Rattle.handlers.proofs.Answers.{change-okay, table-still, madeBy, change-made, left-sound, path-short}
+use Rattle.handlers.proofs.Answers.{change-okay, table-still, Makes, left-sound, path-short, parents-small}
 
 -- ── bytes ──
 
@@ -117,10 +117,11 @@ module _ (d : Domain) (a : P.Ask) (path copied t t′ reply reply′ : Octets) (
       let q = still-reply own (sym (answered-here .change) ∙ ap (λ (y : Effect). effectMeant y (namesIn path)) e) in
       rw p (subst (λ (y : A.Reply). Told y (r .reply) reply reply′) (sym q) (answered-here .reply), refl)
 
-  pub eight-refused : length reply ≡ replySize → (removed : Bool) → r .effect ≡ madeBy removed → o ≡ outcomeOf (Refused NoSpace) 0 → Eighth
-  eight-refused l removed x p =
-      let c = changeGiven removed path in
-      let e = sym (answered-here .change) ∙ change-made removed path (r .effect) x in
+  pub eight-refused : length reply ≡ replySize → (removed : Bool) (parents : ℕ) → Makes (r .effect) path removed parents →
+      o ≡ outcomeOf (Refused NoSpace) 0 → Eighth
+  eight-refused l removed parents x p =
+      let c = changeGiven removed parents path in
+      let e = sym (answered-here .change) ∙ x in
       let okay = change-okay d (namesIn path) (tableOf copied) a c e in
       let over = over-told (r .reply) reply reply′ l (subst (λ (u : A.Reply). Told u (r .reply) reply reply′) okay (answered-here .reply)) in
       rw p (subst (λ (u : A.Reply). Told u (Refused NoSpace) reply reply′) (sym (ninth-reply own c e)) over, refl)
@@ -166,10 +167,13 @@ module _ {d : Domain} {ask : Ask} {path v : Octets} (q : Asking d ask path v) wh
   module _ (cs xs : Octets) (k : ℕ) (reply : Octets) (s : InCopy cs xs k reply) (t t′ reply′ : Octets) (r : Answer) (here : t ≡ copyIn cs k)
       (told : Answered d (askMeant v ask) path t t′ reply reply′ r) where
     -- what a change's entry wants
-    pub changing : length (transactionOf xs k .changes) < mostChanges → (removed : Bool) → r .effect ≡ madeBy removed → Changing xs k path
-    changing few removed e =
-        let short = path-short q t (rw here (s .sound)) (changeGiven removed path) (sym (told .change) ∙ change-made removed path (r .effect) e) in
-        record { place = s .place; few = few; full = q .full; short = short }
+    pub changing : length (transactionOf xs k .changes) < mostChanges → (removed : Bool) (parents : ℕ) → Makes (r .effect) path removed parents →
+        RoomForChange xs k parents path
+    unfolding changeGiven
+    changing few removed parents e =
+        let made = sym (told .change) ∙ e in
+        let sound = rw here (s .sound) in
+        record { place = s .place; few = few; fits = parents-small q t sound _ made; full = q .full; short = path-short q t sound _ made }
 
     module _ (w : World) (cw : w .copies ≡ chunks mostTransactions tableSize cs) (xw : w .transactions ≡ transactionsOf xs) (events : Octets)
         (o : Outcome) where
@@ -202,15 +206,16 @@ module _ {d : Domain} {ask : Ask} {path v : Octets} (q : Asking d ask path v) wh
           (part-put cs t′ k long ∙ ap (λ (y : Octets). paste (k * tableSize) y cs) u ∙ own ∙ copies-alone w cs (s .whole) cw) refl
           (transactions-alone w xs (s .place .kept) xw) refl)
 
-      pub change-handled : (removed : Bool) → r .effect ≡ madeBy removed → length (transactionOf xs k .changes) < mostChanges → (xs′ : Octets) →
-          xs′ ≡ transactionsBytes (set (transactionsOf xs) k (some (changedBy (transactionOf xs k) removed path))) → o ≡ outcomeOf (r .reply) 0 →
+      pub change-handled : (removed : Bool) (parents : ℕ) → Makes (r .effect) path removed parents →
+          length (transactionOf xs k .changes) < mostChanges → (xs′ : Octets) →
+          xs′ ≡ transactionsBytes (set (transactionsOf xs) k (some (changedBy (transactionOf xs k) removed parents path))) → o ≡ outcomeOf (r .reply) 0 →
           Handled (W.inTransaction w k (transactionOf xs k) z) (tables (itsNodes w) cs′ (itsWatches w) xs′ (itsDomains w)) reply reply′ events events o
       unfolding changedBy
-      change-handled removed e few xs′ b p =
-          let c = changeGiven removed path in
-          let made = sym (answered .change) ∙ change-made removed path (r .effect) e in
+      change-handled removed parents e few xs′ b p =
+          let c = changeGiven removed parents path in
+          let made = sym (answered .change) ∙ e in
           let put = copy-put cs k t′ cs′ (s .whole) long (s .place .below) (part-put cs t′ k long) in
           done-so w _ reply o events (z .reply) _ reply′ (r .reply) _ (in-transaction-done w k (transactionOf xs k) z c made few) p (answered .reply)
           (same-tables refl
           (put ∙ ap₂ (λ (y : List Octets) (u : Octets). flatMap whole (set y k u)) (sym cw) (answered .table)) refl
-          (b ∙ ap (λ (y : Transactions). transactionsBytes (set y k (some (changedBy (transactionOf xs k) removed path)))) (sym xw)) refl)
+          (b ∙ ap (λ (y : Transactions). transactionsBytes (set y k (some (changedBy (transactionOf xs k) removed parents path)))) (sym xw)) refl)

@@ -2,9 +2,9 @@
 use mathlib.Core.Path.{_≡_}
 use mathlib.Core.Bool.{true, false}
 use mathlib.Core.Option.{none, some}
-use Prim.Native.Nat.{ℕ, _*_, _<_, _≤_}
+use Prim.Native.Nat.{ℕ, _*_, _≤_}
 use lib.ListN.{length, take, drop}
-use Rattle.rules.specs.Size.{lastDomain, replySize, tableSize, copiesSize, eventsSize, longestPath, mostChanges}
+use Rattle.rules.specs.Size.{lastDomain, replySize, tableSize, copiesSize, eventsSize}
 use Rattle.rules.specs.Octets.{Octets}
 use Rattle.rules.specs.Domain.{Domain}
 use Rattle.rules.specs.Path.{isFull, namesIn}
@@ -17,14 +17,13 @@ use Rattle.rules.specs.Layout.{tableOf, watchesOf, transactionsBytes, transacti
 use Rattle.rules.specs.Sound.{soundTable}
 use Rattle.rules.specs.World.{staled}
 use Rattle.watches.specs.Watch.{KeptWatches}
-use Rattle.transactions.specs.Transaction.{KeptTransactions, transactionOf, changeGiven, OpenTransaction}
+use Rattle.transactions.specs.Transaction.{KeptTransactions, OpenTransaction}
 use Rattle.events.specs.Records as Events
 use Rattle.events.specs.Records.{Mask}
+use Rattle.events.specs.Stores.{happened}
 use Rattle.payload.specs.Meaning.{askMeant, AskSound}
 use Rattle.payload.specs.declared.answer.Ask.{Ask}
 use Rattle.payload.specs.declared.answer.Ask.the-variants.{Directory, Read, GetPerms, Write, Mkdir, Rm, SetPerms}
-use Rattle.replies.specs.declared.kinds.Reply.{Reply}
-use Rattle.replies.specs.declared.kinds.Outcome.{Outcome}
 
 -- the bytes of copy k
 abbrev pub copyIn : Octets → ℕ → Octets
@@ -50,18 +49,15 @@ abbrev pub Hearing : Ask → Table → Watches → Octets → ℕ → Type 0
 Hearing Directory t ws path m = Unit {0}
 Hearing Read t ws path m = Unit {0}
 Hearing GetPerms t ws path m = Unit {0}
-Hearing (Write from) t ws path m = Mask (maskOf (hears t t (changeGiven false path)) ws) m
-Hearing Mkdir t ws path m = Mask (maskOf (hears t t (changeGiven false path)) ws) m
-Hearing Rm t ws path m = Mask (maskOf (hears t t (changeGiven true path)) ws) m
-Hearing (SetPerms es) t ws path m = Mask (maskOf (hears t t (changeGiven false path)) ws) m
+Hearing (Write from) t ws path m = Mask (maskOf (hears t t (happened false path)) ws) m
+Hearing Mkdir t ws path m = Mask (maskOf (hears t t (happened false path)) ws) m
+Hearing Rm t ws path m = Mask (maskOf (hears t t (happened true path)) ws) m
+Hearing (SetPerms es) t ws path m = Mask (maskOf (hears t t (happened false path)) ws) m
 
--- all open transactions are stale, and the change is recorded
-pub record Changed (before : Table) (nodes watches transactions : Octets) (c : Change) (r : Reply) (events transactions′ events′ : Octets)
-    (o : Outcome) : Type 0 where
+-- all open transactions are stale, and the change's events are recorded
+pub record Changed (before : Table) (nodes watches transactions : Octets) (c : Change) (events transactions′ events′ : Octets) (n : ℕ) : Type 0 where
   pub stale : transactions′ ≡ transactionsBytes (staled (transactionsOf transactions))
-  pub count : ℕ
-  pub heard : Events.Recorded 0 (heardChange before (tableOf nodes) (watchesOf watches) c) events events′ count
-  pub outcome : o ≡ record { reply = r; events = count; page = 0; channel = 0 }
+  pub heard : Events.Recorded 0 (heardChange before (tableOf nodes) (watchesOf watches) c) events events′ n
 
 -- the open transaction in place k, whose copy is sound
 pub record InCopy (copies transactions : Octets) (k : ℕ) (reply : Octets) : Type 0 where
@@ -69,13 +65,6 @@ pub record InCopy (copies transactions : Octets) (k : ℕ) (reply : Octets) : Ty
   pub place : OpenTransaction transactions k
   pub sound : soundTable (copyIn copies k) ≡ true
   pub long : length reply ≡ replySize
-
--- room for one change more in it, and the path of the change
-pub record Changing (transactions : Octets) (k : ℕ) (path : Octets) : Type 0 where
-  pub place : OpenTransaction transactions k
-  pub few : length (transactionOf transactions k .changes) < mostChanges
-  pub full : isFull path ≡ true
-  pub short : length path ≤ longestPath
 
 -- "a ninth is refused with ENOSPC": the reply of a request in a transaction that has eight
 unfoldable pub ninthReply : A.Answer → A.Reply

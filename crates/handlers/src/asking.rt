@@ -2,9 +2,9 @@
 ghost use mathlib.Core.Path.{_≡_};
 ghost use mathlib.Core.Bool.{true};
 ghost use mathlib.Core.Option.{none, some};
-ghost use Prim.Native.Nat.{_≤_};
+ghost use Prim.Native.Nat.{_-_, _<_, _≤_};
 ghost use lib.ListN.{length, set};
-ghost use Rattle.rules.specs.Size.{replySize, eventsSize, longestPath};
+ghost use Rattle.rules.specs.Size.{replySize, eventsSize, longestPath, deepest};
 ghost use Rattle.rules.specs.Path.{isFull, namesIn};
 ghost use Rattle.rules.specs.Node.{Table};
 ghost use Rattle.rules.specs.Answer.{answer};
@@ -13,13 +13,13 @@ ghost use Rattle.rules.specs.Layout.{tableOf, watchesOf, transactionsOf, transa
 ghost use Rattle.rules.specs.Sound.{soundTable};
 ghost use Rattle.rules.specs.World as W;
 ghost use Rattle.rules.specs.World.{World, copyOf};
-ghost use Rattle.transactions.specs.Transaction.{KeptTransactions, transactionOf, changeGiven, changedBy};
+ghost use Rattle.transactions.specs.Transaction.{KeptTransactions, transactionOf, changeGiven, changedBy, RoomForChange};
 ghost use Rattle.events.specs.Records.{Mask};
-ghost use Rattle.events.specs.Stores.{Store};
+ghost use Rattle.events.specs.Stores.{Store, happened, NewAbove};
 ghost use Rattle.payload.specs.Meaning.{askMeant};
 ghost use Rattle.replies.specs.Framed.{Told};
 ghost use Rattle.replies.specs.Does.{lent, Does};
-ghost use Rattle.handlers.specs.Asking.{Asking, OnStore, Hearing, Changed, InCopy, Changing, ninthReply};
+ghost use Rattle.handlers.specs.Asking.{Asking, OnStore, Hearing, Changed, InCopy, ninthReply};
 use events::changes::change_since;
 use events::masks::in_store;
 use nodes::answers::answer;
@@ -52,7 +52,8 @@ fn hearing(ask: Ask, nodes: &[u8], watches: &[u8], path: &[u8]) -> u32
     }
 }
 
-// Makes all open transactions stale after a change of the store, and enters who hears it, given those that heard it in the store before.
+// Makes all open transactions stale after a change of the store, and enters who hears it, given those that heard it in the store before; answers
+// how many records there are.
 fn after_change(
     heard: u32,
     nodes: &[u8],
@@ -60,19 +61,18 @@ fn after_change(
     transactions: &mut [u8],
     path: &[u8],
     removed: bool,
-    r: Reply,
+    parents: usize,
     events: &mut [u8],
-) -> Outcome
+) -> usize
     requires { ⌜ Store (now nodes) (now watches) × KeptTransactions (now transactions) × (isFull (now path) ≡ true) × (length (now path) ≤ longestPath) ×
-        (length (now events) ≡ eventsSize) ⌝ }
-    ensures { λ o. ⌜ ((before : Table) → Mask (maskOf (hears before before (changeGiven removed (now (path .entry)))) (watchesOf (now (watches .entry))))
-        heard →
-        Changed before (now (nodes .entry)) (now (watches .entry)) (now (transactions .entry)) (changeGiven removed (now (path .entry))) r
-        (now (events .entry)) (now (transactions .exit)) (now (events .exit)) o) ⌝ }
+        (parents ≤ length (namesIn (now path)) - 1) × (parents < deepest) × (length (now events) ≡ eventsSize) ⌝ }
+    ensures { λ n. ⌜ ((before : Table) → Mask (maskOf (hears before before (happened removed (now (path .entry)))) (watchesOf (now (watches .entry)))) heard →
+        NewAbove before removed parents (now (path .entry)) →
+        Changed before (now (nodes .entry)) (now (watches .entry)) (now (transactions .entry)) (changeGiven removed parents (now (path .entry)))
+        (now (events .entry)) (now (transactions .exit)) (now (events .exit)) n) ⌝ }
 {
     stale_all(transactions);
-    let n = change_since(heard, nodes, watches, path, removed, 0, events);
-    with_events(r, n)
+    change_since(heard, nodes, watches, path, removed, parents, events)
 }
 
 // A domain's request on the store; s is its payload.
@@ -100,8 +100,14 @@ pub fn on_store(
     let effect = a.effect;
     match effect {
         Effect::Nothing => with_events(r, 0),
-        Effect::Wrote => after_change(heard, nodes, watches, transactions, path, false, r, events),
-        Effect::Removed => after_change(heard, nodes, watches, transactions, path, true, r, events),
+        Effect::Wrote(parents) => with_events(
+            r,
+            after_change(heard, nodes, watches, transactions, path, false, parents, events),
+        ),
+        Effect::Removed => with_events(
+            r,
+            after_change(heard, nodes, watches, transactions, path, true, 0, events),
+        ),
     }
 }
 
@@ -126,19 +132,26 @@ fn in_full_transaction(
     let effect = a.effect;
     match effect {
         Effect::Nothing => with_events(r, 0),
-        Effect::Wrote => with_events(Reply::Refused(Errno::NoSpace), 0),
+        Effect::Wrote(_) => with_events(Reply::Refused(Errno::NoSpace), 0),
         Effect::Removed => with_events(Reply::Refused(Errno::NoSpace), 0),
     }
 }
 
 // Enters a change in the transaction in place k.
-fn enter_change(transactions: &mut [u8], k: usize, removed: bool, path: &[u8], r: Reply) -> Outcome
-    requires { ⌜ Changing (now transactions) k (now path) ⌝ }
-    ensures { λ o. ⌜ (now (transactions .exit) ≡ transactionsBytes
-        (set (transactionsOf (now (transactions .entry))) k (some (changedBy (transactionOf (now (transactions .entry)) k) removed (now (path .entry)))))) ×
+fn enter_change(
+    transactions: &mut [u8],
+    k: usize,
+    removed: bool,
+    parents: usize,
+    path: &[u8],
+    r: Reply,
+) -> Outcome
+    requires { ⌜ RoomForChange (now transactions) k parents (now path) ⌝ }
+    ensures { λ o. ⌜ (now (transactions .exit) ≡ transactionsBytes (set (transactionsOf (now (transactions .entry))) k
+        (some (changedBy (transactionOf (now (transactions .entry)) k) removed parents (now (path .entry)))))) ×
         (o ≡ record { reply = r; events = 0; page = 0; channel = 0 }) ⌝ }
 {
-    add_change(transactions, k, removed, path);
+    add_change(transactions, k, removed, parents, path);
     with_events(r, 0)
 }
 
@@ -170,7 +183,7 @@ pub fn in_transaction(
     let effect = a.effect;
     match effect {
         Effect::Nothing => with_events(r, 0),
-        Effect::Wrote => enter_change(transactions, k, false, path, r),
-        Effect::Removed => enter_change(transactions, k, true, path, r),
+        Effect::Wrote(parents) => enter_change(transactions, k, false, parents, path, r),
+        Effect::Removed => enter_change(transactions, k, true, 0, path, r),
     }
 }

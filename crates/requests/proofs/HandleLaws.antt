@@ -24,6 +24,7 @@ use Rattle.rules.proofs.Tables.{decoded-at, length-chunks}
 use Rattle.rules.proofs.EntryLayouts.{whole}
 use Rattle.rules.proofs.Senders.{connection-fits}
 use Rattle.rules.proofs.SoundBytes.{decoded}
+use Rattle.rules.proofs.SoundTables.{changes-good}
 use Rattle.rules.proofs.SoundWorld.{SoundWorld, known-range}
 use Rattle.senders.specs.Speaks.{Speaks}
 use Rattle.senders.specs.declared.Sender.{Sender}
@@ -116,6 +117,9 @@ module _ (t : Tables) (sender : Sender) (reply events s : Octets) (v : Served t 
         copy = λ k o.
             let x = taken-some (opened 0) (getD (transactionsOf (t .transactions)) k none) (o .used) in
             subst (λ (y : Octets). soundTable y ≡ true) (copy-at (t .copies) k (o .below)) (sound-world .transactions .each k _ x .copy);
+        good = λ k o.
+            let x = taken-some (opened 0) (getD (transactionsOf (t .transactions)) k none) (o .used) in
+            changes-good _ (sound-world .transactions .each k _ x .good);
         watching = watches-kept;
         kept = transactions-kept;
         long = v .reply;

@@ -1,4 +1,4 @@
--- The transactions are stale, and the record is that of those who heard the change before or hear it after.
+-- The transactions are stale, and the records are those of the change's events for who heard them before or hears them after.
 use borrow.Author.Needs.{needs}
 use Rattle.handlers.proofs.asking.after_change.Statement.{statement}
 use Rattle.handlers.proofs.asking.after_change.Tie as tie
@@ -9,9 +9,6 @@ stale-all-requires c κs = search needs
 change-since-requires : tie.Need-change-since-requires
 change-since-requires c κs = search needs
 
-with-events-requires : tie.Need-with-events-requires
-with-events-requires c κs = search needs
-
 same-length : tie.Need-same-length
 same-length c = search needs
 
@@ -20,9 +17,9 @@ same-length-2 c = search needs
 
 returns : tie.Need-returns
 returns c =
-    let told = c .before .before .before .change-since in
-    let stale = c .before .before .before .before .before .before .before .stale-all .ensures in
-    λ before m. record { stale = stale; count = told .result; heard = told .ensures before m; outcome = c .with-events .ensures }
+    let told = c .before .before .change-since in
+    let stale = c .before .before .before .before .before .before .stale-all .ensures in
+    λ before m new. record { stale = stale; heard = told .ensures before m new }
 
 pub after-change-spec : {M : Type 1} → statement M
 after-change-spec =
@@ -30,7 +27,6 @@ after-change-spec =
     (tie.spec
     stale-all-requires
     change-since-requires
-    with-events-requires
     same-length
     same-length-2
     returns)

@@ -1,12 +1,11 @@
 -- The request is answered on a table of its own, so the copy stays; a change there would be the ninth.
 use mathlib.Core.Path.{_∙_}
-use mathlib.Core.Bool.{true, false}
 use native.Mathlib.Omega.{arith}
 use Rattle.rules.proofs.Paste.{paste-whole}
 use Rattle.slots.proofs.Canonical.{sound-canonical}
 use Rattle.handlers.proofs.AskingLaws.{eight-still, eight-refused}
 use Rattle.payload.specs.Meaning.{askMeant}
-use Rattle.handlers.proofs.Answers.{ready}
+use Rattle.handlers.proofs.Answers.{ready, wrote-makes, removed-makes}
 use borrow.Author.Needs.{needs}
 use Rattle.handlers.proofs.asking.in_full_transaction.Statement.{statement}
 use Rattle.handlers.proofs.asking.in_full_transaction.Tie as tie
@@ -68,7 +67,8 @@ returns-2 c =
     let pre = copied .before .before .before .before .before .before .pre in
     let same = copied .copy .ensures ∙ paste-whole _ _ (sound-canonical (args .copied .now) (pre .0) .whole) in
     eight-refused (args .domain) (askMeant (args .s .now) (args .ask)) (args .path .now) (args .copied .now) _ _ _ _ same _
-    (c .before .before .before .before .before .before .answer .ensures) _ (pre .2) false (c .before .enum-told2 .given .1) (c .with-events2 .ensures)
+    (c .before .before .before .before .before .before .answer .ensures) _ (pre .2) _ _
+    (wrote-makes _ _ _ (c .before .enum-told2 .given .1)) (c .with-events2 .ensures)
 
 same-length-3 : tie.Need-same-length-3
 same-length-3 c = search needs
@@ -80,7 +80,8 @@ returns-3 c =
     let pre = copied .before .before .before .before .before .before .pre in
     let same = copied .copy .ensures ∙ paste-whole _ _ (sound-canonical (args .copied .now) (pre .0) .whole) in
     eight-refused (args .domain) (askMeant (args .s .now) (args .ask)) (args .path .now) (args .copied .now) _ _ _ _ same _
-    (c .before .before .before .before .before .before .answer .ensures) _ (pre .2) true (c .before .enum-told3 .given .1) (c .with-events3 .ensures)
+    (c .before .before .before .before .before .before .answer .ensures) _ (pre .2) _ _
+    (removed-makes _ _ (c .before .enum-told3 .given .1)) (c .with-events3 .ensures)
 
 pub in-full-transaction-spec : {M : Type 1} → statement M
 in-full-transaction-spec =

@@ -1,13 +1,12 @@
 -- The answer's table takes the copy's place and its change is entered; with eight changes it is that of a full transaction.
 use mathlib.Core.Path.{subst}
-use mathlib.Core.Bool.{true, false}
 use Prim.Native.Nat.{ℕ, _≤_, _<_}
 use Rattle.rules.specs.Size.{mostChanges}
 use Rattle.rules.specs.Path.{namesIn}
 use Rattle.rules.specs.Answer.{answer}
 use Rattle.handlers.proofs.AskingLaws.{copy-part, full-handled, changing, nothing-handled, change-handled}
 use Rattle.payload.specs.Meaning.{askMeant}
-use Rattle.handlers.proofs.Answers.{ready}
+use Rattle.handlers.proofs.Answers.{ready, wrote-makes, removed-makes}
 use borrow.Author.Needs.{needs}
 use Rattle.handlers.proofs.asking.in_transaction.Statement.{statement}
 use Rattle.handlers.proofs.asking.in_transaction.Tie as tie
@@ -88,7 +87,7 @@ enter-change-requires c κs =
     (c .before .before .before .before .before .before .before .before .before .before .if1 .left) in
     changing (pre .1) _ _ _ _ (pre .0) _ _ _ _ (copy-part (args .copies .now) (args .k))
     (c .before .before .before .before .before .before .before .answer .ensures) few
-    false (c .before .enum-told2 .given .1)
+    _ _ (wrote-makes _ _ _ (c .before .enum-told2 .given .1))
 
 enum-told-3 : tie.Need-enum-told-3
 enum-told-3 c = search needs
@@ -102,7 +101,7 @@ enter-change-requires-2 c κs =
     (c .before .before .before .before .before .before .before .before .before .before .if1 .left) in
     changing (pre .1) _ _ _ _ (pre .0) _ _ _ _ (copy-part (args .copies .now) (args .k))
     (c .before .before .before .before .before .before .before .answer .ensures) few
-    true (c .before .enum-told3 .given .1)
+    _ _ (removed-makes _ _ (c .before .enum-told3 .given .1))
 
 same-length-4 : tie.Need-same-length-4
 same-length-4 c = search needs
@@ -140,7 +139,7 @@ returns-3 c =
     let entered = c .before .before .enter-change .ensures in
     λ w l events. change-handled (pre .1) _ _ _ _ (pre .0) _ _ _ _ (copy-part (args .copies .now) (args .k))
     (c .before .before .before .before .before .before .before .before .before .before .answer .ensures)
-    w (l .copies) (l .transactions) events _ false (c .before .before .before .before .enum-told2 .given .1) few _ (entered .0) (entered .1)
+    w (l .copies) (l .transactions) events _ _ _ (wrote-makes _ _ _ (c .before .before .before .before .enum-told2 .given .1)) few _ (entered .0) (entered .1)
 
 same-length-10 : tie.Need-same-length-10
 same-length-10 c = search needs
@@ -161,7 +160,7 @@ returns-4 c =
     let entered = c .before .before .enter-change2 .ensures in
     λ w l events. change-handled (pre .1) _ _ _ _ (pre .0) _ _ _ _ (copy-part (args .copies .now) (args .k))
     (c .before .before .before .before .before .before .before .before .before .before .answer .ensures)
-    w (l .copies) (l .transactions) events _ true (c .before .before .before .before .enum-told3 .given .1) few _ (entered .0) (entered .1)
+    w (l .copies) (l .transactions) events _ _ _ (removed-makes _ _ (c .before .before .before .before .enum-told3 .given .1)) few _ (entered .0) (entered .1)
 
 pub in-transaction-spec : {M : Type 1} → statement M
 in-transaction-spec =

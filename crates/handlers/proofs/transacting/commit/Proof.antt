@@ -22,7 +22,7 @@ part-copied-end c = search needs
 changes-requires : tie.Need-changes-requires
 changes-requires c κs =
     let pre = c .before .before .before .before .before .before .before .before .before .before .pre in
-    (committing-stores _ _ _ _ _ _ (pre .0) _ (pre .1), pre .1, pre .0 .room)
+    (committing-stores _ _ _ _ _ _ (pre .0) _ (pre .1), pre .1, pre .0 .good _ (pre .1), pre .0 .room)
 
 copy-requires : tie.Need-copy-requires
 copy-requires c κs =
