@@ -123,8 +123,8 @@ fn kept(s: &[u8]) -> bool
 
 // ── what is asked of each transaction ──
 
-// Whether a change on a path within the sizes has no more new parents than the path has nodes above it besides the root,
-// and a removed one none and is not `/`.
+// Whether a change on a path within the sizes has no more new parents than the path has nodes above it besides the root;
+// a removal has none, and is not of `/`.
 fn parents_good(removed: bool, parents: usize, path: &[u8]) -> bool
     requires { ⌜ (isFull (now path) ≡ true) × (fits (namesIn (now path)) ≡ true) ⌝ }
     ensures { λ r. ⌜ r ≡ goodChange (changeGiven removed parents (now (path .entry))) ⌝ }
@@ -141,7 +141,7 @@ fn parents_good(removed: bool, parents: usize, path: &[u8]) -> bool
     parents < depth(path)
 }
 
-// Whether change j is on a path within the sizes, and its new parents are among the nodes above it.
+// Whether change j is on a path within the sizes, and its new parents and its removal go with that path.
 fn change_good(s: &[u8], k: usize, j: usize) -> bool
     requires { ⌜ HasChange (now s) k j ⌝ }
     ensures { λ r. ⌜ r ≡ goodChange (changeOf (now (s .entry)) k j) ⌝ }
