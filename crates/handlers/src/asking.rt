@@ -102,7 +102,16 @@ pub fn on_store(
         Effect::Nothing => with_events(r, 0),
         Effect::Wrote(parents) => with_events(
             r,
-            after_change(heard, nodes, watches, transactions, path, false, parents, events),
+            after_change(
+                heard,
+                nodes,
+                watches,
+                transactions,
+                path,
+                false,
+                parents,
+                events,
+            ),
         ),
         Effect::Removed => with_events(
             r,

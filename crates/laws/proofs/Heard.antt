@@ -230,8 +230,9 @@ created-is-heard cs c ns o k =
     let s = run-keeps freshWorld cs fresh-sound in
     let f : AskedGood (k .kind) ns = subst (ParsedGood (c .sender)) (k .asked) (request-good c) in
     let d = domainOf (c .sender) in
-    let y : onStore w (answer d (k .kind) ns (w .nodes)) ≡ o = rw (k .asked, k .plain) at (served-is w c o (k .served)) in
-    (λ p below e n i v at.
-    subst (λ (z : Outcome). succeeds (z .reply) ≡ true → Attends (z .world .nodes) v p → Told p i (z .records)) y
-    (λ q. told-of-created w s d (k .kind) ns f (k .creating) (subst (λ (r : Reply). succeeds r ≡ true) (on-store-reply w 0 _) q) p below e n i v at) (k .done),
-    subst (λ (z : Outcome). Lengthening 0 (z .records)) y (in-order w s d (k .kind) ns f))
+    let y : onStore w (answer d (k .kind) ns (w .nodes)) ≡ o = rw (k .asked, k .plain) at (served-is w c o (k .served)) in (
+      λ p below e n i v at.
+          subst (λ (z : Outcome). succeeds (z .reply) ≡ true → Attends (z .world .nodes) v p → Told p i (z .records)) y
+          (λ q. told-of-created w s d (k .kind) ns f (k .creating) (subst (λ (r : Reply). succeeds r ≡ true) (on-store-reply w 0 _) q) p below e n i v at) (k .done),
+      subst (λ (z : Outcome). Lengthening 0 (z .records)) y (in-order w s d (k .kind) ns f),
+    )

@@ -264,7 +264,7 @@ module _ (d : Domain) (ns : Names) (t : Table) (g : Good t) (f : Fitting t) (nam
   answered-told getPerms p [] i e = untold _
   answered-told getPerms p (n ∷ l) i e = untold _
   answered-told (write v) p [] i e =
-      cond-case Told (mayWrite d (nodeAt t i)) _ _ 
+      cond-case Told (mayWrite d (nodeAt t i)) _ _
       (cond-case Told (leb (length v) longestValue) _ _ (rewritten-told _ (ap Reached.left e)) (untold _)) (untold _)
   answered-told (write v) p (n ∷ l) i e = created-told _ v e
   answered-told mkdir p [] i e = untold _

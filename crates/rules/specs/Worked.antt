@@ -96,14 +96,21 @@ COMMIT tx = message 7 tx (string "T")
 abbrev pub INTRODUCE : S.String → Octets
 INTRODUCE d = message 8 0 (string d ++ (string "1" ++ string "1"))
 
+-- in transaction tx, 0 outside
+abbrev pub WRITEIN : ℕ → S.String → S.String → Octets
+WRITEIN tx p v = message 11 tx (string p ++ text v)
+
 abbrev pub WRITE : S.String → S.String → Octets
-WRITE p v = message 11 0 (string p ++ text v)
+WRITE p v = WRITEIN 0 p v
 
 abbrev pub MKDIR : S.String → Octets
 MKDIR p = message 12 0 (string p)
 
+abbrev pub RMIN : ℕ → S.String → Octets
+RMIN tx p = message 13 tx (string p)
+
 abbrev pub RM : S.String → Octets
-RM p = message 13 0 (string p)
+RM p = RMIN 0 p
 
 abbrev pub SETPERMS : S.String → Octets → Octets
 SETPERMS p es = message 14 0 (string p ++ es)
@@ -222,5 +229,15 @@ added =
     ∷ record {
       says = "Each created node is heard: a watch on `/local` with depth 2 hears three of the four that WRITE `/local/domain/5/x` creates.";
       steps = heardBy 0 (WATCHTO "/local" "2") OK 1 ∷ heardBy 0 (WRITE "/local/domain/5/x" "1") OK 3 ∷ [];
+    }
+    ∷ record {
+      says = "In a transaction a change creates what its copy lacks: WRITE `/a/b`, WRITE `/a/c`, END T are heard as `/a`, `/a/b`, `/a/c`.";
+      steps = heardBy 0 (WATCH "/") OK 1 ∷ call 0 START (done (string "1")) ∷ heardBy 0 (WRITEIN 1 "/a/b" "1") OK 0
+          ∷ heardBy 0 (WRITEIN 1 "/a/c" "1") OK 0 ∷ heardBy 0 (COMMIT 1) OK 3 ∷ [];
+    }
+    ∷ record {
+      says = "A path that was created and removed again in one transaction is heard by nobody: WRITE `/a/b`, RM `/a/b`, END T are heard as `/a`.";
+      steps = heardBy 0 (WATCH "/") OK 1 ∷ call 0 START (done (string "1")) ∷ call 0 (WRITEIN 1 "/a/b" "7") OK ∷ call 0 (RMIN 1 "/a/b") OK
+          ∷ heardBy 0 (COMMIT 1) OK 1 ∷ [];
     }
     ∷ []
