@@ -14,6 +14,8 @@ pub mod store;
 pub mod world;
 
 #[cfg(test)]
+mod created;
+#[cfg(test)]
 mod worked;
 
 use layout::{decode, encode};
