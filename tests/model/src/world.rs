@@ -25,11 +25,15 @@ pub struct Change {
 }
 
 impl Change {
+    /// The parents that were created, topmost first.
+    pub fn created_parents(&self) -> impl Iterator<Item = Vec<u8>> + '_ {
+        let names = path::depth(&self.path);
+        (names - self.parents..names).map(|count| path::leading(&self.path, count))
+    }
+
     /// One event for each created parent, topmost first, and one for the named path.
     fn events(&self) -> impl Iterator<Item = Event> + '_ {
-        let names = path::depth(&self.path);
-        let parents = (names - self.parents..names).map(|count| path::leading(&self.path, count));
-        parents.chain([self.path.clone()]).map(|path| Event::Node { path, removed: self.removed })
+        self.created_parents().chain([self.path.clone()]).map(|path| Event::Node { path, removed: self.removed })
     }
 }
 
