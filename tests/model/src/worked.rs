@@ -1,4 +1,4 @@
-//! Document 01's worked lines, starred and not, on bytes; and what its other sentences give as an example. Events of created nodes are in `created`.
+//! Document 01's worked lines, starred and not, on bytes; and what its other sentences give as an example.
 
 use crate::layout::{record as record_of, words, write_message};
 use crate::size::*;
