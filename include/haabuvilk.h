@@ -65,6 +65,9 @@ uint32_t haabuvilk_fresh(uint8_t *nodes, size_t nodes_size, uint8_t *copies, siz
  * On 0: the reply to be sent back is the first `reply_length` bytes of `reply` (an error is a reply too), and the first `event_count`
  * records of `events` say which watches hear what; `page` and `channel` are those of an INTRODUCE that succeeded, else 0.
  * Bytes past the reply and past the records stay as they were.
+ *
+ * The records are in the order in which they are to be told: a node that was created comes before what was created in it. A node request
+ * outside transactions has at most 8 records, a commit at most 64, RELEASE at most 128.
  */
 uint32_t haabuvilk_request(uint8_t *nodes, size_t nodes_size, uint8_t *copies, size_t copies_size,
                            uint8_t *watches, size_t watches_size, uint8_t *transactions, size_t transactions_size,

@@ -26,20 +26,37 @@ do_it xenstore-rm /vm/level
 do_it xenstore-rm /absent/below
 do_it xenstore-ls /
 
-echo '$ xenstore-watch -n 4 /vm, while others write and remove'
 seen=$(mktemp)
-timeout 20 xenstore-watch -n 4 /vm > "$seen" 2>&1 &
-watcher=$!
-tries=0
-while [ ! -s "$seen" ] && [ $tries -lt 100 ]; do
-    sleep 0.05
-    tries=$((tries + 1))
-done
+
+# Starts xenstore-watch on a path for so many events, and waits for the first one: start_watch COUNT PATH WORDS
+start_watch() {
+    echo "$ xenstore-watch -n $1 $2, $3"
+    : > "$seen"
+    timeout 20 xenstore-watch -n "$1" "$2" > "$seen" 2>&1 &
+    watcher=$!
+    tries=0
+    while [ ! -s "$seen" ] && [ $tries -lt 100 ]; do
+        sleep 0.05
+        tries=$((tries + 1))
+    done
+}
+
+end_watch() {
+    wait $watcher || echo "status $?"
+    cat "$seen"
+}
+
+start_watch 4 /vm 'while others write and remove'
 xenstore-write /vm/state busy
 xenstore-write /other 1
 xenstore-rm /vm/state
 xenstore-rm /vm
-wait $watcher || echo "status $?"
-cat "$seen"
-rm -f "$seen"
+end_watch
 do_it xenstore-ls /
+
+start_watch 7 /vm 'while others write below nodes that are not there: one path, then two in a transaction'
+xenstore-write /vm/1/state idle
+xenstore-write /vm/2/state idle /vm/2/level 40
+end_watch
+do_it xenstore-ls /vm
+rm -f "$seen"

@@ -208,7 +208,9 @@ static void watches_of_two(void) {
     CHECK(asks(b, WATCH, 0, "w/x|rel|", "OK|"));
     CHECK(is(receive(b), EVENT, "w/x|rel|"));
     CHECK(asks(c, WRITE, 0, "/w/y|1", "OK|"));
+    CHECK(is(receive(a), EVENT, "/w|one|"));
     CHECK(is(receive(a), EVENT, "/w/y|one|"));
+    CHECK(is(receive(b), EVENT, "/w|two|"));
     CHECK(is(receive(b), EVENT, "/w/y|two|"));
     CHECK(silent(a) && silent(b) && silent(c));
     close(b);
@@ -223,6 +225,60 @@ static void watches_of_two(void) {
     CHECK(is(receive(b), EVENT, "/w/y|two|"));
     CHECK(silent(a));
     close(a), close(b), close(c);
+}
+
+/* Each created node is told, the parent first, outside transactions and by a commit. */
+static void created_nodes(void) {
+    int a = connect_to(drive_main_socket), b = connect_to(drive_main_socket);
+    CHECK(asks(a, WATCH, 0, "/n|t|1|", "OK|"));
+    CHECK(is(receive(a), EVENT, "/n|t|"));
+    CHECK(asks(b, MKDIR, 0, "/n/x/y|", "OK|"));
+    CHECK(is(receive(a), EVENT, "/n|t|"));
+    CHECK(is(receive(a), EVENT, "/n/x|t|"));
+    CHECK(silent(a));
+    CHECK(asks(b, START, 0, "|", "1|"));
+    CHECK(asks(b, RM, 1, "/n|", "OK|"));
+    CHECK(asks(b, WRITE, 1, "/n/z/y|1", "OK|"));
+    CHECK(silent(a));
+    CHECK(asks(b, END, 1, "T|", "OK|"));
+    CHECK(is(receive(a), EVENT, "/n|t|"));
+    CHECK(is(receive(a), EVENT, "/n|t|"));
+    CHECK(is(receive(a), EVENT, "/n/z|t|"));
+    CHECK(silent(a));
+    CHECK(asks(b, RM, 0, "/n|", "OK|"));
+    close(a), close(b);
+}
+
+/* One commit's events for a connection that has every watch. */
+static void fullest_commit(void) {
+    int a = connect_to(drive_main_socket), b = connect_to(drive_main_socket);
+    char text[300];
+    for (int i = 0; i < 16; i++) {
+        snprintf(text, sizeof text, "/|%032d|", i);
+        CHECK(asks(a, WATCH, 0, text, "OK|"));
+        CHECK(receive(a).type == EVENT);
+    }
+    CHECK(asks(b, START, 0, "|", "1|"));
+    for (int i = 0; i < 8; i++) {
+        int length = 0;
+        for (int level = 0; level < 8; level++)
+            length += snprintf(text + length, sizeof text - (size_t)length, "/%032d", level ? level : 90 + i);
+        strcpy(text + length, "|");
+        CHECK(asks(b, MKDIR, 1, text, "OK|"));
+    }
+    CHECK(asks(b, END, 1, "T|", "OK|"));
+    bool whole = true;
+    for (int i = 0; i < 64 * 16; i++) {
+        struct message m = receive(a);
+        whole = whole && m.type == EVENT && m.length == (uint32_t)(33 * (i / 16 % 8 + 1) + 34);
+    }
+    CHECK(whole && silent(a));
+    close(a);
+    for (int i = 0; i < 8; i++) {
+        snprintf(text, sizeof text, "/%032d|", 90 + i);
+        CHECK(asks(b, RM, 0, text, "OK|"));
+    }
+    close(b);
 }
 
 static void transactions_of_two(void) {
@@ -403,6 +459,8 @@ int main(int count, char **words) {
     frames();
     half_closed();
     watches_of_two();
+    created_nodes();
+    fullest_commit();
     transactions_of_two();
     guests();
     too_long();

@@ -1,7 +1,7 @@
 //! Steps that go beyond messages: bytes of tables altered, buffers of other sizes, and records that no call makes.
 
 use crate::history::{Call, Poke, Step};
-use crate::make::Maker;
+use crate::make::{frame, Maker};
 use crate::sides::*;
 use model::size::*;
 use model::world::World;
@@ -9,6 +9,9 @@ use model::world::World;
 impl Maker {
     /// Some bytes of a table altered: mostly unsound, sometimes sound but unlike anything that calls make.
     pub fn altered(&mut self, memory: &Memory, world: &World) -> Step {
+        if self.random.percent(25) {
+            return self.new_parents(memory, world);
+        }
         let pokes = if self.random.percent(50) {
             self.craft.pokes(memory)
         } else {
@@ -20,6 +23,19 @@ impl Maker {
             self.request(world)
         };
         Step { pokes, keep: self.random.percent(70), resized: None, call }
+    }
+
+    /// New parents that no call counted in an open transaction, which is mostly committed at once.
+    fn new_parents(&mut self, memory: &Memory, world: &World) -> Step {
+        let (place, pokes) = self.craft.new_parents(memory);
+        let call = if self.random.percent(70) {
+            let holder = world.transactions[place].as_ref().map_or(0, |open| open.holder);
+            let message = frame(7, self.random.next() as u32, place as u32 + 1, b"T\0");
+            Call::Request { sender: holder.into(), message }
+        } else {
+            self.request(world)
+        };
+        Step { pokes, keep: self.random.percent(50), resized: None, call }
     }
 
     fn poke(&mut self, memory: &Memory, world: &World) -> Poke {

@@ -1,5 +1,6 @@
 //! What was reached, so that a gap shows.
 
+use crate::before::{used_slots, Before};
 use crate::history::Call;
 use crate::sides::*;
 use crate::text::KINDS;
@@ -32,7 +33,7 @@ const POSSIBLE: [&str; 17] = [
 ];
 
 /// What else a long run must reach.
-const MARKS: [&str; 26] = [
+const MARKS: [&str; 38] = [
     "full: nodes",
     "full: watches",
     "full: transactions",
@@ -55,8 +56,20 @@ const MARKS: [&str; 26] = [
     "records 2 to 8",
     "records 9 to 127",
     "records 128",
-    "commit with records",
+    "created 2 to 7, all heard",
+    "created 8, all heard",
+    "created, some unheard",
     "commit without",
+    "commit, 1 to 8 records",
+    "commit, 9 to 63 records",
+    "commit, 64 records",
+    "commit: made and removed",
+    "commit: removed and made",
+    "commit: parents altered",
+    "unsound: removal, parents",
+    "unsound: parents as names",
+    "unsound: parents above",
+    "unsound: zero bits",
     "page and channel",
     "request in a transaction",
 ];
@@ -77,16 +90,18 @@ impl Counts {
         *self.marks.entry(mark).or_default() += 1;
     }
 
-    /// Counts a call that both sides answered alike; `memory` is as the call left it.
-    pub fn call(&mut self, call: &Call, answers: &Answers, memory: &mut Memory) {
+    /// Counts a call that both sides answered alike; `before` is what the call found, and `memory` is as it left it.
+    pub fn call(&mut self, call: &Call, answers: &Answers, before: &Before, memory: &mut Memory) {
         self.calls += 1;
         match (call, answers) {
             (_, Answers::Fresh(number)) => self.mark(&format!("fresh number {number}")),
             (_, Answers::Message { number, .. }) => self.mark(&format!("message number {number}")),
             (Call::Request { message, .. }, Answers::Request(results)) => {
                 self.mark(&format!("request number {}", results.number));
-                if results.number == 0 {
-                    self.handled(message, results, memory);
+                match results.number {
+                    0 => self.handled(message, results, before, memory),
+                    2 => before.flaw().into_iter().for_each(|flaw| self.mark(flaw)),
+                    _ => (),
                 }
             }
             _ => unreachable!("a request's answers"),
@@ -100,7 +115,7 @@ impl Counts {
         }
     }
 
-    fn handled(&mut self, message: &[u8], results: &Results, memory: &mut Memory) {
+    fn handled(&mut self, message: &[u8], results: &Results, before: &Before, memory: &mut Memory) {
         let [kind, _, tx_id, _] = words(&message[..16]);
         let reply = &memory.buffer(5)[..results.reply_length as usize];
         let errno = (words(&reply[..16])[0] == 16).then(|| String::from_utf8_lossy(&reply[16..reply.len() - 1]).into_owned());
@@ -118,9 +133,21 @@ impl Counts {
         }
         match OUTCOMES[outcome] {
             "ENOSPC" => self.no_space(kind, tx_id, memory),
-            "OK" if kind == 7 && message[16] == b'T' => self.mark(if results.event_count > 0 { "commit with records" } else { "commit without" }),
+            "OK" if kind == 7 && message[16] == b'T' => before.commit(message, results.event_count).into_iter().for_each(|mark| self.mark(mark)),
             "OK" if tx_id != 0 && matches!(kind, 1..=3 | 11..=14) => self.mark("request in a transaction"),
+            "OK" if matches!(kind, 11 | 12) => self.created(used_slots(memory) - before.used, results.event_count as usize),
             _ => (),
+        }
+    }
+
+    /// A plain request that created nodes, and how many of them were heard.
+    fn created(&mut self, created: usize, heard: usize) {
+        if (1..created).contains(&heard) {
+            self.mark("created, some unheard");
+        } else if heard == 8 {
+            self.mark("created 8, all heard");
+        } else if heard > 1 {
+            self.mark("created 2 to 7, all heard");
         }
     }
 

@@ -4,6 +4,7 @@ use crate::history::Poke;
 use crate::random::Random;
 use crate::sides::*;
 use model::few::Few;
+use model::path;
 use model::size::*;
 use model::store::{Entry, Store};
 use model::world::{Change, Transaction, World};
@@ -50,12 +51,58 @@ impl Craft {
             }
         }
         altered.encode(&world);
-        let mut pokes = Vec::new();
-        for (buffer, size) in ENTRY_SIZES.into_iter().enumerate() {
-            let entries = altered.buffer(buffer).chunks(size).zip(memory.buffer(buffer).chunks(size)).enumerate();
-            pokes.extend(entries.filter(|(_, (new, old))| new != old).map(|(i, (new, _))| Poke { buffer, at: i * size, bytes: new.to_vec() }));
+        differences(memory, &altered)
+    }
+
+    /// An open transaction with new parents that no call counted, sound or with one change that is not: its place, and the entries altered.
+    pub fn new_parents(&mut self, memory: &Memory) -> (usize, Vec<Poke>) {
+        let mut altered = memory.clone();
+        let mut world = altered.decoded().expect("tables that are sound");
+        let place = self.0.below(TRANSACTION_PLACES);
+        let new = Transaction { stale: false, holder: 0, changes: vec![], store: world.store.clone() };
+        let mut open = world.transactions[place].take().unwrap_or(new);
+        open.stale = self.0.percent(10);
+        open.changes = (0..1 + self.0.below(CHANGES)).map(|_| self.sound_change()).collect();
+        for change in open.changes.iter().filter(|_| self.0.percent(60)) {
+            if open.store.reach(&change.path).missing <= open.store.free_slots() {
+                open.store.make(&change.path, 0);
+            }
         }
-        pokes
+        let one = self.0.below(open.changes.len());
+        let flaw = self.0.weighted(&[40, 20, 20, 20, 20]);
+        self.spoil_parents(&mut open.changes[one], flaw);
+        world.transactions[place] = Some(open);
+        altered.encode(&world);
+        if flaw == 4 {
+            let head = place * TRANSACTION + 3 + one * CHANGE;
+            let zeros = 0x10 << self.0.below(3);
+            altered.poke(TRANSACTION_TABLE, head, &[altered.buffer(TRANSACTION_TABLE)[head] | zeros]);
+        }
+        (place, differences(memory, &altered))
+    }
+
+    /// A change that is sound, with any count of new parents that can be.
+    fn sound_change(&mut self) -> Change {
+        let sound: Vec<&str> = PATHS.into_iter().filter(|path| path::is_stored(path.as_bytes())).collect();
+        let path = self.0.pick(&sound).as_bytes().to_vec();
+        let names = path::depth(&path);
+        let parents = self.0.below(names.max(1));
+        Change { path, removed: names > 0 && parents == 0 && self.0.percent(30), parents }
+    }
+
+    /// Makes a change unsound: a removal with new parents, as many as its path has names, or more.
+    fn spoil_parents(&mut self, change: &mut Change, flaw: usize) {
+        let short = ["/", "/a", "/a/b", "/local/domain/0/a"];
+        let named = ["/a", "/a/b", "/local/domain/0/a", "/1/2/3/4/5/6/7"];
+        let path = *self.0.pick(if flaw == 3 { &short } else { &named });
+        let names = path::depth(path.as_bytes());
+        let parents = match flaw {
+            1 => 1 + self.0.below(7),
+            2 => names,
+            3 => names + 1 + self.0.below(7 - names),
+            _ => return,
+        };
+        *change = Change { path: path.into(), removed: flaw == 1, parents };
     }
 
     fn path(&mut self) -> Vec<u8> {
@@ -125,16 +172,27 @@ impl Craft {
     fn alter_transactions(&mut self, world: &mut World) {
         let place = self.0.below(TRANSACTION_PLACES);
         let holder = *self.0.pick(&IDS[..4]);
-        let changes = (0..self.0.below(9)).map(|_| Change { path: PATHS[self.0.below(9)].as_bytes().to_vec(), removed: false }).collect();
+        let changes = (0..self.0.below(9)).map(|_| Change { path: PATHS[self.0.below(9)].as_bytes().to_vec(), removed: false, parents: 0 }).collect();
         let store = world.store.clone();
         let mut open = world.transactions[place].clone().unwrap_or(Transaction { stale: false, holder, changes, store });
-        match self.0.below(5) {
+        match self.0.below(6) {
             0 => open.stale ^= true,
             1 => open.holder = *self.0.pick(&IDS),
-            2 => open.changes.push(Change { path: self.path(), removed: self.0.percent(50) }),
+            2 => open.changes.push(Change { path: self.path(), removed: self.0.percent(50), parents: 0 }),
             3 => open.changes.iter_mut().for_each(|change| change.removed = self.0.percent(50)),
+            4 => open.changes.iter_mut().for_each(|change| change.parents = self.0.below(8)),
             _ => open.changes.reverse(),
         }
         world.transactions[place] = Some(open);
     }
+}
+
+/// The entries in which tables differ, as they are in the second.
+fn differences(old: &Memory, new: &Memory) -> Vec<Poke> {
+    let mut pokes = Vec::new();
+    for (buffer, size) in ENTRY_SIZES.into_iter().enumerate() {
+        let entries = new.buffer(buffer).chunks(size).zip(old.buffer(buffer).chunks(size)).enumerate();
+        pokes.extend(entries.filter(|(_, (new, old))| new != old).map(|(i, (new, _))| Poke { buffer, at: i * size, bytes: new.to_vec() }));
+    }
+    pokes
 }

@@ -1,5 +1,6 @@
 //! A history: steps that both sides take, compared after each.
 
+use crate::before::Before;
 use crate::counts::Counts;
 use crate::sides::*;
 use crate::text;
@@ -59,8 +60,9 @@ impl Play {
                 side.poke(poke.buffer, poke.at, &poke.bytes);
             }
         }
+        let before = Before::of(step, &self.model);
         let answers = self.call(&step.call)?;
-        counts.call(&step.call, &answers, &mut self.model);
+        counts.call(&step.call, &answers, &before, &mut self.model);
         let sound = match answers {
             Answers::Request(results) => results.number != 2 && step.resized.is_none(),
             _ => false,

@@ -2,6 +2,7 @@
 #![deny(warnings)]
 
 mod alter;
+mod before;
 mod counts;
 mod craft;
 mod history;

@@ -5,6 +5,7 @@ use crate::history::{Call, Step};
 use crate::random::Random;
 use crate::sides::*;
 use model::layout::write_message;
+use model::path::leading;
 use model::world::World;
 
 /// What a history dwells on.
@@ -18,11 +19,25 @@ enum Taste {
     Domains,
     Altered,
     BigRelease,
+    /// Paths whose parents are missing, plainly and in transactions, below watches of every depth.
+    Created,
 }
 
-const TASTES: [Taste; 8] =
-    [Taste::Mixed, Taste::ManyNodes, Taste::WideDirectory, Taste::Watches, Taste::Transactions, Taste::Domains, Taste::Altered, Taste::BigRelease];
-const HOW_OFTEN: [usize; 8] = [24, 8, 4, 14, 24, 14, 8, 4];
+const TASTES: [Taste; 9] = [
+    Taste::Mixed,
+    Taste::ManyNodes,
+    Taste::WideDirectory,
+    Taste::Watches,
+    Taste::Transactions,
+    Taste::Domains,
+    Taste::Altered,
+    Taste::BigRelease,
+    Taste::Created,
+];
+const HOW_OFTEN: [usize; 9] = [24, 8, 4, 14, 24, 14, 8, 4, 20];
+
+/// A call that comes first: sender, kind, tx_id and payload.
+type Early = (u32, u32, u32, Vec<u8>);
 
 pub const NAMES: [&str; 6] = ["a", "b", "ab", "c-d", "_E", "@9"];
 pub const GUESTS: [u32; 5] = [3, 5, 7, 70, 32_751];
@@ -32,7 +47,7 @@ pub struct Maker {
     pub craft: Craft,
     taste: Taste,
     /// Calls that come first, last one first.
-    prelude: Vec<(u32, u32, Vec<u8>)>,
+    prelude: Vec<Early>,
     left: usize,
     pub made: usize,
 }
@@ -78,17 +93,44 @@ impl Maker {
                 let count = 60 + self.random.below(70);
                 calls.extend((0..count).map(|i| (0, 11, nul(&format!("/{}/{}|{i}", NAMES[i % 5], i * 37 % 128)))));
             }
+            Taste::Created => {
+                calls.extend(["/a|two|2|", "/b|none|0|", "/ab|five|5|", "/a/b|one|1|"].map(|watch| (0, 4, nul(watch))));
+                calls.extend(GUESTS[..guests].iter().map(|guest| (*guest, 4, nul("/a|guest|3|"))));
+                if self.random.percent(60) {
+                    calls.push((0, 4, nul("/|all|")));
+                }
+            }
             _ => (),
         }
-        calls.reverse();
-        self.prelude = calls;
+        let last = if self.taste == Taste::Created { self.early_commit() } else { vec![] };
+        self.prelude = calls.into_iter().map(|(sender, kind, payload)| (sender, kind, 0, payload)).chain(last).rev().collect();
+    }
+
+    /// In some histories that dwell on created parents, a transaction on the fresh store.
+    fn early_commit(&mut self) -> Vec<Early> {
+        match self.random.below(10) {
+            0 | 1 => fullest_commit(),
+            2..=4 => self.remaking_commit(),
+            _ => vec![],
+        }
+    }
+
+    /// A path made, and in one transaction removed from some level on and made again.
+    fn remaking_commit(&mut self) -> Vec<Early> {
+        let below = 2 + self.random.below(6);
+        let path = format!("/a/{}", self.names(below));
+        let removed = leading(path.as_bytes(), 1 + self.random.below(below));
+        let removed = String::from_utf8(removed).expect("a path");
+        let made = [(0, 12, 0, nul(&format!("{path}|"))), (0, 14, 0, nul(&format!("{removed}|n0|b3|r5|"))), (0, 6, 0, nul("|"))];
+        let again = [(0, 13, 1, nul(&format!("{removed}|"))), (0, 11, 1, nul(&format!("{path}|1"))), (0, 7, 1, nul("T|"))];
+        made.into_iter().chain(again).collect()
     }
 
     /// The next step, or None at the end of the history.
     pub fn step(&mut self, memory: &mut Memory) -> Option<Step> {
         self.made += 1;
-        if let Some((sender, kind, payload)) = self.prelude.pop() {
-            return Some(Step::of(Call::Request { sender, message: frame(kind, 1, 0, &payload) }));
+        if let Some((sender, kind, tx_id, payload)) = self.prelude.pop() {
+            return Some(Step::of(Call::Request { sender, message: frame(kind, 1, tx_id, &payload) }));
         }
         self.left = self.left.checked_sub(1)?;
         let world = memory.decoded().expect("tables that are sound");
@@ -99,6 +141,16 @@ impl Maker {
             2 => self.resized(&world),
             _ => self.crafted_record(&world),
         })
+    }
+
+    /// Whether a history mostly goes on in a transaction that is open.
+    fn stays_inside(&self) -> bool {
+        matches!(self.taste, Taste::Transactions | Taste::Created)
+    }
+
+    /// Whether a path is now to be one that has parents to be created.
+    pub fn creates(&mut self) -> bool {
+        self.taste == Taste::Created && self.random.percent(50)
     }
 
     pub fn guest(&mut self, world: &World) -> u32 {
@@ -112,7 +164,7 @@ impl Maker {
 
     fn sender(&mut self, world: &World) -> u32 {
         let holders: Vec<u32> = world.transactions.iter().flatten().map(|open| open.holder.into()).collect();
-        if self.taste == Taste::Transactions && !holders.is_empty() && self.random.percent(75) {
+        if self.stays_inside() && !holders.is_empty() && self.random.percent(75) {
             return *self.random.pick(&holders);
         }
         match self.random.weighted(&[50, 46, 3, 1]) {
@@ -136,6 +188,7 @@ impl Maker {
         let weights = match self.taste {
             Taste::Watches => [2, 2, 1, 30, 8, 2, 2, 2, 1, 1, 14, 6, 14, 6, 1, 1, 1],
             Taste::Transactions => [3, 6, 2, 3, 1, 9, 12, 1, 1, 1, 30, 10, 12, 6, 1, 1, 1],
+            Taste::Created => [1, 2, 1, 4, 2, 8, 10, 1, 1, 1, 30, 20, 18, 3, 1, 1, 1],
             Taste::Domains => [2, 3, 1, 6, 2, 3, 3, 22, 4, 3, 14, 6, 3, 14, 3, 1, 1],
             Taste::ManyNodes | Taste::WideDirectory => [24, 4, 2, 3, 1, 4, 4, 1, 1, 1, 30, 24, 5, 3, 1, 1, 1],
             _ => [8, 8, 4, 8, 4, 6, 6, 4, 2, 2, 20, 8, 10, 10, 2, 1, 2],
@@ -166,7 +219,7 @@ impl Maker {
             open.as_ref().filter(|open| u32::from(open.holder) == sender).map(|_| i as u32 + 1)
         };
         let held: Vec<u32> = world.transactions.iter().enumerate().filter_map(own).collect();
-        let inside = if self.taste == Taste::Transactions { 93 } else { 60 };
+        let inside = if self.stays_inside() { 93 } else { 60 };
         match self.random.below(100) {
             0 | 1 => self.random.below(5) as u32,
             2 => *self.random.pick(&[256, 257, 65_537, u32::MAX]),
@@ -195,7 +248,14 @@ impl Maker {
     }
 }
 
-fn frame(kind: u32, req_id: u32, tx_id: u32, payload: &[u8]) -> Vec<u8> {
+/// A transaction of eight changes, each of which creates eight nodes.
+fn fullest_commit() -> Vec<Early> {
+    let change = |i: u32| (0, 11 + i % 2, 1, nul(&format!("/{i}/1/2/3/4/5/6/7|")));
+    let (start, end) = ((0, 6, 0, nul("|")), (0, 7, 1, nul("T|")));
+    [start].into_iter().chain((0..8).map(change)).chain([end]).collect()
+}
+
+pub fn frame(kind: u32, req_id: u32, tx_id: u32, payload: &[u8]) -> Vec<u8> {
     let mut message = vec![0; 16 + payload.len()];
     write_message(&mut message, [kind, req_id, tx_id], payload);
     message

@@ -11,7 +11,7 @@ impl Maker {
     pub fn payload(&mut self, kind: u32, sender: u32, world: &World) -> Vec<u8> {
         let mut out = Vec::new();
         match kind {
-            1..=3 | 12 | 13 => out = self.path(sender, world),
+            1..=3 | 12 | 13 => out = self.named(kind, sender, world),
             4 | 5 => return self.watch(kind, sender, world),
             6 | 21 => (),
             7 => out = if self.random.percent(80) { b"T".to_vec() } else { b"F".to_vec() },
@@ -19,7 +19,7 @@ impl Maker {
             9 => out = self.guest(world).to_string().into_bytes(),
             10 | 17 => out = self.domain(world).into_bytes(),
             11 => {
-                out = self.path(sender, world);
+                out = self.named(kind, sender, world);
                 out.push(0);
                 out.extend(self.value());
                 return out;
@@ -36,6 +36,16 @@ impl Maker {
         }
         out.push(0);
         out
+    }
+
+    /// The path of a node request; where a history dwells on created parents, often of any depth to be made and near the root to be removed.
+    fn named(&mut self, kind: u32, sender: u32, world: &World) -> Vec<u8> {
+        let depth = match kind {
+            11 | 12 if self.creates() => 1 + self.random.below(DEPTH),
+            13 if self.creates() => 1 + self.random.below(3),
+            _ => return self.path(sender, world),
+        };
+        format!("/{}", self.names(depth)).into_bytes()
     }
 
     fn domain(&mut self, world: &World) -> String {
@@ -100,7 +110,7 @@ impl Maker {
         };
         out.push(0);
         if kind == 4 && self.random.percent(40) {
-            out.extend(self.random.pick(&["0", "1", "1", "2", "3", "255", "256", "01", "", "-1", "1"]).as_bytes());
+            out.extend(self.random.pick(&["0", "1", "1", "2", "3", "5", "7", "255", "256", "01", "", "-1", "1"]).as_bytes());
             out.push(0);
         }
         out
@@ -143,7 +153,7 @@ impl Maker {
         .into_bytes()
     }
 
-    fn names(&mut self, count: usize) -> String {
+    pub fn names(&mut self, count: usize) -> String {
         let names: Vec<&str> = (0..count).map(|i| *self.random.pick(if i == 0 { &NAMES[..4] } else { &NAMES })).collect();
         names.join("/").trim_start_matches('@').into()
     }

@@ -16,6 +16,7 @@ pub const BUFFERS: [(&str, usize); 8] = [
 ];
 pub const TABLES: usize = 5;
 pub const WATCH_TABLE: usize = 2;
+pub const TRANSACTION_TABLE: usize = 3;
 pub const DOMAIN_TABLE: usize = 4;
 pub const RECORD_BUFFER: usize = 6;
 pub const MESSAGE_BUFFER: usize = 7;

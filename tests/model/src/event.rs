@@ -19,7 +19,7 @@ pub fn records(before: &Store, after: &World, events: &[Event]) -> Vec<Record> {
         let mask = after.watches.iter().enumerate().filter(|(i, watch)| watch.as_ref().is_some_and(|w| hears(before, after, *i, w, event)));
         let mask = mask.fold(0, |mask, (i, _)| mask | 0x8000 >> i);
         let path = match event {
-            Event::Changed(change) => change.path.clone(),
+            Event::Node { path, .. } => path.clone(),
             Event::Domain { id, .. } => format!("/{id}").into_bytes(),
             Event::Watched { place, .. } => place.clone(),
         };
@@ -33,13 +33,12 @@ fn hears(before: &Store, after: &World, index: usize, watch: &Watch, event: &Eve
     match event {
         Event::Watched { watch, .. } => *watch == index,
         Event::Domain { name, .. } => watch.path == *name,
-        Event::Changed(_) if path::is_special(&watch.path) => false,
-        Event::Changed(change) => {
-            let p = &change.path;
+        Event::Node { .. } if path::is_special(&watch.path) => false,
+        Event::Node { path: p, removed } => {
             let within = *p == watch.path || path::is_below(p, &watch.path);
             let levels = || path::depth(p) - path::depth(&watch.path);
             within && watch.depth.is_none_or(|most| levels() <= most.into()) && may_read(p)
-                || change.removed && path::is_below(&watch.path, p) && may_read(&watch.path)
+                || *removed && path::is_below(&watch.path, p) && may_read(&watch.path)
         }
     }
 }

@@ -25,7 +25,7 @@ fn pack<const N: usize>(bytes: &mut [u8], widths: [u32; N], numbers: [usize; N])
 const SLOT_HEAD: [u32; 13] = [1, 7, 6, 7, 3, 2, 16, 2, 16, 2, 16, 2, 16];
 const WATCH_HEAD: [u32; 9] = [1, 1, 1, 5, 8, 16, 9, 1, 6];
 const TRANSACTION_HEAD: [u32; 5] = [1, 1, 2, 4, 16];
-const CHANGE_HEAD: [u32; 3] = [1, 6, 9];
+const CHANGE_HEAD: [u32; 4] = [1, 3, 3, 9];
 const DOMAIN_HEAD: [u32; 3] = [1, 7, 16];
 const RECORD_HEAD: [u32; 3] = [16, 9, 7];
 
@@ -83,12 +83,12 @@ fn encode_watch(watch: &Option<Watch>, bytes: &mut [u8]) {
 }
 
 fn decode_change(bytes: &[u8]) -> Option<Change> {
-    let [removed, _, length] = unpack(&bytes[..2], CHANGE_HEAD);
-    Some(Change { path: bytes[2..].get(..length)?.to_vec(), removed: removed == 1 })
+    let [removed, _, parents, length] = unpack(&bytes[..2], CHANGE_HEAD);
+    Some(Change { path: bytes[2..].get(..length)?.to_vec(), removed: removed == 1, parents })
 }
 
 fn encode_change(change: &Change, bytes: &mut [u8]) {
-    pack(&mut bytes[..2], CHANGE_HEAD, [change.removed.into(), 0, change.path.len()]);
+    pack(&mut bytes[..2], CHANGE_HEAD, [change.removed.into(), 0, change.parents, change.path.len()]);
     bytes[2..][..change.path.len()].copy_from_slice(&change.path);
 }
 

@@ -1,4 +1,4 @@
-//! An independent model of document 01: the three exported calls on the same lent bytes, by decoding, checking in the document's order, acting and encoding.
+//! An independent model of documents 01 and 02: the three exported calls on the same lent bytes. They decode, check in the order of 01, act and encode.
 #![deny(warnings)]
 #![forbid(unsafe_code)]
 
@@ -13,6 +13,8 @@ pub mod sound;
 pub mod store;
 pub mod world;
 
+#[cfg(test)]
+mod created;
 #[cfg(test)]
 mod worked;
 

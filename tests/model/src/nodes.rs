@@ -37,21 +37,21 @@ pub fn on_node(store: &mut Store, sender: u16, path: Vec<u8>, asked: Asked, room
             check(room && can_make(store, &path, &at), Enospc)?;
             let slot = store.make(&path, sender);
             store.slots[slot].as_mut().expect("just made").value = value;
-            done(Some(Change { path, removed: false }))
+            done(Some(Change { path, removed: false, parents: at.missing.saturating_sub(1) }))
         }
         Asked::Mkdir if at.missing == 0 => may_write.and(done(None)),
         Asked::Mkdir => {
             may_write?;
             check(room && can_make(store, &path, &at), Enospc)?;
             store.make(&path, sender);
-            done(Some(Change { path, removed: false }))
+            done(Some(Change { path, removed: false, parents: at.missing - 1 }))
         }
         Asked::Rm if at.missing == 1 => may_read.and(done(None)),
         Asked::Rm => {
             present.and(may_write)?;
             check(room, Enospc)?;
             store.remove(at.slot);
-            done(Some(Change { path, removed: true }))
+            done(Some(Change { path, removed: true, parents: 0 }))
         }
         Asked::SetPerms(entries) => {
             present?;
@@ -59,7 +59,7 @@ pub fn on_node(store: &mut Store, sender: u16, path: Vec<u8>, asked: Asked, room
             let entries = Few::new(&entries).ok_or(Enospc)?;
             check(room, Enospc)?;
             store.slots[at.slot].as_mut().expect("present").entries = entries;
-            done(Some(Change { path, removed: false }))
+            done(Some(Change { path, removed: false, parents: 0 }))
         }
     }
 }

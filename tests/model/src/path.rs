@@ -46,6 +46,11 @@ pub fn depth(path: &[u8]) -> usize {
     names(path).count()
 }
 
+/// The path of a full path's first names, one or more of them.
+pub fn leading(path: &[u8], count: usize) -> Vec<u8> {
+    names(path).take(count).flat_map(|name| [b"/", name].concat()).collect()
+}
+
 /// Whether a well-formed full path is within the sizes.
 pub fn fits(path: &[u8]) -> bool {
     depth(path) <= DEPTH && names(path).all(|name| name.len() <= NAME)

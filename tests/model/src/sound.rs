@@ -68,6 +68,15 @@ fn transaction(open: &Transaction, domains: &[Option<u16>]) -> bool {
     is_known(open.holder, domains) && open.changes.iter().all(change) && store(&open.store)
 }
 
+/// A removal is not of `/` and has no new parents; another change has none, or fewer than its path has names.
 fn change(change: &Change) -> bool {
-    path::is_stored(&change.path) && !(change.removed && change.path == b"/")
+    if !path::is_stored(&change.path) {
+        return false;
+    }
+    let names = path::depth(&change.path);
+    if change.removed {
+        names > 0 && change.parents == 0
+    } else {
+        change.parents == 0 || change.parents < names
+    }
 }

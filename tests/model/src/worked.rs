@@ -1,27 +1,27 @@
 //! Document 01's worked lines, starred and not, on bytes; and what its other sentences give as an example.
 
-use crate::layout::{words, write_message};
+use crate::layout::{record as record_of, words, write_message};
 use crate::size::*;
 use crate::{event_message, fresh, request, Asked, Results, Tables};
 
 const DIRECTORY: u32 = 1;
 const READ: u32 = 2;
 const GET_PERMS: u32 = 3;
-const WATCH: u32 = 4;
-const START: u32 = 6;
-const END: u32 = 7;
-const INTRODUCE: u32 = 8;
+pub const WATCH: u32 = 4;
+pub const START: u32 = 6;
+pub const END: u32 = 7;
+pub const INTRODUCE: u32 = 8;
 const RELEASE: u32 = 9;
-const WRITE: u32 = 11;
-const MKDIR: u32 = 12;
-const RM: u32 = 13;
-const SET_PERMS: u32 = 14;
+pub const WRITE: u32 = 11;
+pub const MKDIR: u32 = 12;
+pub const RM: u32 = 13;
+pub const SET_PERMS: u32 = 14;
 
-struct Core {
+pub struct Core {
     nodes: Vec<u8>,
     copies: Vec<u8>,
     watches: Vec<u8>,
-    transactions: Vec<u8>,
+    pub transactions: Vec<u8>,
     domains: Vec<u8>,
     reply: Vec<u8>,
     events: Vec<u8>,
@@ -29,7 +29,7 @@ struct Core {
 }
 
 impl Core {
-    fn new() -> Core {
+    pub fn new() -> Core {
         let mut core = Core {
             nodes: vec![7; NODES],
             copies: vec![7; COPIES],
@@ -49,14 +49,14 @@ impl Core {
         (Tables { nodes, copies, watches, transactions, domains }, reply, events)
     }
 
-    fn send(&mut self, sender: u32, message: &[u8]) -> u32 {
+    pub fn send(&mut self, sender: u32, message: &[u8]) -> u32 {
         let (mut tables, reply, events) = self.split();
         self.last = request(&mut tables, sender, message, reply, events);
         self.last.number
     }
 
     /// The reply's payload; `|` stands for a nul, both ways.
-    fn within(&mut self, tx_id: u32, sender: u32, kind: u32, text: &str) -> String {
+    pub fn within(&mut self, tx_id: u32, sender: u32, kind: u32, text: &str) -> String {
         let payload = text.replace('|', "\0");
         let mut message = vec![0; 16 + payload.len()];
         write_message(&mut message, [kind, 77, tx_id], payload.as_bytes());
@@ -68,7 +68,7 @@ impl Core {
         String::from_utf8(payload).unwrap().replace('\0', "|")
     }
 
-    fn ask(&mut self, sender: u32, kind: u32, text: &str) -> String {
+    pub fn ask(&mut self, sender: u32, kind: u32, text: &str) -> String {
         self.within(0, sender, kind, text)
     }
 
@@ -81,6 +81,15 @@ impl Core {
             (6, 0) => None,
             other => panic!("{other:?}"),
         }
+    }
+
+    /// The last call's records: the mask in hexadecimal and the path of each.
+    pub fn records(&self) -> Vec<String> {
+        let text = |record: &[u8]| {
+            let (mask, path) = record_of(record).expect("a path");
+            format!("{mask:04x} {}", String::from_utf8_lossy(path))
+        };
+        self.events.chunks(RECORD).take(self.last.event_count as usize).map(text).collect()
     }
 
     fn slot(&self, slot: usize) -> &[u8] {
@@ -183,6 +192,7 @@ fn long_directories() {
 #[test]
 fn depth_of_a_watch() {
     let mut core = Core::new();
+    assert_eq!(core.ask(0, WRITE, "/a|"), "OK|");
     assert_eq!(core.ask(0, WATCH, "/a|t|0|"), "OK|");
     assert_eq!(core.told(0, 0).unwrap(), "/a|t|");
     assert_eq!(core.ask(0, WATCH, "/a|u|1|"), "OK|");

@@ -17,8 +17,24 @@ pub struct Watch {
 
 #[derive(Clone)]
 pub struct Change {
+    /// The path that the request named.
     pub path: Vec<u8>,
     pub removed: bool,
+    /// How many of the nodes right above the named one the change created.
+    pub parents: usize,
+}
+
+impl Change {
+    /// The parents that were created, topmost first.
+    pub fn created_parents(&self) -> impl Iterator<Item = Vec<u8>> + '_ {
+        let names = path::depth(&self.path);
+        (names - self.parents..names).map(|count| path::leading(&self.path, count))
+    }
+
+    /// One event for each created parent, topmost first, and one for the named path.
+    fn events(&self) -> impl Iterator<Item = Event> + '_ {
+        self.created_parents().chain([self.path.clone()]).map(|path| Event::Node { path, removed: self.removed })
+    }
 }
 
 #[derive(Clone)]
@@ -66,17 +82,12 @@ impl Errno {
 use Errno::*;
 
 pub enum Event {
-    Changed(Change),
+    /// A node that was created, altered or removed.
+    Node { path: Vec<u8>, removed: bool },
     /// `@introduceDomain` or `@releaseDomain`.
-    Domain {
-        name: &'static [u8],
-        id: u16,
-    },
+    Domain { name: &'static [u8], id: u16 },
     /// A new watch's own first event.
-    Watched {
-        watch: usize,
-        place: Vec<u8>,
-    },
+    Watched { watch: usize, place: Vec<u8> },
 }
 
 /// What a request that succeeds gives back.
@@ -158,7 +169,7 @@ impl World {
             if change.is_some() {
                 self.make_stale();
             }
-            return Ok(Answer { payload, events: change.into_iter().map(Event::Changed).collect(), ..Answer::default() });
+            return Ok(Answer { payload, events: change.iter().flat_map(Change::events).collect(), ..Answer::default() });
         }
         let open = self.held(sender, tx_id)?;
         let room = open.changes.len() < CHANGES;
@@ -214,7 +225,7 @@ impl World {
         if !ended.changes.is_empty() {
             self.make_stale();
         }
-        Ok(Answer::ok(ended.changes.into_iter().map(Event::Changed).collect()))
+        Ok(Answer::ok(ended.changes.iter().flat_map(Change::events).collect()))
     }
 
     fn introduce(&mut self, sender: u16, domain: u16, page: i64, channel: u32) -> Result<Answer, Errno> {
@@ -246,7 +257,7 @@ impl World {
         let mut events = Vec::new();
         for (slot, path) in removed {
             self.store.remove(slot);
-            events.push(Event::Changed(Change { path, removed: true }));
+            events.push(Event::Node { path, removed: true });
         }
         events.push(Event::Domain { name: path::RELEASE, id: domain });
         Ok(Answer::ok(events))
