@@ -13,7 +13,7 @@ use Rattle.rules.specs.Size.{changesAt, transactionSize, changeFieldsSize, chan
 use Rattle.rules.specs.Octets.{Octets, padded, bigEndian, bit, pack, packFrom, _bits_}
 use Rattle.rules.specs.Path.{pathText}
 use Rattle.rules.specs.Answer.{Change}
-use Rattle.rules.specs.Layout.{Transaction, changeBytes}
+use Rattle.rules.specs.Layout.{Transaction, changeBits, changeBytes}
 use Rattle.rules.proofs.Fields.{take-drop-take, bit-small}
 use Rattle.rules.proofs.Tables.{Each, each-at, each-map, Wide, encoded-at, length-encoded}
 use Rattle.rules.proofs.TransactionLayouts.{ChangeFits, TransactionFits}
@@ -25,38 +25,42 @@ use Rattle.transactions.proofs.Laws.{threeOf, row-parts, open-fits}
 
 -- ── the bytes of a change ──
 
--- the two bytes of the fields: removed, path length
-abbrev pub twoBytes : ℕ → ℕ → Octets
-twoBytes r l = (128 * r + l / 256) ∷ (l % 256) ∷ []
+-- the two bytes of the fields: removed, new parents, path length
+abbrev pub twoBytes : ℕ → ℕ → ℕ → Octets
+twoBytes r k l = (128 * r + 2 * k + l / 256) ∷ (l % 256) ∷ []
 
-pair : (r l : ℕ) → r < 2 → l ≤ longestPath → bigEndian changeFieldsSize (pack (1 bits r ∷ 6 bits 0 ∷ 9 bits l ∷ [])) ≡ twoBytes r l
+pair : (r k l : ℕ) → r < 2 → k < 8 → l ≤ longestPath → bigEndian changeFieldsSize (pack (1 bits r ∷ 3 bits 0 ∷ 3 bits k ∷ 9 bits l ∷ [])) ≡ twoBytes r k l
 unfolding bigEndian pack packFrom
-pair r l hr hl =
-    let p = pack (1 bits r ∷ 6 bits 0 ∷ 9 bits l ∷ []) in
-    let a : p / 256 % 256 ≡ 128 * r + l / 256 = omega arith in
+pair r k l hr hk hl =
+    let p = pack (1 bits r ∷ 3 bits 0 ∷ 3 bits k ∷ 9 bits l ∷ []) in
+    let a : p / 256 % 256 ≡ 128 * r + 2 * k + l / 256 = omega arith in
     let b : p % 256 ≡ l % 256 = omega arith in
     λ i. a i ∷ b i ∷ []
 
 abbrev pub twoOf : Change → Octets
-twoOf c = twoBytes (bit (c .removal)) (length (pathText (c .names)))
+twoOf c = twoBytes (bit (c .removal)) (c .parents) (length (pathText (c .names)))
 
-pub change-parts : (c : Change) → length (pathText (c .names)) ≤ longestPath → changeBytes c ≡ twoOf c ++ padded longestPath (pathText (c .names))
-unfolding changeBytes
-change-parts c h =
-    ap (λ (a : Octets). a ++ padded longestPath (pathText (c .names))) (pair (bit (c .removal)) (length (pathText (c .names))) (bit-small (c .removal)) h)
+pub change-parts : (c : Change) → ChangeFits c → changeBytes c ≡ twoOf c ++ padded longestPath (pathText (c .names))
+unfolding changeBytes changeBits
+change-parts c f =
+    ap (λ (a : Octets). a ++ padded longestPath (pathText (c .names)))
+    (pair (bit (c .removal)) (c .parents) (length (pathText (c .names))) (bit-small (c .removal)) (f .parents) (f .short))
 
 pub change-wide : (c : Change) → ChangeFits c → length (changeBytes c) ≡ changeSize
 change-wide c f =
-    ap length (change-parts c (f .short))
+    ap length (change-parts c f)
     ∙ length-append (twoOf c) (padded longestPath (pathText (c .names)))
     ∙ ap (λ (n : ℕ). changeFieldsSize + n) (length-padded longestPath (pathText (c .names)) (f .short))
 
-number-back : (x y r l : ℕ) → x ≡ 128 * r + l / 256 → y ≡ l % 256 → r < 2 → l ≤ longestPath → (x * 256 + y) % 512 ≡ l
-number-back x y r l hx hy hr hl = omega arith
+number-back : (x y r k l : ℕ) → x ≡ 128 * r + 2 * k + l / 256 → y ≡ l % 256 → r < 2 → k < 8 → l ≤ longestPath → (x * 256 + y) % 512 ≡ l
+number-back x y r k l hx hy hr hk hl = omega arith
 
-removal-is : (x l : ℕ) (b : Bool) → x ≡ 128 * bit b + l / 256 → l ≤ longestPath → leb 128 x ≡ b
-removal-is x l true e h = le-leb 128 x (omega arith)
-removal-is x l false e h = lt-leb 128 x (omega arith)
+removal-is : (x k l : ℕ) (b : Bool) → x ≡ 128 * bit b + 2 * k + l / 256 → k < 8 → l ≤ longestPath → leb 128 x ≡ b
+removal-is x k l true e hk hl = le-leb 128 x (omega arith)
+removal-is x k l false e hk hl = lt-leb 128 x (omega arith)
+
+parents-are : (x r k l : ℕ) → x ≡ 128 * r + 2 * k + l / 256 → r < 2 → k < 8 → l ≤ longestPath → x / 2 % 8 ≡ k
+parents-are x r k l e hr hk hl = omega arith
 
 -- ── change j of place k ──
 
@@ -103,24 +107,26 @@ module _ (s : Octets) (k j : ℕ) (h : HasChange s k j) where
       ∙ encoded-at changeBytes changeSize (x .changes) j noChange rows (h .there)
 
   parts : take changeSize (drop at s) ≡ twoOf c ++ padded longestPath (pathText (c .names))
-  parts = own ∙ change-parts c (change-fits .short)
+  parts = own ∙ change-parts c change-fits
 
   first-two : getD s at 0 ∷ getD s (at + 1) 0 ∷ [] ≡ twoOf c
   first-two =
       first-listed s at changeSize changeFieldsSize (twoOf c) (padded longestPath (pathText (c .names))) (lit≤ tt) place-within refl parts
 
+  first-is : getD s at 0 ≡ 128 * bit (c .removal) + 2 * c .parents + length (pathText (c .names)) / 256
+  first-is = let e = first-two in cc
+
   pub removed-read : leb 128 (getD s at 0) ≡ c .removal
-  removed-read =
-      let e = first-two in
-      let b : getD s at 0 ≡ 128 * bit (c .removal) + length (pathText (c .names)) / 256 = cc in
-      removal-is _ _ (c .removal) b (change-fits .short)
+  removed-read = removal-is _ _ _ (c .removal) first-is (change-fits .parents) (change-fits .short)
+
+  pub parents-read : getD s at 0 / 2 % 8 ≡ c .parents
+  parents-read = parents-are _ _ _ _ first-is (bit-small (c .removal)) (change-fits .parents) (change-fits .short)
 
   pub length-read : (r : ℕ) → Two s at r → r % 512 ≡ length (pathText (c .names))
   length-read r w =
       let e = first-two in
-      let a : getD s at 0 ≡ 128 * bit (c .removal) + length (pathText (c .names)) / 256 = cc in
       let b : getD s (at + 1) 0 ≡ length (pathText (c .names)) % 256 = cc in
-      ap (λ (n : ℕ). n % 512) (w .value) ∙ number-back _ _ _ _ a b (bit-small (c .removal)) (change-fits .short)
+      ap (λ (n : ℕ). n % 512) (w .value) ∙ number-back _ _ _ _ _ first-is b (bit-small (c .removal)) (change-fits .parents) (change-fits .short)
 
   pub path-read : (n : ℕ) → n ≡ length (pathText (c .names))
       → partAt s (at + changeFieldsSize) n ≡ pathText (c .names)

@@ -1,22 +1,25 @@
 -- What is asked of transactions, and that it is what soundTransactions asks but for the copies.
 use mathlib.Core.Path.{_≡_, refl, sym, ap, _∙_}
-use mathlib.Core.Bool.{Bool, true, false, not, _&&_}
+use mathlib.Core.Bool.{Bool, true, false, _&&_, true≢false, and-false}
 use mathlib.Core.List.{List, [], _∷_}
 use mathlib.Core.Option.{Option, none, some}
-use Prim.Native.Nat.{ℕ}
+use Prim.Native.Nat.{ℕ, _-_, _≤_, _<_}
 use native.Mathlib.Omega.{arith}
 use lib.ListN.{length}
-use lib.Dec.{eqb}
+use lib.Dec.{eqb, ltb, leb}
+use borrow.Author.Tests.{lt-ltb, ltb-true, ne-eqb}
 use Rattle.rules.specs.Size.{mostTransactions, transactionSize, transactionsSize}
 use Rattle.rules.specs.Octets.{Octets, same}
 use Rattle.rules.specs.Path.{domainOf, fits, pathText, namesIn, isFull}
 use Rattle.rules.specs.Answer.{Change}
 use Rattle.rules.specs.Layout.{opened, Domains, Transaction, Transactions, transactionBytes, transactionIn, transactionsBytes, transactionsOf}
-use Rattle.rules.specs.Sound.{known, goodChange, goodChanges, goodTransactions, soundTransactions, soundTable}
+use Rattle.rules.specs.Sound.{known, goodRemoval, goodChange, goodChanges, goodTransactions, soundTransactions, soundTable}
 use Rattle.rules.proofs.PathLaws.{text-full, text-names}
 use Rattle.rules.proofs.TransactionLayouts.{ChangeFits}
+use Rattle.rules.proofs.Changes.{good-parts, parts-good}
+use Rattle.rules.proofs.Reencoding.{both-ways}
 use Rattle.domains.specs.Entry.{taken, entryOr}
-use Rattle.transactions.specs.Transaction.{KeptTransactions, noChange}
+use Rattle.transactions.specs.Transaction.{KeptTransactions, noChange, changeGiven}
 use Rattle.transactions.specs.Checks.{goodOpen, allOpenGood, soundEntries, soundCopies}
 use Rattle.domains.proofs.Turns.{ListCheck}
 use Rattle.domains.proofs.Search.{free-none, taken-some}
@@ -36,13 +39,33 @@ module _ (c : Change) (f : ChangeFits c) (p : Octets) (e : p ≡ pathText (c .na
   unfolding goodChange
   change-unfit h = rw (ap fits (sym names-are) ∙ h)
 
-  pub change-written : fits (namesIn p) ≡ true → c .removal ≡ false → goodChange c ≡ true
-  unfolding goodChange
-  change-written h r = rw (ap fits (sym names-are) ∙ h, r)
+  -- what was read is the change
+  pub given-is : (r : Bool) (k : ℕ) → r ≡ c .removal → k ≡ c .parents → changeGiven r k p ≡ c
+  unfolding changeGiven
+  given-is r k a b = λ i. record { removal = a i; parents = b i; names = names-are i }
 
-  pub change-removed : fits (namesIn p) ≡ true → c .removal ≡ true → (n : ℕ) → n ≡ length (namesIn p) → goodChange c ≡ not (eqb n 0)
-  unfolding goodChange
-  change-removed h r n q = rw (ap fits (sym names-are) ∙ h, r, ← names-are, ← q)
+module _ (r : Bool) (k : ℕ) (p : Octets) (h : fits (namesIn p) ≡ true) where
+  pub removed-made : r ≡ true → (k ≡ 0 → ⊥) → goodChange (changeGiven r k p) ≡ false
+  unfolding goodChange goodRemoval changeGiven
+  removed-made e z = rw (h, e, ne-eqb k 0 z) (and-false (leb k (length (namesIn p) - 1)))
+
+  pub removed-none : r ≡ true → k ≡ 0 → (n : ℕ) → n ≡ length (namesIn p) → goodChange (changeGiven r k p) ≡ ltb 0 n
+  unfolding changeGiven
+  removed-none e z n q =
+      both-ways (λ g. lt-ltb 0 n (omega (arith, good-parts _ g .removed e .1))) λ t.
+      let named : 0 < length (namesIn p) = omega (arith, ltb-true 0 n t) in
+      parts-good _ (record { fitting = h; above = omega arith; removed = λ b. (z, named) })
+
+  pub written-none : r ≡ false → k ≡ 0 → goodChange (changeGiven r k p) ≡ true
+  unfolding changeGiven
+  written-none e z = parts-good _ (record { fitting = h; above = omega arith; removed = λ b. absurd (true≢false (sym b ∙ e)) })
+
+  pub written-made : r ≡ false → (k ≡ 0 → ⊥) → (n : ℕ) → n ≡ length (namesIn p) → goodChange (changeGiven r k p) ≡ ltb k n
+  unfolding changeGiven
+  written-made e z n q =
+      both-ways (λ g. lt-ltb k n (omega (arith, z, good-parts _ g .above))) λ t.
+      let few : k ≤ length (namesIn p) - 1 = omega (arith, ltb-true k n t) in
+      parts-good _ (record { fitting = h; above = few; removed = λ b. absurd (true≢false (sym b ∙ e)) })
 
 pub changes-none : goodChanges [] ≡ true
 unfolding goodChanges

@@ -1,16 +1,16 @@
 -- The transaction in a place, and its changes.
 use mathlib.Core.Path.{_≡_}
 use mathlib.Core.Bool.{Bool, true, false}
-use mathlib.Core.List.{[], _∷_, _++_}
+use mathlib.Core.List.{[]}
 use mathlib.Core.Option.{Option, none, some}
 use Prim.Native.Nat.{ℕ, _<_, _≤_}
 use lib.Dec.{eqb}
 use lib.ListN.{length, getD}
-use Rattle.rules.specs.Size.{mostTransactions, transactionSize, mostChanges, longestPath}
+use Rattle.rules.specs.Size.{mostTransactions, transactionSize, mostChanges, longestPath, deepest}
 use Rattle.rules.specs.Octets.{Octets}
 use Rattle.rules.specs.Path.{Connection, isFull, namesIn}
 use Rattle.rules.specs.Answer.{Change}
-use Rattle.rules.specs.Layout.{Transaction, opened, transactionBytes, transactionIn, transactionsOf}
+use Rattle.rules.specs.Layout.{Transaction, opened, withChange, transactionBytes, transactionIn, transactionsOf}
 use Rattle.domains.specs.Entry.{taken, entryOr}
 use Rattle.domains.specs.Kept.{Kept}
 
@@ -23,7 +23,7 @@ abbrev pub transactionOf : Octets → ℕ → Transaction
 transactionOf s k = entryOr (opened 0) (getD (transactionsOf s) k none)
 
 unfoldable pub noChange : Change
-noChange = record { removal = false; names = [] }
+noChange = record { removal = false; parents = 0; names = [] }
 
 -- change j of the transaction in place k
 abbrev pub changeOf : Octets → ℕ → ℕ → Change
@@ -47,17 +47,18 @@ unfoldable pub staleOf : Option Transaction → Option Transaction
 staleOf none = none
 staleOf (some x) = some (record { holder = x .holder; stale = true; changes = x .changes })
 
--- a change on the path of a text
-unfoldable pub changeGiven : Bool → Octets → Change
-changeGiven removed text = record { removal = removed; names = namesIn text }
+-- a change on the path of a text, with so many new parents
+unfoldable pub changeGiven : Bool → ℕ → Octets → Change
+changeGiven removed parents text = record { removal = removed; parents = parents; names = namesIn text }
 
 -- a transaction with one more
-unfoldable pub changedBy : Transaction → Bool → Octets → Transaction
-changedBy x removed text = record { holder = x .holder; stale = x .stale; changes = x .changes ++ (changeGiven removed text ∷ []) }
+unfoldable pub changedBy : Transaction → Bool → ℕ → Octets → Transaction
+changedBy x removed parents text = withChange x (changeGiven removed parents text)
 
 -- a place with room for one more change on a full path
-pub record RoomForChange (s : Octets) (k : ℕ) (text : Octets) : Type 0 where
+pub record RoomForChange (s : Octets) (k : ℕ) (parents : ℕ) (text : Octets) : Type 0 where
   pub place : OpenTransaction s k
   pub few : length (transactionOf s k .changes) < mostChanges
+  pub fits : parents < deepest
   pub full : isFull text ≡ true
   pub short : length text ≤ longestPath

@@ -5,7 +5,7 @@ ghost use Prim.Native.Nat.{_+_, _*_, _<_, _≤_};
 ghost use mathlib.Core.Bool.{true};
 ghost use lib.Dec.{eqb};
 ghost use lib.ListN.{length, getD, set};
-ghost use Rattle.rules.specs.Size.{mostTransactions, changeSize, longestPath};
+ghost use Rattle.rules.specs.Size.{mostTransactions, changeSize, longestPath, deepest};
 ghost use Rattle.rules.specs.Octets.{paste, bit};
 ghost use Rattle.rules.specs.Layout.{opened, changeBytes, transactionsBytes, transactionsOf};
 ghost use Rattle.rules.specs.Path.{isFull};
@@ -56,26 +56,26 @@ fn removal_mark(removed: bool) -> u8
 }
 
 // Puts a change on a full path into the bytes from `at` on.
-fn put_change(s: &mut [u8], at: usize, removed: bool, path: &[u8])
-    requires { ⌜ (at + changeSize ≤ length (now s)) × (isFull (now path) ≡ true) × (length (now path) ≤ longestPath) ⌝ }
-    ensures { λ _. ⌜ now (s .exit) ≡ paste at (changeBytes (changeGiven removed (now (path .entry)))) (now (s .entry)) ⌝ }
+fn put_change(s: &mut [u8], at: usize, removed: bool, parents: usize, path: &[u8])
+    requires { ⌜ (at + changeSize ≤ length (now s)) × (isFull (now path) ≡ true) × (length (now path) ≤ longestPath) × (parents < deepest) ⌝ }
+    ensures { λ _. ⌜ now (s .exit) ≡ paste at (changeBytes (changeGiven removed parents (now (path .entry)))) (now (s .entry)) ⌝ }
 {
     put_text(s, at + CHANGE_FIELDS_SIZE, path, LONGEST_PATH);
     let n = path.len();
-    s[at] = removal_mark(removed) + (n / 256 % 2) as u8;
+    s[at] = removal_mark(removed) + 2 * parents as u8 + (n / 256 % 2) as u8;
     s[at + 1] = (n % 256) as u8;
 }
 
 // Adds a change to the transaction in place k.
-pub fn add_change(s: &mut [u8], k: usize, removed: bool, path: &[u8])
-    requires { ⌜ RoomForChange (now s) k (now path) ⌝ }
+pub fn add_change(s: &mut [u8], k: usize, removed: bool, parents: usize, path: &[u8])
+    requires { ⌜ RoomForChange (now s) k parents (now path) ⌝ }
     ensures { λ _. ⌜ now (s .exit) ≡ transactionsBytes
-        (set (transactionsOf (now (s .entry))) k (some (changedBy (transactionOf (now (s .entry)) k) removed (now (path .entry))))) ⌝ }
+        (set (transactionsOf (now (s .entry))) k (some (changedBy (transactionOf (now (s .entry)) k) removed parents (now (path .entry))))) ⌝ }
 {
     let at = k * TRANSACTION_SIZE;
     let first = s[at];
     let n = changes(s, k);
-    put_change(s, at + CHANGES_AT + n * CHANGE_SIZE, removed, path);
+    put_change(s, at + CHANGES_AT + n * CHANGE_SIZE, removed, parents, path);
     s[at] = first + 1;
 }
 

@@ -6,15 +6,16 @@ ghost use Prim.Native.Nat.{_+_, _*_, _<_, _≤_};
 ghost use lib.ListN.{length, getD, take, drop};
 ghost use Rattle.rules.specs.Size.{mostTransactions, transactionSize, transactionsSize, mostChanges, changeSize, domainsSize};
 ghost use Rattle.rules.specs.Octets.{same};
-ghost use Rattle.rules.specs.Path.{isFull};
+ghost use Rattle.rules.specs.Path.{isFull, fits, namesIn};
 ghost use Rattle.rules.specs.Layout.{domainsOf, transactionBytes, transactionIn, transactionsBytes, transactionsOf};
 ghost use Rattle.rules.specs.Sound.{goodChange, goodChanges};
 ghost use Rattle.domains.specs.Kept.{keptAt};
-ghost use Rattle.transactions.specs.Transaction.{KeptTransactions, transactionOf, changeOf, OpenTransaction, HasChange};
+ghost use Rattle.transactions.specs.Transaction.{KeptTransactions, transactionOf, changeOf, changeGiven, OpenTransaction, HasChange};
 ghost use Rattle.transactions.specs.Checks.{changeKept, changesKept, goodOpen, allOpenGood, soundEntries};
 use crate::places::changes;
 use crate::places::holder;
 use crate::places::is_open;
+use crate::places::parents;
 use crate::places::path;
 use crate::places::removed;
 use domains::places::known_sender;
@@ -54,7 +55,7 @@ fn change_kept(s: &[u8], at: usize) -> bool
     ensures { λ r. ⌜ r ≡ changeKept (take changeSize (drop at (now (s .entry)))) ⌝ }
 {
     let fields = two(s, at);
-    if fields / 512 % 64 != 0 {
+    if fields / 4096 % 8 != 0 {
         return false;
     }
     let n = (fields % 512) as usize;
@@ -122,7 +123,25 @@ fn kept(s: &[u8]) -> bool
 
 // ── what is asked of each transaction ──
 
-// Whether change j is on a path within the sizes, and does not remove the root.
+// Whether a change on a path within the sizes has no more new parents than the path has nodes above it besides the root;
+// a removal has none, and is not of `/`.
+fn parents_good(removed: bool, parents: usize, path: &[u8]) -> bool
+    requires { ⌜ (isFull (now path) ≡ true) × (fits (namesIn (now path)) ≡ true) ⌝ }
+    ensures { λ r. ⌜ r ≡ goodChange (changeGiven removed parents (now (path .entry))) ⌝ }
+{
+    if removed {
+        if parents != 0 {
+            return false;
+        }
+        return 0 < depth(path);
+    }
+    if parents == 0 {
+        return true;
+    }
+    parents < depth(path)
+}
+
+// Whether change j is on a path within the sizes, and its new parents and its removal go with that path.
 fn change_good(s: &[u8], k: usize, j: usize) -> bool
     requires { ⌜ HasChange (now s) k j ⌝ }
     ensures { λ r. ⌜ r ≡ goodChange (changeOf (now (s .entry)) k j) ⌝ }
@@ -131,10 +150,7 @@ fn change_good(s: &[u8], k: usize, j: usize) -> bool
     if !fits(p) {
         return false;
     }
-    if !removed(s, k, j) {
-        return true;
-    }
-    depth(p) != 0
+    parents_good(removed(s, k, j), parents(s, k, j), p)
 }
 
 fn changes_good(s: &[u8], k: usize) -> bool

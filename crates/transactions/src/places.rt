@@ -54,6 +54,14 @@ pub fn removed(s: &[u8], k: usize, j: usize) -> bool
     128 <= s[k * TRANSACTION_SIZE + CHANGES_AT + j * CHANGE_SIZE]
 }
 
+// How many parents change j created.
+pub fn parents(s: &[u8], k: usize, j: usize) -> usize
+    requires { ⌜ HasChange (now s) k j ⌝ }
+    ensures { λ r. ⌜ r ≡ changeOf (now (s .entry)) k j .parents ⌝ }
+{
+    (s[k * TRANSACTION_SIZE + CHANGES_AT + j * CHANGE_SIZE] / 2 % 8) as usize
+}
+
 // The path of change j.
 pub fn path(s: &[u8], k: usize, j: usize) -> &[u8]
     requires { ⌜ HasChange (now s) k j ⌝ }

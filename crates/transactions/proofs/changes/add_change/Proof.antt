@@ -36,14 +36,14 @@ put-change-requires c κs =
     let at-changes = c .before in
     let start = at-changes .before .before .before .before .before in
     let args = start .args in
-    let within = room-within (args .s .now) (args .k) (args .path .now) (start .pre) (args .removed) in
-    (omega (arith, at-changes .changes .ensures .0, within), start .pre .full, start .pre .short)
+    let within = room-within (args .s .now) (args .k) (args .parents) (args .path .now) (start .pre) (args .removed) in
+    (omega (arith, at-changes .changes .ensures .0, within), start .pre .full, start .pre .short, start .pre .fits)
 
 add-s : tie.Need-add-s
 add-s c =
     let start = c .before .before .before .before .before .before .before .before .before in
     let args = start .args in
-    omega (arith, first-small (args .s .now) (args .k) (args .path .now) (start .pre) (args .removed))
+    omega (arith, first-small (args .s .now) (args .k) (args .parents) (args .path .now) (start .pre) (args .removed))
 
 slice-write-s : tie.Need-slice-write-s
 slice-write-s c =
@@ -61,9 +61,9 @@ returns c =
     let args = start .args in
     let s = args .s .now in
     let at = args .k * transactionSize in
-    let change = changeBytes (changeGiven (args .removed) (args .path .now)) in
+    let change = changeBytes (changeGiven (args .removed) (args .parents) (args .path .now)) in
     let put = at-put .put-change .ensures ∙ ap (λ (n : ℕ). paste (at + changesAt + n * changeSize) change s) (at-changes .changes .ensures .0) in
-    ap (λ (l : Octets). set l at (getD s at 0 + 1)) put ∙ put-changed s (args .k) (args .path .now) (start .pre) (args .removed)
+    ap (λ (l : Octets). set l at (getD s at 0 + 1)) put ∙ put-changed s (args .k) (args .parents) (args .path .now) (start .pre) (args .removed)
 
 pub add-change-spec : {M : Type 1} → statement M
 add-change-spec =

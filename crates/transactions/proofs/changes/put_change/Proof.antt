@@ -1,6 +1,6 @@
 -- A change is its fields and its path's field.
 use mathlib.Core.Path.{ap, _∙_}
-use Prim.Native.Nat.{_+_, _/_, _%_}
+use Prim.Native.Nat.{_+_, _*_, _/_, _%_}
 use native.Mathlib.Omega.{arith}
 use lib.ListN.{length, set, length-set}
 use borrow.Author.Needs.{needs}
@@ -19,21 +19,32 @@ removal-mark-requires : tie.Need-removal-mark-requires
 removal-mark-requires c κs = search needs
 
 cast-s : tie.Need-cast-s
-cast-s c = search needs
+cast-s c = omega (arith, c .before .before .before .before .before .before .before .pre .3)
+
+mul-s : tie.Need-mul-s
+mul-s c = omega (arith, c .before .before .before .before .before .before .before .pre .3)
 
 add-s : tie.Need-add-s
 add-s c =
-    let args = c .before .before .before .before .before .before .before .args in
-    omega (arith, c .removal-mark .ensures, mark-small (args .removed))
-
-slice-write-s : tie.Need-slice-write-s
-slice-write-s c = omega arith
+    let start = c .before .before .before .before .before .before .before in
+    omega (arith, start .pre .3, c .removal-mark .ensures, mark-small (start .args .removed))
 
 cast-s-2 : tie.Need-cast-s-2
 cast-s-2 c = search needs
 
 add-s-2 : tie.Need-add-s-2
-add-s-2 c = search needs
+add-s-2 c =
+    let start = c .before .before .before .before .before .before .before in
+    omega (arith, start .pre .3, c .removal-mark .ensures, mark-small (start .args .removed))
+
+slice-write-s : tie.Need-slice-write-s
+slice-write-s c = omega arith
+
+cast-s-3 : tie.Need-cast-s-3
+cast-s-3 c = search needs
+
+add-s-3 : tie.Need-add-s-3
+add-s-3 c = search needs
 
 slice-write-s-2 : tie.Need-slice-write-s-2
 slice-write-s-2 c = simp length-set (omega arith)
@@ -50,8 +61,8 @@ returns c =
     let at = args .at in
     let path = args .path .now in
     let mark = c .removal-mark .result in
-    ap (λ (l : Octets). set (set l at (mark + length path / 256 % 2)) (at + 1) (length path % 256)) (at-text .put-text .ensures)
-    ∙ put-two (args .s .now) at (args .removed) path (pre .0) (pre .1) (pre .2) mark (c .removal-mark .ensures)
+    ap (λ (l : Octets). set (set l at (mark + 2 * args .parents + length path / 256 % 2)) (at + 1) (length path % 256)) (at-text .put-text .ensures)
+    ∙ put-two (args .s .now) at (args .removed) (args .parents) path (pre .0) (pre .3) (pre .1) (pre .2) mark (c .removal-mark .ensures)
 
 pub put-change-spec : {M : Type 1} → statement M
 put-change-spec =
@@ -61,10 +72,13 @@ put-change-spec =
     put-text-requires
     removal-mark-requires
     cast-s
+    mul-s
     add-s
-    slice-write-s
     cast-s-2
     add-s-2
+    slice-write-s
+    cast-s-3
+    add-s-3
     slice-write-s-2
     same-length
     returns)
