@@ -108,6 +108,12 @@ module _ (s : Octets) (h : isFull s ≡ true) (k end i : ℕ) (p : Passed s k en
 -- ── the path above ──
 
 module _ (s : Octets) (h : isFull s ≡ true) (k end : ℕ) (a : Above s k end) where
+  pub above-long : end ≡ length (take end s)
+  above-long = sym (length-take-le end s (a .within))
+
+  pub above-short : (most : ℕ) → length s ≤ most → length (take end s) ≤ most
+  above-short most l = omega (arith, above-long, a .within)
+
   upper-names : allNames (take (length (namesIn s) - k) (namesIn s)) ≡ true
   upper-names =
       let m = length (namesIn s) - k in
@@ -115,7 +121,7 @@ module _ (s : Octets) (h : isFull s ≡ true) (k end : ℕ) (a : Above s k end) 
       and-eq-true-iff (allNames (take m (namesIn s))) (allNames (drop m (namesIn s))) .0 e .0
 
   upper-short : length (pathText (take (length (namesIn s) - k) (namesIn s))) ≤ longestAbsolute
-  upper-short = let e = sym (ap length (a .text)) ∙ length-take-le end s (a .within) in omega (arith, full s h .short)
+  upper-short = let e = sym (ap length (a .text)) ∙ sym above-long in omega (arith, full s h .short, a .within)
 
   pub above-full : isFull (take end s) ≡ true
   above-full = rw (a .text) (text-full _ upper-names upper-short)
