@@ -1,6 +1,6 @@
--- Who hears a change is who hears it in the store before it, or in the store after it.
+-- Who hears an event is who hears it in the store before it, or in the store after it.
 use mathlib.Core.Path.{_≡_, refl, sym, ap, ap₂, subst, _∙_}
-use mathlib.Core.Bool.{Bool, true, false, _&&_, _||_, and-or-distrib-left}
+use mathlib.Core.Bool.{Bool, true, false, _&&_, _||_, and-or-distrib-left, or-self}
 use mathlib.Core.List.{List, [], _∷_}
 use mathlib.Core.Option.{Option, none, some}
 use Prim.Native.Nat.{ℕ, suc, _+_, _*_, _%_, _^_, _≤_, _<_}
@@ -16,12 +16,11 @@ use borrow.Author.Tests.{le-leb, lt-leb}
 use Rattle.rules.specs.Size.{mostWatches}
 use Rattle.rules.specs.Octets.{Octets, pack, packFrom, bit}
 use Rattle.rules.specs.Domain.{Domain, domainOf}
-use Rattle.rules.specs.Path.{Names, beyond}
+use Rattle.rules.specs.Path.{Names, pathText, beyond}
 use Rattle.rules.specs.Node.{Table}
 use Rattle.rules.specs.Rights.{readable}
 use Rattle.rules.specs.Payload.{Place, path, event}
-use Rattle.rules.specs.Answer.{Change}
-use Rattle.rules.specs.Event.{Watch, Watches, deepEnough, mayHear, hearsAt, hears, maskOf}
+use Rattle.rules.specs.Event.{Watch, Watches, Happening, deepEnough, mayHear, hearsAt, hears, maskOf, kept, heardEvent}
 use Rattle.rules.specs.Layout.{maskBits, watchesOf}
 use Rattle.rules.proofs.Fields.{bit-small}
 use Rattle.domains.specs.Entry.{passes}
@@ -29,6 +28,17 @@ use Rattle.events.specs.Records.{Mask}
 use Rattle.events.proofs.MaskLaws.{Masked, masked-none, masked-next, masked-all, mask-at, mask-long}
 
 -- ── one watch ──
+
+-- a watch's test by how the two paths lie, and by its place
+atBy : Watch → Names → Happening → Table → Table → Option Names → Option Names → Bool
+atBy w wn c u v m n =
+    elim m as (λ m. Bool) [
+      | some rest ↦ deepEnough (w .depth) (length rest) && mayHear u v (domainOf (w .owner)) (c .names)
+      | none ↦ elim n as (λ n. Bool) [ none ↦ false | some rest ↦ c .removal && mayHear u v (domainOf (w .owner)) wn ]
+    ]
+
+hearsBy : Watch → Happening → Table → Table → Place → Bool
+hearsBy w c u v p = elim p as (λ p. Bool) [ path r wn ↦ hearsAt u v w wn c | event e ↦ false ]
 
 module _ (b a : Table) where
   hear-either : (d : Domain) (ns : Names) → (mayHear b b d ns || mayHear a a d ns) ≡ mayHear b a d ns
@@ -43,30 +53,20 @@ module _ (b a : Table) where
   but-for : (x : Bool) (d : Domain) (ns : Names) → (x && mayHear b b d ns || x && mayHear a a d ns) ≡ (x && mayHear b a d ns)
   but-for x d ns = sym (and-or-distrib-left x (mayHear b b d ns) (mayHear a a d ns)) ∙ ap (λ (y : Bool). x && y) (hear-either d ns)
 
-  at-either : (w : Watch) (wn : Names) (c : Change) → (hearsAt b b w wn c || hearsAt a a w wn c) ≡ hearsAt b a w wn c
-  unfolding hearsAt
+  at-either : (w : Watch) (wn : Names) (c : Happening) → (hearsAt b b w wn c || hearsAt a a w wn c) ≡ hearsAt b a w wn c
+  unfolding hearsAt atBy
   at-either w wn c = go (beyond wn (c .names)) (beyond (c .names) wn)
     where
-      by : Table → Table → Option Names → Option Names → Bool
-      by u v m n =
-          elim m as (λ m. Bool) [
-            | some rest ↦ deepEnough (w .depth) (length rest) && mayHear u v (domainOf (w .owner)) (c .names)
-            | none ↦ elim n as (λ n. Bool) [ none ↦ false | some rest ↦ c .removal && mayHear u v (domainOf (w .owner)) wn ]
-          ]
-
-      go : (m n : Option Names) → (by b b m n || by a a m n) ≡ by b a m n
+      go : (m n : Option Names) → (atBy w wn c b b m n || atBy w wn c a a m n) ≡ atBy w wn c b a m n
       go (some rest) n = but-for (deepEnough (w .depth) (length rest)) (domainOf (w .owner)) (c .names)
       go none none = refl
       go none (some rest) = but-for (c .removal) (domainOf (w .owner)) wn
 
-  pub hears-either : (c : Change) (w : Watch) → (hears b b c w || hears a a c w) ≡ hears b a c w
-  unfolding hears
+  pub hears-either : (c : Happening) (w : Watch) → (hears b b c w || hears a a c w) ≡ hears b a c w
+  unfolding hears hearsBy
   hears-either c w = go (w .place)
     where
-      by : Table → Table → Place → Bool
-      by u v p = elim p as (λ p. Bool) [ path r wn ↦ hearsAt u v w wn c | event e ↦ false ]
-
-      go : (p : Place) → (by b b p || by a a p) ≡ by b a p
+      go : (p : Place) → (hearsBy w c b b p || hearsBy w c a a p) ≡ hearsBy w c b a p
       go (path r wn) = at-either w wn c
       go (event e) = refl
 
@@ -151,9 +151,36 @@ mask-same f g e (none ∷ ws) = ap (λ (m : List Bool). false ∷ m) (mask-same 
 mask-same f g e (some w ∷ ws) = ap₂ (λ (b : Bool) (m : List Bool). b ∷ m) (e w) (mask-same f g e ws)
 
 -- before and after
-pub mask-either : (b a : Table) (c : Change) (s : Octets) (n : ℕ) → Mask (maskOf (λ w. hears b b c w || hears a a c w) (watchesOf s)) n
+pub mask-either : (b a : Table) (c : Happening) (s : Octets) (n : ℕ) → Mask (maskOf (λ w. hears b b c w || hears a a c w) (watchesOf s)) n
     → Mask (maskOf (hears b a c) (watchesOf s)) n
 mask-either b a c s n m = subst (λ (l : List Bool). Mask l n) (mask-same _ _ (hears-either b a c) (watchesOf s)) m
+
+-- of a path that was not there before and was not removed the store after tells alone
+module _ (b a : Table) (c : Happening) (written : c .removal ≡ false) (unread : (d : Domain) → readable b d (c .names) ≡ false) where
+  hear-after : (d : Domain) → mayHear b a d (c .names) ≡ mayHear a a d (c .names)
+  unfolding mayHear
+  hear-after d = rw (unread d) (sym (or-self (readable a d (c .names))))
+
+  at-after : (w : Watch) (wn : Names) → hearsAt b a w wn c ≡ hearsAt a a w wn c
+  unfolding hearsAt atBy
+  at-after w wn = go (beyond wn (c .names)) (beyond (c .names) wn)
+    where
+      go : (m n : Option Names) → atBy w wn c b a m n ≡ atBy w wn c a a m n
+      go (some rest) n = ap (λ (x : Bool). deepEnough (w .depth) (length rest) && x) (hear-after (domainOf (w .owner)))
+      go none none = refl
+      go none (some rest) = rw written refl
+
+  hears-after : (w : Watch) → hears b a c w ≡ hears a a c w
+  unfolding hears hearsBy
+  hears-after w = go (w .place)
+    where
+      go : (p : Place) → hearsBy w c b a p ≡ hearsBy w c a a p
+      go (path r wn) = at-after w wn
+      go (event e) = refl
+
+  pub heard-after : (ws : Watches) → heardEvent b a ws c ≡ heardEvent a a ws c
+  unfolding heardEvent
+  heard-after ws = ap (λ (m : List Bool). kept m (pathText (c .names))) (mask-same _ _ hears-after ws)
 
 nobody : (ws : Watches) → pack (maskBits (maskOf (λ w. false) ws)) ≡ 0
 unfolding pack packFrom maskBits maskOf

@@ -1,4 +1,4 @@
--- Who hears a change: the rule of the rule book, test by test.
+-- Who hears an event: the rule of the rule book, test by test.
 use mathlib.Core.Path.{_≡_, refl, sym, ap, ap₂, _∙_}
 use mathlib.Core.Bool.{Bool, true, false, not, _&&_, true≢false, or-self}
 use mathlib.Core.List.{[], _∷_}
@@ -16,8 +16,7 @@ use Rattle.rules.specs.Path.{Names, isFull, namesIn, slashed, pathText, beyond,
 use Rattle.rules.specs.Node.{Table, nodeAt}
 use Rattle.rules.specs.Rights.{mayRead, readable}
 use Rattle.rules.specs.Payload.{Place, path, event}
-use Rattle.rules.specs.Answer.{Change}
-use Rattle.rules.specs.Event.{Watch, placeText, deepEnough, mayHear, hearsAt, hears, isEvent}
+use Rattle.rules.specs.Event.{Watch, Happening, placeText, deepEnough, mayHear, hearsAt, hears, isEvent}
 use Rattle.rules.specs.Layout.{tableOf, watchesOf}
 use Rattle.rules.proofs.PathLaws.{text-names, text-full}
 use Rattle.rules.proofs.EntryLayouts.{PlaceFits}
@@ -100,7 +99,7 @@ module _ (b a : Table) (d : Domain) (own names : Names) (removed : Bool) where
   unfolding hearsAbove
   above-other l = sym (ap aboveBy (not-beyond _ l))
 
-module _ (b a : Table) (w : Watch) (own : Names) (c : Change) {d : Domain} {m : Option ℕ} (o : d ≡ domainOf (w .owner)) (e : m ≡ w .depth) where
+module _ (b a : Table) (w : Watch) (own : Names) (c : Happening) {d : Domain} {m : Option ℕ} (o : d ≡ domainOf (w .owner)) (e : m ≡ w .depth) where
   abbrev atBy : Domain → Option ℕ → Option Names → Bool
   atBy x y l =
       elim l as (λ l. Bool) [
@@ -169,7 +168,7 @@ module _ (s : Octets) (k : ℕ) (h : TakenWatch s k) (own : Octets) (o : own ≡
           let q = g (λ z. true≢false (sym first ∙ ap (λ (p : Place). begins (47 ∷ []) (placeText p)) z)) in
           absurd (true≢false (sym first ∙ event-slash x (q .0)))
 
-  module _ (b a : Table) (c : Change) where
+  module _ (b a : Table) (c : Happening) where
     abbrev hearsBy : Place → Bool
     hearsBy p = elim p as (λ p. Bool) [ path r wn ↦ hearsAt b a w wn c | event e ↦ false ]
 

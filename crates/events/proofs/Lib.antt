@@ -5,7 +5,9 @@ pub mod EitherLaws
 pub mod RecordLaws
 pub mod Fronts
 pub mod SlotPaths
+pub mod Entering
 pub mod ChangeLaws
+pub mod Levels
 pub mod WatchLaws
 pub mod ReportLaws
 pub mod PutLaws

@@ -94,6 +94,9 @@ recorded-one n x before after w e =
       wide = ap length (append-nil (recordBytes x)) ∙ w;
     }
 
+pub recorded-as : {n r : ℕ} {before after : Octets} (xs ys : List Record) → xs ≡ ys → Recorded n xs before after r → Recorded n ys before after r
+recorded-as xs ys e f = rw (← e) f
+
 -- some records, and then more
 pub recorded-more : (n : ℕ) (xs ys : List Record) (before middle after : Octets) (r q : ℕ) → n * recordSize ≤ length before
     → Recorded n xs before middle r → Recorded r ys middle after q → Recorded n (xs ++ ys) before after q

@@ -1,4 +1,4 @@
-// Whether a watch hears a change.
+// Whether a watch hears an event.
 ghost use mathlib.Core.Path.{_≡_};
 ghost use mathlib.Core.Bool.{true};
 ghost use mathlib.Core.Option.{none};
@@ -13,8 +13,7 @@ ghost use Rattle.rules.specs.Layout.{tableOf, watchesOf};
 ghost use Rattle.rules.specs.Sound.{soundTable};
 ghost use Rattle.domains.specs.Entry.{passes};
 ghost use Rattle.watches.specs.Watch.{depthMeant};
-ghost use Rattle.transactions.specs.Transaction.{changeGiven};
-ghost use Rattle.events.specs.Stores.{Store, hearsAbove};
+ghost use Rattle.events.specs.Stores.{Store, happened, hearsAbove};
 use lookup::reach::reach;
 use lookup::rights::may_read;
 use octets::compare::begins;
@@ -23,7 +22,6 @@ use paths::relation::beyond;
 use watches::Depth;
 use watches::places::depth;
 use watches::places::domain;
-use watches::places::path;
 use watches::places::used;
 
 // Whether a full path is there, and a domain may read it.
@@ -62,11 +60,11 @@ fn hears_above(t: &[u8], domain: u32, own: &[u8], path: &[u8], removed: bool) ->
     }
 }
 
-// Whether a watch of a domain on the full path `own` hears a change of a full path.
+// Whether a watch of a domain on the full path `own` hears an event on a full path.
 fn hears_on(t: &[u8], domain: u32, own: &[u8], depth: Depth, path: &[u8], removed: bool) -> bool
     requires { ⌜ (soundTable (now t) ≡ true) × (isFull (now own) ≡ true) × (isFull (now path) ≡ true) ⌝ }
     ensures { λ r. ⌜ ((w : Watch) → domain ≡ domainOf (w .owner) → depthMeant depth ≡ w .depth →
-        r ≡ hearsAt (tableOf (now (t .entry))) (tableOf (now (t .entry))) w (namesIn (now (own .entry))) (changeGiven removed (now (path .entry)))) ⌝ }
+        r ≡ hearsAt (tableOf (now (t .entry))) (tableOf (now (t .entry))) w (namesIn (now (own .entry))) (happened removed (now (path .entry)))) ⌝ }
 {
     match beyond(own, path) {
         Beyond::Levels(levels) => {
@@ -79,25 +77,18 @@ fn hears_on(t: &[u8], domain: u32, own: &[u8], depth: Depth, path: &[u8], remove
     }
 }
 
-// Whether place k has a watch that hears a change of a full path, by what its owner may read in one store.
-pub fn hears(t: &[u8], watches: &[u8], k: usize, changed: &[u8], removed: bool) -> bool
-    requires { ⌜ (k < mostWatches) × Store (now t) (now watches) × (isFull (now changed) ≡ true) ⌝ }
-    ensures { λ r. ⌜ r ≡ passes (hears (tableOf (now (t .entry))) (tableOf (now (t .entry))) (changeGiven removed (now (changed .entry))))
+// Whether place k has a watch that hears an event on a full path, by what its owner may read in one store.
+pub fn hears(t: &[u8], watches: &[u8], k: usize, path: &[u8], removed: bool) -> bool
+    requires { ⌜ (k < mostWatches) × Store (now t) (now watches) × (isFull (now path) ≡ true) ⌝ }
+    ensures { λ r. ⌜ r ≡ passes (hears (tableOf (now (t .entry))) (tableOf (now (t .entry))) (happened removed (now (path .entry))))
         (getD (watchesOf (now (watches .entry))) k none) ⌝ }
 {
     if !used(watches, k) {
         return false;
     }
-    let own = path(watches, k);
+    let own = watches::places::path(watches, k);
     if !begins(b"/", own) {
         return false;
     }
-    hears_on(
-        t,
-        domain(watches, k),
-        own,
-        depth(watches, k),
-        changed,
-        removed,
-    )
+    hears_on(t, domain(watches, k), own, depth(watches, k), path, removed)
 }

@@ -13,9 +13,8 @@ ghost use Rattle.rules.specs.Event.{Watch, hears, maskOf, isEvent, onlyFrom};
 ghost use Rattle.rules.specs.Layout.{tableOf, watchesOf};
 ghost use Rattle.domains.specs.Entry.{passes};
 ghost use Rattle.watches.specs.Watch.{KeptWatches};
-ghost use Rattle.transactions.specs.Transaction.{changeGiven};
 ghost use Rattle.events.specs.Records.{Mask};
-ghost use Rattle.events.specs.Stores.{Store, eventName};
+ghost use Rattle.events.specs.Stores.{Store, happened, eventName};
 use crate::hearing::hears;
 use octets::compare::same;
 use octets::sizes::WATCHES;
@@ -33,70 +32,61 @@ fn with_bit(mask: u32, on: bool) -> u32
     mask * 2
 }
 
-// Whether place k has a watch that heard a change already, by the highest of 16 bits, or hears it in a store.
+// Whether place k has a watch that heard an event already, by the highest of 16 bits, or hears it in a store.
 fn heard_or_hears_at(
     heard: u32,
     t: &[u8],
     watches: &[u8],
     k: usize,
-    changed: &[u8],
+    path: &[u8],
     removed: bool,
 ) -> bool
-    requires { ⌜ (k < mostWatches) × Store (now t) (now watches) × (isFull (now changed) ≡ true) ⌝ }
+    requires { ⌜ (k < mostWatches) × Store (now t) (now watches) × (isFull (now path) ≡ true) ⌝ }
     ensures { λ r. ⌜ r ≡ (leb 32768 heard || passes
-        (hears (tableOf (now (t .entry))) (tableOf (now (t .entry))) (changeGiven removed (now (changed .entry))))
+        (hears (tableOf (now (t .entry))) (tableOf (now (t .entry))) (happened removed (now (path .entry))))
         (getD (watchesOf (now (watches .entry))) k none)) ⌝ }
 {
     if 32768 <= heard {
         return true;
     }
-    hears(t, watches, k, changed, removed)
+    hears(t, watches, k, path, removed)
 }
 
-// Those that heard a change of a full path already, and those that hear it in a store.
-fn heard_or_hears(heard: u32, t: &[u8], watches: &[u8], changed: &[u8], removed: bool) -> u32
-    requires { ⌜ Store (now t) (now watches) × (isFull (now changed) ≡ true) ⌝ }
+// Those that heard an event on a full path already, and those that hear it in a store.
+fn heard_or_hears(heard: u32, t: &[u8], watches: &[u8], path: &[u8], removed: bool) -> u32
+    requires { ⌜ Store (now t) (now watches) × (isFull (now path) ≡ true) ⌝ }
     ensures { λ r. ⌜ ((f : Watch → Bool) → Mask (maskOf f (watchesOf (now (watches .entry)))) heard →
-        Mask (maskOf (λ w. f w || hears (tableOf (now (t .entry))) (tableOf (now (t .entry))) (changeGiven removed (now (changed .entry))) w)
+        Mask (maskOf (λ w. f w || hears (tableOf (now (t .entry))) (tableOf (now (t .entry))) (happened removed (now (path .entry))) w)
         (watchesOf (now (watches .entry)))) r) ⌝ }
 {
     let mut mask: u32 = 0;
     let mut rest = heard;
     let mut k = 0;
     while k < WATCHES {
-        mask = with_bit(
-            mask,
-            heard_or_hears_at(rest, t, watches, k, changed, removed),
-        );
+        mask = with_bit(mask, heard_or_hears_at(rest, t, watches, k, path, removed));
         rest = rest % 32768 * 2;
         k += 1;
     }
     mask
 }
 
-// Those that hear a change of a full path in one store.
-pub fn in_store(t: &[u8], watches: &[u8], changed: &[u8], removed: bool) -> u32
-    requires { ⌜ Store (now t) (now watches) × (isFull (now changed) ≡ true) ⌝ }
-    ensures { λ r. ⌜ Mask (maskOf (hears (tableOf (now (t .entry))) (tableOf (now (t .entry))) (changeGiven removed (now (changed .entry))))
+// Those that hear an event on a full path in one store.
+pub fn in_store(t: &[u8], watches: &[u8], path: &[u8], removed: bool) -> u32
+    requires { ⌜ Store (now t) (now watches) × (isFull (now path) ≡ true) ⌝ }
+    ensures { λ r. ⌜ Mask (maskOf (hears (tableOf (now (t .entry))) (tableOf (now (t .entry))) (happened removed (now (path .entry))))
         (watchesOf (now (watches .entry)))) r ⌝ }
 {
-    heard_or_hears(0, t, watches, changed, removed)
+    heard_or_hears(0, t, watches, path, removed)
 }
 
-// Those that hear a change of a full path, given those that hear it in the store as it was before.
-pub fn of_change_since(
-    heard: u32,
-    after: &[u8],
-    watches: &[u8],
-    changed: &[u8],
-    removed: bool,
-) -> u32
-    requires { ⌜ Store (now after) (now watches) × (isFull (now changed) ≡ true) ⌝ }
+// Those that hear an event on a full path, given those that hear it in the store as it was before.
+pub fn of_event_since(heard: u32, after: &[u8], watches: &[u8], path: &[u8], removed: bool) -> u32
+    requires { ⌜ Store (now after) (now watches) × (isFull (now path) ≡ true) ⌝ }
     ensures { λ r. ⌜ ((before : Table) →
-        Mask (maskOf (hears before before (changeGiven removed (now (changed .entry)))) (watchesOf (now (watches .entry)))) heard →
-        Mask (maskOf (hears before (tableOf (now (after .entry))) (changeGiven removed (now (changed .entry)))) (watchesOf (now (watches .entry)))) r) ⌝ }
+        Mask (maskOf (hears before before (happened removed (now (path .entry)))) (watchesOf (now (watches .entry)))) heard →
+        Mask (maskOf (hears before (tableOf (now (after .entry))) (happened removed (now (path .entry)))) (watchesOf (now (watches .entry)))) r) ⌝ }
 {
-    heard_or_hears(heard, after, watches, changed, removed)
+    heard_or_hears(heard, after, watches, path, removed)
 }
 
 // Whether place k has a watch on the event of a release, or of an introduction.

@@ -4,6 +4,7 @@ pub mod ConstantTables
 pub mod MachineLaws
 pub mod VerdictLaws
 pub mod PieceLaws
+pub mod AboveLaws
 pub mod RelationLaws
 pub mod FullLaws
 pub mod FormLaws

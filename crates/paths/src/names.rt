@@ -1,10 +1,10 @@
 // The names of a full path's text.
 ghost use mathlib.Core.Path.{_≡_};
 ghost use mathlib.Core.Bool.{true};
-ghost use Prim.Native.Nat.{_≤_};
+ghost use Prim.Native.Nat.{_≤_, _<_};
 ghost use lib.ListN.{length};
 ghost use Rattle.rules.specs.Path.{fits, isFull, namesIn, shortNames};
-ghost use Rattle.paths.specs.Names.{nameEnd};
+ghost use Rattle.paths.specs.Names.{nameEnd, Above};
 use octets::sizes::DEEPEST;
 use octets::sizes::LONGEST_NAME;
 
@@ -40,6 +40,20 @@ pub fn depth(s: &[u8]) -> usize
         i += 1;
     }
     levels
+}
+
+// The index behind the path that lies k levels above a full path, below the root.
+pub fn above(s: &[u8], k: usize) -> usize
+    requires { ⌜ (isFull (now s) ≡ true) × (k < length (namesIn (now s))) ⌝ }
+    ensures { λ r. ⌜ Above (now (s .entry)) k r ⌝ }
+{
+    let mut end = 0;
+    let mut i = depth(s) - k;
+    while 0 < i {
+        end = name_end(s, end + 1);
+        i -= 1;
+    }
+    end
 }
 
 // Whether each name of a full path is within its size.

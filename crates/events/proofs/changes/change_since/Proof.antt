@@ -1,24 +1,30 @@
--- The record of a change has the mask of those that hear it and the path that was given, and is kept if the mask has a bit.
+-- The created parents were not there before, so the store after tells of them; the path's own event comes behind theirs.
+use mathlib.Core.Path.{sym}
+use native.Mathlib.Omega.{arith}
 use borrow.Author.Needs.{needs}
-use Rattle.events.proofs.ChangeLaws.{heard-given}
+use Rattle.events.proofs.ChangeLaws.{heard-since, since-room}
+use Rattle.events.proofs.RecordLaws.{recorded-as, recorded-more}
 use Rattle.events.proofs.changes.change_since.Statement.{statement}
 use Rattle.events.proofs.changes.change_since.Tie as tie
 
-of-change-since-requires : tie.Need-of-change-since-requires
-of-change-since-requires c κs = search needs
+created-requires : tie.Need-created-requires
+created-requires c κs = search needs
 
-keep-requires : tie.Need-keep-requires
-keep-requires c κs = search needs
+event-since-requires : tie.Need-event-since-requires
+event-since-requires c κs =
+    let at-created = c .before .before .before in
+    let start = at-created .before .before .before .before .before .before in
+    (start .pre .0, start .pre .1, start .pre .2, since-room _ _ _ _ _ _ _ (start .pre .4) (start .pre .5) (at-created .created .ensures))
 
 same-length : tie.Need-same-length
 same-length c = search needs
 
 returns : tie.Need-returns
-returns c = λ before m.
-    let at-keep = c .before .before in
-    let at-mask = at-keep .before .before in
-    let start = at-mask .before .before .before .before .before in
-    rw (heard-given _ _ _ _ _ (start .pre .1)) (at-keep .keep .ensures _ (at-mask .of-change-since .ensures before m))
+returns c = λ before m new.
+    let at-since = c .before .before in
+    let at-created = at-since .before .before .before .before in
+    recorded-as _ _ (sym (heard-since before _ _ _ _ _ new))
+    (recorded-more 0 _ _ _ _ _ _ _ (omega arith) (at-created .created .ensures) (at-since .event-since .ensures before m))
 
 pub change-since-spec : {M : Type 1} → statement M
-change-since-spec = tie.close (tie.spec of-change-since-requires keep-requires same-length returns)
+change-since-spec = tie.close (tie.spec created-requires event-since-requires same-length returns)

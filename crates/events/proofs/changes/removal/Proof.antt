@@ -1,8 +1,9 @@
--- The text that was put is the path of the slot, so the change that is recorded is the removal of its node.
-use mathlib.Core.Path.{sym, ap, _∙_}
+-- The text that was put is the path of the slot, so the event that is recorded is the removal of its node.
+use mathlib.Core.Path.{ap, _∙_}
 use borrow.Author.Needs.{needs}
 use Rattle.rules.specs.Size.{longestPath}
 use Rattle.rules.specs.Path.{isFull}
+use Rattle.events.proofs.RecordLaws.{recorded-as}
 use Rattle.events.proofs.ChangeLaws.{removal-given}
 use Rattle.events.proofs.SlotPaths.{slot-within, slot-full}
 use Rattle.events.proofs.Fronts.{front-is, front-within, front-long, front-short}
@@ -21,14 +22,14 @@ array-share-prefix-text c =
     let start = at-path .before .before .before .before .before .before in
     front-within 0 _ _ _ _ (at-path .path-of .ensures) (slot-within _ _ (start .pre .1))
 
-slice-aggregate-change : tie.Need-slice-aggregate-change
-slice-aggregate-change c =
+slice-aggregate-event : tie.Need-slice-aggregate-event
+slice-aggregate-event c =
     let at-path = c .before .before in
     let start = at-path .before .before .before .before .before .before in
     front-long 0 _ _ _ _ (at-path .path-of .ensures) (slot-within _ _ (start .pre .1))
 
-change-requires : tie.Need-change-requires
-change-requires c κs =
+event-requires : tie.Need-event-requires
+event-requires c κs =
     let at-path = c .before .before .before in
     let start = at-path .before .before .before .before .before .before in
     let put = at-path .path-of .ensures in
@@ -41,11 +42,11 @@ same-length c = search needs
 
 returns : tie.Need-returns
 returns c =
-    let at-change = c .before .before in
-    let at-path = at-change .before .before .before .before in
+    let at-event = c .before .before in
+    let at-path = at-event .before .before .before .before in
     let start = at-path .before .before .before .before .before .before in
     let text = front-is 0 _ _ _ _ (at-path .path-of .ensures) (slot-within _ _ (start .pre .1)) in
-    rw (sym (removal-given _ _ (start .pre .1) _ text)) (at-change .change .ensures)
+    recorded-as _ _ (removal-given _ _ _ _ _ (start .pre .1) _ text) (at-event .event .ensures)
 
 pub removal-spec : {M : Type 1} → statement M
 removal-spec =
@@ -54,7 +55,7 @@ removal-spec =
     slice-aggregate-path-of
     path-of-requires
     array-share-prefix-text
-    slice-aggregate-change
-    change-requires
+    slice-aggregate-event
+    event-requires
     same-length
     returns)

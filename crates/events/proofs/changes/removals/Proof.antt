@@ -3,16 +3,18 @@ use mathlib.Core.List.{map}
 use Prim.Native.Nat.{_-_}
 use native.Mathlib.Omega.{arith}
 use lib.ListN.{take}
+use Rattle.rules.specs.Event.{heardChange, heard}
 use Rattle.rules.specs.Layout.{tableOf, watchesOf}
 use Rattle.lookup.proofs.ChildrenLaws.{listed}
 use Rattle.events.specs.Stores.{removalOf}
-use Rattle.events.proofs.ChangeLaws.{Entered, entered-none, entered-room, entered-next, entered-all, removals-length, removal-at}
+use Rattle.events.proofs.Entering.{Entered, entered-none, entered-room, entered-next, entered-all}
+use Rattle.events.proofs.ChangeLaws.{removals-length, removal-at, removal-few}
 use Rattle.events.proofs.changes.removals.Statement.{statement}
 use Rattle.events.proofs.changes.removals.Tie as tie
 
 abbrev Inv-loop : tie.InvT-loop
 Inv-loop before after watches list count events₀ n₀ i₀ events n i =
-    Entered (tableOf before) (tableOf after) (watchesOf watches) (map (removalOf (tableOf before)) (take count list)) events₀ events i n
+    Entered (heardChange (tableOf before) (tableOf after) (watchesOf watches)) 1 (map (removalOf (tableOf before)) (take count list)) 0 events₀ events i n
 
 abbrev μ-loop : tie.MeasureT-loop
 μ-loop before after watches list count events₀ n₀ i₀ events n i = count - i
@@ -48,8 +50,8 @@ loop-again c =
     let start = at-loop .before .before .before .before .before .before in
     let h = at-test .loop-test .taken in
     let long = start .pre .1 in
-    entered-next _ _ _ _ _ _ _ _ (at-loop .loop .inv) (rw (removals-length _ _ _ long) h) (omega arith) _ _
-    (removal-at _ _ _ long _ h) _ _ (at-removal .removal .ensures)
+    entered-next _ 1 _ _ _ _ _ _ (at-loop .loop .inv) (rw (removals-length _ _ _ long) h) (omega arith) _ _
+    (removal-at _ _ _ long _ h) (removal-few _ _ _ _ _) _ _ (at-removal .removal .ensures)
 
 same-length : tie.Need-same-length Inv-loop μ-loop
 same-length c =
@@ -58,6 +60,7 @@ same-length c =
     omega (arith, at-loop .loop .inv .long, start .pre .4)
 
 returns : tie.Need-returns Inv-loop μ-loop
+unfolding heard
 returns c =
     let at-loop = c .before in
     let start = at-loop .before .before .before .before .before .before in

@@ -2,7 +2,7 @@
 use mathlib.Core.Path.{sym, _∙_}
 use borrow.Author.Tests.{not-true, not-false}
 use borrow.Author.Needs.{needs}
-use Rattle.transactions.specs.Transaction.{changeGiven}
+use Rattle.events.specs.Stores.{happened}
 use Rattle.events.proofs.HearingLaws.{hear-once, too-deep, within-depth, not-below}
 use Rattle.events.proofs.hearing.hears_on.Statement.{statement}
 use Rattle.events.proofs.hearing.hears_on.Tie as tie
@@ -17,7 +17,7 @@ deep-enough-requires : tie.Need-deep-enough-requires
 deep-enough-requires c κs = search needs
 
 returns : tie.Need-returns
-unfolding changeGiven
+unfolding happened
 returns c = λ w o d.
     let l = c .before .before .before in
     too-deep _ _ w _ _ o d _ (sym (l .before .before .beyond .ensures) ∙ l .levels .given .1)
@@ -33,7 +33,7 @@ hears-above-requires : tie.Need-hears-above-requires
 hears-above-requires c κs = search needs
 
 returns-2 : tie.Need-returns-2
-unfolding changeGiven
+unfolding happened
 returns-2 c = λ w o d.
     let l = c .before .before .before .before in
     c .readable .ensures ∙ hear-once _ _ _
@@ -41,7 +41,7 @@ returns-2 c = λ w o d.
     (sym (c .before .before .deep-enough .ensures) ∙ not-false _ (c .before .if1 .left))
 
 returns-3 : tie.Need-returns-3
-unfolding changeGiven
+unfolding happened
 returns-3 c = λ w o d.
     c .hears-above .ensures
     ∙ not-below _ _ w _ _ o d (sym (c .before .before .before .beyond .ensures) ∙ c .before .enum-told .given .1)

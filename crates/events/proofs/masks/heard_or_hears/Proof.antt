@@ -4,17 +4,17 @@ use native.Mathlib.Omega.{arith}
 use Rattle.rules.specs.Size.{mostWatches}
 use Rattle.rules.specs.Layout.{tableOf}
 use Rattle.rules.specs.Event.{hears}
-use Rattle.transactions.specs.Transaction.{changeGiven}
+use Rattle.events.specs.Stores.{happened}
 use Rattle.events.proofs.EitherLaws.{Either, either-none, either-small, either-next, either-all}
 use Rattle.events.proofs.masks.heard_or_hears.Statement.{statement}
 use Rattle.events.proofs.masks.heard_or_hears.Tie as tie
 
 abbrev Inv-loop : tie.InvT-loop
-Inv-loop heard t watches changed removed mask₀ rest₀ k₀ mask rest k =
-    Either (hears (tableOf t) (tableOf t) (changeGiven removed changed)) watches heard mask rest k
+Inv-loop heard t watches path removed mask₀ rest₀ k₀ mask rest k =
+    Either (hears (tableOf t) (tableOf t) (happened removed path)) watches heard mask rest k
 
 abbrev μ-loop : tie.MeasureT-loop
-μ-loop heard t watches changed removed mask₀ rest₀ k₀ mask rest k = mostWatches - k
+μ-loop heard t watches path removed mask₀ rest₀ k₀ mask rest k = mostWatches - k
 
 loop-holds : tie.Need-loop-holds Inv-loop μ-loop
 loop-holds c = either-none _ _ _
