@@ -1,40 +1,37 @@
 -- Created is heard: the paths that were not there are among the change's events, and each event goes to those that attend to it.
 use mathlib.Core.Path.{_≡_, refl, sym, _∙_, ap, subst}
-use mathlib.Core.Bool.{Bool, true, false, cond, _&&_, false≢true, true≢false, or-true}
+use mathlib.Core.Bool.{Bool, true, false, _&&_, false≢true, or-true}
 use mathlib.Core.List.{List, [], _∷_, _++_, map, flatMap, List·Memᴰ·head, Memᴰ·append-left, Memᴰ·append-right, append-nil}
 use mathlib.Core.Option.{Option, none, some}
-use Prim.Native.Nat.{ℕ, zero, suc, _+_, _-_, _≤_, _<_}
+use Prim.Native.Nat.{ℕ, zero, suc, _-_, _≤_, _<_}
 use native.Mathlib.Nat.{sub-zero}
-use native.Mathlib.Decide.{ℕ-discrete, decLt}
+use native.Mathlib.Decide.{ℕ-discrete}
 use native.Mathlib.Omega.{arith}
-use lib.ListN.{length, getD, take, length-append}
+use lib.ListN.{length, take, length-append}
 use lib.Seq.{take-all, take-at}
-use lib.Dec.{eqb, leb}
-use Rattle.rules.specs.Size.{longestValue}
-use Rattle.rules.specs.Octets.{Octets}
-use Rattle.rules.specs.Entries.{isEmpty}
-use Rattle.rules.specs.Path.{Domain, Names, Name, domainOf, slashed, pathText, beyond}
-use Rattle.rules.specs.Node.{Table, Reached, nodeAt, child, reachFrom, reach}
-use Rattle.rules.specs.Rights.{mayWrite, readable}
-use Rattle.rules.specs.Payload.{Ask, directory, read, getPerms, write, mkdir, rm, setPerms, Place, path, event, ask, request}
-use Rattle.rules.specs.Answer.{Reply, OK, Change, Answer, unchanged, changed, room, created, written, directoryMade, answered, answer}
+use Rattle.rules.specs.Size.{lastDomain}
+use Rattle.rules.specs.Path.{Domain, Names, domainOf, allNames, slashed, pathText, beyond}
+use Rattle.rules.specs.Node.{Table, reach}
+use Rattle.rules.specs.Rights.{readable}
+use Rattle.rules.specs.Payload.{Ask, Place, path, event}
+use Rattle.rules.specs.Answer.{Reply, Change, Answer, answer}
 use Rattle.rules.specs.Event.{Watch, Watches, Record, Happening, lineage, eventsOf, deepEnough, mayHear, hearsAt, hears, maskOf, anyBit, kept, heardEvent}
 use Rattle.rules.specs.Event.{heardChange, heard}
 use Rattle.rules.specs.World.{World, Outcome, freshWorld, left, to, onStore, asked, handle}
-use Rattle.rules.specs.Call.{txOf, outcomeOf}
+use Rattle.rules.specs.Call.{outcomeOf}
 use Rattle.rules.proofs.Cases.{cond-case}
-use Rattle.rules.proofs.Places.{At, nothing, some-is}
+use Rattle.rules.proofs.Places.{At}
 use Rattle.rules.proofs.PathLaws.{beyond-append}
-use Rattle.rules.proofs.Absent.{left-short}
 use Rattle.rules.proofs.Changes.{good-parts}
 use Rattle.rules.proofs.GoodAnswers.{change-good}
 use Rattle.rules.proofs.GoodRequests.{AskedGood, ParsedGood}
-use Rattle.rules.proofs.SoundWorld.{SoundWorld}
-use Rattle.laws.specs.History.{Call, requestOf, run, succeeds, isThere}
-use Rattle.laws.specs.Heard.{creates, Creates, Attends, Told, Lengthening, CreatedIsHeard}
-use Rattle.laws.proofs.Calls.{served-is, request-good}
+use Rattle.rules.proofs.SoundWorld.{SoundWorld, known-range}
+use Rattle.laws.specs.History.{run, succeeds, isThere}
+use Rattle.laws.specs.Heard.{creates, Attends, Told, Lengthening, CreatedIsHeard}
+use Rattle.laws.proofs.Calls.{served-is, served-known, request-good}
 use Rattle.laws.proofs.SoundCalls.{fresh-sound, run-keeps}
 use Rattle.laws.proofs.Step.{on-store-reply}
+use Rattle.laws.proofs.Created.{answer-created}
 use Rattle.laws.proofs.Gone.{mask-at, any-bit}
 
 -- ── the order of the paths ──
@@ -136,57 +133,11 @@ module _ (before after : Table) (ws : Watches) (removal : Bool) (ns : Names) whe
             (subst (λ (q : Names). Told p i (heardEvent before after ws (happening q))) this (told-here p a))
         go (no q) f = told-right p (heardEvent before after ws (happening (take (length ns - suc k) ns))) (told-of k) (f (omega (arith, q)))
 
--- ── what a request creates ──
-
--- a path is there if no more of a longer one is left than it lacks
-above-left : (p below : Names) (t : Table) (i : ℕ) → length (reachFrom (p ++ below) t i .left) ≤ length below → isEmpty (reachFrom p t i .left) ≡ true
-unfolding reachFrom isEmpty
-above-left [] below t i h = refl
-above-left (n ∷ p) below t i h = go (child t i n) h (above-left p below t)
-  where
-    go : (m : Option ℕ)
-        → length ((elim m as (λ m. Reached) [ none ↦ record { slot = i; left = n ∷ (p ++ below) } | some j ↦ reachFrom (p ++ below) t j ]) .left)
-        ≤ length below
-        → ((j : ℕ) → length (reachFrom (p ++ below) t j .left) ≤ length below → isEmpty (reachFrom p t j .left) ≡ true)
-        → isEmpty ((elim m as (λ m. Reached) [ none ↦ record { slot = i; left = n ∷ p } | some j ↦ reachFrom p t j ]) .left) ≡ true
-    go none l f = absurd (omega (arith, length-append p below))
-    go (some j) l f = f j l
-
--- so more is left than a path that is not there lacks
-absent-left : (p below : Names) (t : Table) → isThere t p ≡ false → length below < length (reach t (p ++ below) .left)
-unfolding isThere reach
-absent-left p below t n = go (decLt (length below) (length (reachFrom (p ++ below) t 0 .left)))
-  where
-    go : Dec (length below < length (reachFrom (p ++ below) t 0 .left)) → length below < length (reachFrom (p ++ below) t 0 .left)
-    go (yes h) = h
-    go (no h) = absurd (true≢false (sym (above-left p below t 0 (omega (arith, h))) ∙ n))
-
-module _ (d : Domain) (ns : Names) (t : Table) where
-  -- an answer that succeeds has created so many parents
-  abbrev Created : ℕ → Answer → Type 0
-  Created parents a = succeeds (a .reply) ≡ true → a .change ≡ some (record { removal = false; parents = parents; names = ns })
-
-  created-change : (r : Reached) (v : Octets) → Created (length (r .left) - 1) (created d ns t r v)
-  unfolding created changed unchanged succeeds
-  created-change r v =
-      let k = length (r .left) - 1 in
-      cond-case (Created k) (mayWrite d (nodeAt t (r .slot))) _ _
-      (cond-case (Created k) (room d ns t (r .left) v) _ _ (λ s. refl) (λ s. absurd (false≢true s)))
-      (λ s. absurd (false≢true s))
-
-  answered-change : (a : Ask) → creates a ≡ true → (l : Names) (i : ℕ) → 0 < length l
-      → Created (length l - 1) (answered d ns t a (record { slot = i; left = l }))
-  unfolding answered written directoryMade creates
-  answered-change a c [] i h = absurd (omega arith)
-  answered-change directory c (n ∷ l) i h = absurd (false≢true c)
-  answered-change read c (n ∷ l) i h = absurd (false≢true c)
-  answered-change getPerms c (n ∷ l) i h = absurd (false≢true c)
-  answered-change (write v) c (n ∷ l) i h = created-change _ v
-  answered-change mkdir c (n ∷ l) i h = created-change _ []
-  answered-change rm c (n ∷ l) i h = absurd (false≢true c)
-  answered-change (setPerms o es) c (n ∷ l) i h = absurd (false≢true c)
-
 -- ── a request on the store ──
+
+-- a path without the names below p is p
+without-below : (ns p below : Names) → ns ≡ p ++ below → take (length ns - length below) ns ≡ p
+without-below ns p below e = rw e (take-at p below (length (p ++ below) - length below) (omega (arith, length-append p below)))
 
 module _ (w : World) (s : SoundWorld w) (d : Domain) (a : Ask) (ns : Names) (f : AskedGood a ns) where
   x : Answer
@@ -201,22 +152,34 @@ module _ (w : World) (s : SoundWorld w) (d : Domain) (a : Ask) (ns : Names) (f :
       go (some c) e =
           let g = change-good d a ns (w .nodes) (s .nodes .good) (s .nodes .fitting) (f .names) (f .proper) c e in
           let parts = good-parts c (g .1) in
+          let first = some-text (take (length (c .names) - c .parents) (c .names)) in
           rw (append-nil (heardChange (w .nodes) (x .table) (w .watches) c))
-          (lengthening (w .nodes) (x .table) (w .watches) (c .removal) (c .names) (c .parents) 0 (parts .above) (some-text (take (length (c .names) - c .parents) (c .names))))
+          (lengthening (w .nodes) (x .table) (w .watches) (c .removal) (c .names) (c .parents) 0 (parts .above) first)
+
+  -- a path that is new in the store is new in the answer's table
+  new-there : (p : Names) → isThere (w .nodes) p ≡ false → isThere (onStore w x .world .nodes) p ≡ true → isThere (x .table) p ≡ true
+  unfolding onStore left to
+  new-there p n = go (x .change)
+    where
+      go : (m : Option Change) → isThere (onStore w (record { reply = x .reply; table = x .table; change = m }) .world .nodes) p ≡ true
+          → isThere (x .table) p ≡ true
+      go none h = absurd (false≢true (sym n ∙ h))
+      go (some c) h = h
 
   -- a path that was not there is told of
-  told-of-created : creates a ≡ true → succeeds (x .reply) ≡ true → (p below : Names) → ns ≡ p ++ below → isThere (w .nodes) p ≡ false
-      → (i : ℕ) (v : Watch) → At (w .watches) i v → Attends (onStore w x .world .nodes) v p → Told p i (onStore w x .records)
-  unfolding onStore left to heard heardChange eventsOf flatMap x answer
-  told-of-created c q p below e n i v at b =
+  told-of-created : d ≤ lastDomain → creates a ≡ true → succeeds (x .reply) ≡ true → (p : Names) → allNames p ≡ true → isThere (w .nodes) p ≡ false
+      → isThere (onStore w x .world .nodes) p ≡ true → (i : ℕ) (v : Watch) → At (w .watches) i v
+      → Attends (onStore w x .world .nodes) v p → Told p i (onStore w x .records)
+  unfolding onStore left to heard heardChange eventsOf flatMap x
+  told-of-created hd c q p hp n h i v at b =
       let l = reach (w .nodes) ns .left in
-      let far : length below < length l = rw e (absent-left p below (w .nodes) n) in
-      let y : Change = record { removal = false; parents = length l - 1; names = ns } in
-      let change : x .change ≡ some y = answered-change d ns (w .nodes) a c l (reach (w .nodes) ns .slot) (omega arith) q in
-      let this : take (length ns - length below) ns ≡ p = rw e (take-at p below (length (p ++ below) - length below) (omega (arith, length-append p below))) in
-      subst Telling (sym change)
-      (λ k. told-left (w .nodes) (x .table) (w .watches) false ns i v at p _ []
-      (told-among (w .nodes) (x .table) (w .watches) false ns i v at (length l - 1) (length below) (omega arith) p this k)) b
+      let k = answer-created d a ns (w .nodes) hd f (s .nodes .good) c q in
+      let above = k .above p hp n (new-there p n h) in
+      let below = above .below in
+      let this = without-below ns p below (above .parts) in
+      subst Telling (sym (k .change (omega (arith, above .fewer))))
+      (λ e. told-left (w .nodes) (x .table) (w .watches) false ns i v at p _ []
+      (told-among (w .nodes) (x .table) (w .watches) false ns i v at (length l - 1) (length below) (omega (arith, above .fewer)) p this e)) b
     where
       Telling : Option Change → Type 0
       Telling m = let o = onStore w (record { reply = x .reply; table = x .table; change = m }) in Attends (o .world .nodes) v p → Told p i (o .records)
@@ -230,9 +193,11 @@ created-is-heard cs c ns o k =
     let s = run-keeps freshWorld cs fresh-sound in
     let f : AskedGood (k .kind) ns = subst (ParsedGood (c .sender)) (k .asked) (request-good c) in
     let d = domainOf (c .sender) in
-    let y : onStore w (answer d (k .kind) ns (w .nodes)) ≡ o = rw (k .asked, k .plain) at (served-is w c o (k .served)) in (
-      λ p below e n i v at.
-          subst (λ (z : Outcome). succeeds (z .reply) ≡ true → Attends (z .world .nodes) v p → Told p i (z .records)) y
-          (λ q. told-of-created w s d (k .kind) ns f (k .creating) (subst (λ (r : Reply). succeeds r ≡ true) (on-store-reply w 0 _) q) p below e n i v at) (k .done),
+    let y : onStore w (answer d (k .kind) ns (w .nodes)) ≡ o = rw (k .asked, k .plain) at (served-is w c o (k .served)) in
+    let hd = known-range (w .domains) d (s .domains) (served-known w c o (k .served)) in (
+      λ p hp n h i v at.
+          subst (λ (z : Outcome). succeeds (z .reply) ≡ true → isThere (z .world .nodes) p ≡ true → Attends (z .world .nodes) v p → Told p i (z .records)) y
+          (λ q e. told-of-created w s d (k .kind) ns f hd (k .creating) (subst (λ (r : Reply). succeeds r ≡ true) (on-store-reply w 0 _) q) p hp n e i v at)
+          (k .done) h,
       subst (λ (z : Outcome). Lengthening 0 (z .records)) y (in-order w s d (k .kind) ns f),
     )

@@ -13,4 +13,5 @@ pub mod Parents
 pub mod Making
 pub mod Gone
 pub mod Records
+pub mod Created
 pub mod Heard

@@ -1,7 +1,7 @@
 -- Making: the proofs.
 use mathlib.Core.Path.{_≡_, refl, sym, ap, _∙_}
 use mathlib.Core.Bool.{true, false≢true}
-use mathlib.Core.List.{[], _∷_}
+use mathlib.Core.List.{[], _∷_, _++_}
 use mathlib.Core.Option.{Option, none, some}
 use Prim.Native.Nat.{ℕ, suc, _<_, _≤_}
 use native.Mathlib.Decide.{ℕ-discrete}
@@ -13,7 +13,7 @@ use Rattle.rules.specs.Size.{longestValue}
 use Rattle.rules.specs.Octets.{Octets}
 use Rattle.rules.specs.Entries.{isEmpty, lowest, freeCount}
 use Rattle.rules.specs.Path.{Name, Domain, Names}
-use Rattle.rules.specs.Node.{Node, Table, Reached, nodeAt, child, reachFrom, reach, newNode, lastValue, made, withValue}
+use Rattle.rules.specs.Node.{Node, Table, Reached, nodeAt, child, reachFrom, reach, newNode, lastValue, made, valued, withValue}
 use Rattle.rules.specs.Payload.{write, mkdir, onRoot}
 use Rattle.rules.specs.Rights.{mayWrite}
 use Rattle.rules.specs.Answer.{Answer, answer, answered, created, changed, unchanged, room, written, directoryMade}
@@ -29,39 +29,66 @@ use Rattle.laws.proofs.Parents.{parents-are-there}
 
 -- ── what is there stays ──
 
-found : (u : Table) (n : Name) (ns : Names) (i j : ℕ) → child u i n ≡ some j → reachFrom (n ∷ ns) u i ≡ reachFrom ns u j
+pub found : (u : Table) (n : Name) (ns : Names) (i j : ℕ) → child u i n ≡ some j → reachFrom (n ∷ ns) u i ≡ reachFrom ns u j
 unfolding reachFrom
 found u n ns i j e = ap (λ (m : Option ℕ). elim m as (λ m. Reached) [ none ↦ record { slot = i; left = n ∷ ns } | some k ↦ reachFrom ns u k ]) e
 
 -- each slot of t is in u, with its parent and name
-abbrev Keeps : Table → Table → Type 0
+abbrev pub Keeps : Table → Table → Type 0
 Keeps t u = (j : ℕ) (n : Node) → At t j n → (m : Node) × At u j m × (m .parent ≡ n .parent) × (m .name ≡ n .name)
 
--- a path leads in u as far as in t, and then on
-along : (t u : Table) → Good u → Keeps t u → (ns : Names) (i : ℕ) → reachFrom ns u i ≡ reachFrom (reachFrom ns t i .left) u (reachFrom ns t i .slot)
+-- the names before those that are left, which lead in u to the slot that was reached
+pub record Front (u : Table) (ns : Names) (i : ℕ) (r : Reached) : Type 0 where
+  pub names : Names
+  pub parts : ns ≡ names ++ r .left
+  pub leads : (more : Names) → reachFrom (names ++ more) u i ≡ reachFrom more u (r .slot)
+
+pub front : (t u : Table) → Good u → Keeps t u → (ns : Names) (i : ℕ) → Front u ns i (reachFrom ns t i)
 unfolding reachFrom
-along t u g k [] i = refl
-along t u g k (n ∷ ns) i = go (child t i n) refl (along t u g k ns)
+front t u g k [] i = record { names = []; parts = refl; leads = λ more. refl }
+front t u g k (n ∷ ns) i = go (child t i n) refl (front t u g k ns)
   where
-    go : (m : Option ℕ) → child t i n ≡ m → ((j : ℕ) → reachFrom ns u j ≡ reachFrom (reachFrom ns t j .left) u (reachFrom ns t j .slot))
-        → let r = elim m as (λ m. Reached) [ none ↦ record { slot = i; left = n ∷ ns } | some j ↦ reachFrom ns t j ] in reachFrom (n ∷ ns) u i
-        ≡ reachFrom (r .left) u (r .slot)
-    go none x f = refl
+    go : (m : Option ℕ) → child t i n ≡ m → ((j : ℕ) → Front u ns j (reachFrom ns t j))
+        → Front u (n ∷ ns) i (elim m [ none ↦ record { slot = i; left = n ∷ ns } | some j ↦ reachFrom ns t j ])
+    go none x f = record { names = []; parts = refl; leads = λ more. refl }
     go (some j) x f =
         let c = child-some t i n j x in
         let w = k j (c .node) (c .used) in
         let there : child u i n ≡ some j = rw (w .2 ∙ c .parent, w .3 ∙ c .named) at (child-back u g j (w .0) (w .1)) in
-        found u n ns i j there ∙ f j
+        let rest = f j in
+        record {
+          names = n ∷ rest .names;
+          parts = ap (λ (l : Names). n ∷ l) (rest .parts);
+          leads = λ more. found u n (rest .names ++ more) i j there ∙ rest .leads more;
+        }
+
+-- a path leads in u as far as in t, and then on
+along : (t u : Table) → Good u → Keeps t u → (ns : Names) (i : ℕ) → reachFrom ns u i ≡ reachFrom (reachFrom ns t i .left) u (reachFrom ns t i .slot)
+along t u g k ns i = let f = front t u g k ns i in ap (λ (l : Names). reachFrom l u i) (f .parts) ∙ f .leads (reachFrom ns t i .left)
 
 -- ── what is made ──
 
-made-keeps : (ns : Names) (p : ℕ) (d : Domain) (v : Octets) (t : Table) (j : ℕ) (n : Node) → At t j n → At (made ns p d v t) j n
+pub made-keeps : (ns : Names) (p : ℕ) (d : Domain) (v : Octets) (t : Table) (j : ℕ) (n : Node) → At t j n → At (made ns p d v t) j n
 unfolding made
 made-keeps [] p d v t j n e = e
 made-keeps (name ∷ ns) p d v t j n e =
     made-keeps ns (lowest t) d v (set t (lowest t) (some (newNode d t p name (lastValue ns v)))) j n
     (getD-set-other t (lowest t) j (some (newNode d t p name (lastValue ns v))) none
     (λ r. nothing (sym (lowest-free t) ∙ (ap (λ (m : ℕ). getD t m none) (sym r) ∙ e))) ∙ e)
+
+-- a slot with another value keeps its parent and name
+pub value-keeps : (t : Table) (i : ℕ) (v : Octets) → i < length t → Keeps t (withValue t i v)
+unfolding withValue
+value-keeps t i v l j n a = go (ℕ-discrete j i)
+  where
+    m : Node
+    m = valued (nodeAt t i) v
+
+    go : Dec (j ≡ i) → (x : Node) × At (set t i (some m)) j x × (x .parent ≡ n .parent) × (x .name ≡ n .name)
+    go (yes q) =
+        let same : nodeAt t i ≡ n = nodeAt-is t i n (rw q at a) in
+        (m, rw q (getD-set-same t i (some m) none l), ap Node.parent same, ap Node.name same)
+    go (no q) = (n, getD-set-other t i j (some m) none q ∙ a, refl, refl)
 
 -- the names lead from slot p to a slot with the value
 record End (u : Table) (ns : Names) (p : ℕ) (v : Octets) : Type 0 where
@@ -79,12 +106,12 @@ made-first name ns p d v t h =
     let n = newNode d t p name (lastValue ns v) in
     made-keeps ns (lowest t) d v (set t (lowest t) (some n)) (lowest t) n (getD-set-same t (lowest t) (some n) none (lowest-below t h))
 
-made-step : (name : Name) (ns : Names) (p : ℕ) (d : Domain) (v : Octets) (t : Table) → 0 < freeCount t → Good (made (name ∷ ns) p d v t)
-    → let u = made (name ∷ ns) p d v t in reachFrom (name ∷ ns) u p ≡ reachFrom ns u (lowest t)
+pub made-step : (name : Name) (ns ms : Names) (p : ℕ) (d : Domain) (v : Octets) (t : Table) → 0 < freeCount t → Good (made (name ∷ ns) p d v t)
+    → let u = made (name ∷ ns) p d v t in reachFrom (name ∷ ms) u p ≡ reachFrom ms u (lowest t)
 unfolding newNode
-made-step name ns p d v t h g =
+made-step name ns ms p d v t h g =
     let u = made (name ∷ ns) p d v t in
-    found u name ns p (lowest t) (child-back u g (lowest t) (newNode d t p name (lastValue ns v)) (made-first name ns p d v t h))
+    found u name ms p (lowest t) (child-back u g (lowest t) (newNode d t p name (lastValue ns v)) (made-first name ns p d v t h))
 
 made-there : (ns : Names) (name : Name) (p : ℕ) (d : Domain) (v : Octets) (t : Table) → suc (length ns) ≤ freeCount t → Good (made (name ∷ ns) p d v t)
     → End (made (name ∷ ns) p d v t) (name ∷ ns) p v
@@ -92,12 +119,12 @@ unfolding made newNode lastValue reachFrom
 made-there [] name p d v t h g =
     let u = made (name ∷ []) p d v t in
     let free : 0 < freeCount t = omega arith in
-    end-at u (name ∷ []) [] p (lowest t) v (made-step name [] p d v t free g)
+    end-at u (name ∷ []) [] p (lowest t) v (made-step name [] [] p d v t free g)
     (record { left = refl; value = ap Node.value (nodeAt-is u (lowest t) (newNode d t p name v) (made-first name [] p d v t free)) })
 made-there (next ∷ ns) name p d v t h g =
     let free : 0 < freeCount t = omega arith in
     let n = newNode d t p name [] in
-    end-at (made (name ∷ next ∷ ns) p d v t) (name ∷ next ∷ ns) (next ∷ ns) p (lowest t) v (made-step name (next ∷ ns) p d v t free g)
+    end-at (made (name ∷ next ∷ ns) p d v t) (name ∷ next ∷ ns) (next ∷ ns) p (lowest t) v (made-step name (next ∷ ns) (next ∷ ns) p d v t free g)
     (made-there ns next (lowest t) d v (set t (lowest t) (some n)) (omega (arith, free-fewer t n free)) g)
 
 module _ (d : Domain) (ns : Names) (t : Table) (v : Octets) where
@@ -125,17 +152,9 @@ module _ (d : Domain) (ns : Names) (t : Table) (v : Octets) where
   written-over : (i : ℕ) → i < length t → reach t ns ≡ record { slot = i; left = [] } → Good (withValue t i v) → End (withValue t i v) ns 0 v
   unfolding withValue reachFrom
   written-over i l e g =
-      let o = nodeAt t i in
-      let m : Node = record { parent = o .parent; name = o .name; value = v; owner = o .owner; others = o .others } in
-      on-from (set t i (some m)) [] i g (λ j n a. keep m refl refl j n a (ℕ-discrete j i)) e
+      let m = valued (nodeAt t i) v in
+      on-from (withValue t i v) [] i g (value-keeps t i v l) e
       (record { left = refl; value = ap Node.value (nodeAt-is (set t i (some m)) i m (getD-set-same t i (some m) none l)) })
-    where
-      keep : (m : Node) → m .parent ≡ nodeAt t i .parent → m .name ≡ nodeAt t i .name → (j : ℕ) (n : Node) → At t j n → Dec (j ≡ i)
-          → (x : Node) × At (set t i (some m)) j x × (x .parent ≡ n .parent) × (x .name ≡ n .name)
-      keep m mp mn j n a (yes q) =
-          let same : nodeAt t i ≡ n = nodeAt-is t i n (rw q at a) in
-          (m, rw q (getD-set-same t i (some m) none l), mp ∙ ap Node.parent same, mn ∙ ap Node.name same)
-      keep m mp mn j n a (no q) = (n, getD-set-other t i j (some m) none q ∙ a, refl, refl)
 
   written-there : (l : Names) (i : ℕ) → i < length t → reach t ns ≡ record { slot = i; left = l } →
       There (answered d ns t (write v) (record { slot = i; left = l }))

@@ -1,29 +1,27 @@
 -- How many records a request makes: one for each event at most, and a good change has as many events as created nodes.
-use mathlib.Core.Path.{_≡_, refl, sym, _∙_, ap, subst}
-use mathlib.Core.Bool.{Bool, true, false, cond, _&&_, false≢true}
+use mathlib.Core.Path.{_≡_, refl, subst}
+use mathlib.Core.Bool.{Bool, true, false, cond, _&&_}
 use mathlib.Core.List.{List, [], _∷_, _++_, map}
 use mathlib.Core.Option.{Option, none, some}
-use Prim.Native.Nat.{ℕ, zero, suc, _*_, _-_, _≤_, _<_}
+use Prim.Native.Nat.{ℕ, _*_, _-_, _≤_, _<_}
 use native.Mathlib.Omega.{arith}
 use lib.ListN.{length, length-append, length-map}
 use lib.Dec.{eqb, ltb, leb}
-use borrow.Author.Tests.{eq-eqb}
-use Rattle.rules.specs.Size.{deepest, mostChanges, mostRecords, replySize, eventsSize, longestToken, lastDomain}
+use Rattle.rules.specs.Size.{deepest, mostChanges, mostRecords, longestToken}
 use Rattle.rules.specs.Octets.{Octets}
 use Rattle.rules.specs.Entries.{lowest}
 use Rattle.rules.specs.Path.{Domain, Connection, domainOf, Names, isControl, introduceName, releaseName}
-use Rattle.rules.specs.Node.{Table, ownedBy, withoutAll}
+use Rattle.rules.specs.Node.{ownedBy, withoutAll}
 use Rattle.rules.specs.Payload.{Ask, Place, path, event, Request, ask, watch, unwatch, start, end, introduce, release, domainPath, isIntroduced}
 use Rattle.rules.specs.Payload.{reset, Parsed, unknown, invalid, request}
 use Rattle.rules.specs.Answer.{EINVAL, ENOSYS, EACCES, EEXIST, ENOENT, ENOSPC, EAGAIN, Reply, refused, OK, Change, Answer, answer}
-use Rattle.rules.specs.Event.{Watch, Watches, Record, placeText, maskOf, anyBit, kept, heard, isEvent, heardOf, firstHeard}
+use Rattle.rules.specs.Event.{Watches, Record, placeText, anyBit, kept, heard, heardOf, firstHeard}
 use Rattle.rules.specs.Layout.{Transaction}
-use Rattle.rules.specs.Sound.{introduced, known, watched, goodChange}
+use Rattle.rules.specs.Sound.{introduced, watched, goodChange}
 use Rattle.rules.specs.World.{World, Outcome, withoutWatches, speaksFor, left, to, onStore, transactionOf, inTransaction, copyOf, asked, placeFits}
 use Rattle.rules.specs.World.{watching, unwatching, starting, closing, committing, ending, introducing, removalOf, releasing, resetting}
 use Rattle.rules.specs.World.{forControl, forPlace, handle}
-use Rattle.rules.specs.Call.{Tables, Lendable, Verdict, wrongSize, unsound, stranger, callNumber, isHandled, sound, sizedTables, txOf, worldOf, outcomeOf}
-use Rattle.rules.specs.Call.{frameVerdict, requestVerdict, outcome, turnedAway, delivered, requestBy, requestCall}
+use Rattle.rules.specs.Call.{callNumber, isHandled, txOf, worldOf, outcomeOf, requestVerdict, outcome, turnedAway, delivered, requestBy, requestCall}
 use Rattle.rules.proofs.Cases.{cond-case}
 use Rattle.rules.proofs.Tables.{Each, each-map}
 use Rattle.rules.proofs.Places.{At}
@@ -31,12 +29,12 @@ use Rattle.rules.proofs.Changes.{good-parts, parents-few, heard-few}
 use Rattle.rules.proofs.GoodAnswers.{change-good}
 use Rattle.rules.proofs.GoodRequests.{AskedGood, RequestGood, ParsedGood}
 use Rattle.rules.proofs.Owned.{owned-few}
-use Rattle.rules.proofs.SoundWorld.{SoundWorld, known-range}
+use Rattle.rules.proofs.SoundWorld.{SoundWorld}
 use Rattle.rules.proofs.SoundBytes.{decoded}
 use Rattle.rules.proofs.OpenTransactions.{named}
-use Rattle.laws.specs.History.{Call, requestOf, served}
+use Rattle.laws.specs.History.{requestOf}
 use Rattle.laws.specs.Heard.{mostHeard, mostHeardAs, RecordsFit, RoomForRecords}
-use Rattle.laws.proofs.Calls.{served-is, served-known, request-good}
+use Rattle.laws.proofs.Calls.{served-is, request-good}
 
 -- an outcome has n records at most
 abbrev Few : ℕ → Outcome → Type 0

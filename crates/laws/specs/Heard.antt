@@ -8,7 +8,7 @@ use lib.ListN.{length, getD}
 use lib.Dec.{eqb}
 use Rattle.rules.specs.Size.{deepest, mostChanges, mostRecords}
 use Rattle.rules.specs.Octets.{Octets}
-use Rattle.rules.specs.Path.{Connection, domainOf, Names, pathText}
+use Rattle.rules.specs.Path.{Connection, domainOf, Names, allNames, pathText}
 use Rattle.rules.specs.Node.{Table}
 use Rattle.rules.specs.Rights.{readable}
 use Rattle.rules.specs.Payload.{Ask, directory, read, getPerms, write, mkdir, rm, setPerms, path, Request, ask, watch, unwatch, start, end, introduce}
@@ -61,12 +61,12 @@ abbrev pub Lengthening : ℕ → List Record → Type 0
 Lengthening n [] = Unit {0}
 Lengthening n (r ∷ rs) = (n < length (r .path)) × Lengthening (length (r .path)) rs
 
--- After any history a plain WRITE or MKDIR that succeeds tells of each path, at or above its own, that was not there before it:
+-- After any history a plain WRITE or MKDIR that succeeds tells of each path that is there after it and was not before:
 -- every watch on it or above within its depth, whose owner may read it afterwards. The topmost path is told of first.
 abbrev pub CreatedIsHeard : Type 0
 CreatedIsHeard =
     (cs : History) (c : Call) (ns : Names) (o : Outcome) → let w = run freshWorld cs in Creates w c ns o →
-    ((p below : Names) → ns ≡ p ++ below → isThere (w .nodes) p ≡ false →
+    ((p : Names) → allNames p ≡ true → isThere (w .nodes) p ≡ false → isThere (o .world .nodes) p ≡ true →
     (i : ℕ) (v : Watch) → getD (w .watches) i none ≡ some v → Attends (o .world .nodes) v p → Told p i (o .records))
     × Lengthening 0 (o .records)
 
