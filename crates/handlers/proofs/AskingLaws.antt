@@ -1,6 +1,6 @@
 -- A node request in a transaction: what is left where it changed nothing, a change was entered, or a ninth refused.
 use mathlib.Core.Path.{_≡_, refl, sym, ap, ap₂, subst, _∙_}
-use mathlib.Core.Bool.{Bool}
+use mathlib.Core.Bool.{Bool, true}
 use mathlib.Core.List.{List, [], _++_, flatMap}
 use mathlib.Core.Option.{Option, none, some}
 use Prim.Native.Nat.{ℕ, _+_, _-_, _*_, _≤_, _<_}
@@ -19,6 +19,7 @@ use Rattle.rules.specs.Payload as P
 use Rattle.rules.specs.Answer as A
 use Rattle.rules.specs.Answer.{refused, OK, ENOSPC, errnoText, Change, answer}
 use Rattle.rules.specs.Layout.{Transaction, Transactions, withChange, tableBytes, tableOf, transactionsOf, transactionsBytes}
+use Rattle.rules.specs.Sound.{soundTable}
 use Rattle.rules.specs.World as W
 use Rattle.rules.specs.World.{World, left, to, copyOf, withCopy, withTransactions}
 use Rattle.rules.proofs.Tables.{decoded-at}
@@ -172,7 +173,7 @@ module _ {d : Domain} {ask : Ask} {path v : Octets} (q : Asking d ask path v) wh
     unfolding changeGiven
     changing few removed parents e =
         let made = sym (told .change) ∙ e in
-        let sound = rw here (s .sound) in
+        let sound : soundTable t ≡ true = rw here (s .sound) in
         record { place = s .place; few = few; fits = parents-small q t sound _ made; full = q .full; short = path-short q t sound _ made }
 
     module _ (w : World) (cw : w .copies ≡ chunks mostTransactions tableSize cs) (xw : w .transactions ≡ transactionsOf xs) (events : Octets)

@@ -2,7 +2,7 @@
 use mathlib.Core.Path.{_≡_, refl, sym, ap, subst, _∙_}
 use mathlib.Core.Bool.{Bool, true, false, not}
 use mathlib.Core.List.{List, [], _∷_, _++_, map}
-use Prim.Native.Nat.{ℕ, _+_, _*_, _≤_}
+use Prim.Native.Nat.{ℕ, _+_, _*_, _≤_, _<_}
 use native.Mathlib.Omega.{arith}
 use lib.Dec.{eqb, eqb·suc-zero}
 use lib.ListN.{length, take, length-map, length-take}
@@ -14,7 +14,7 @@ use Rattle.rules.specs.Entries.{isEmpty, without}
 use Rattle.rules.specs.Domain.{Domain}
 use Rattle.rules.specs.Path.{releaseName}
 use Rattle.rules.specs.Node.{Table, ownedBy, withoutAll}
-use Rattle.rules.specs.Answer.{OK, ENOENT, refused}
+use Rattle.rules.specs.Answer.{OK, ENOENT, refused, Change}
 use Rattle.rules.specs.Event.{Watch, Watches, Record, heard, heardOf}
 use Rattle.rules.specs.Layout.{Transaction, Transactions, Domains, tableBytes, tableOf, watchesBytes, watchesOf, transactionsBytes, transactionsOf}
 use Rattle.rules.specs.Layout.{domainsBytes, domainsOf}
@@ -28,6 +28,8 @@ use Rattle.rules.proofs.Slots.{table-read}
 use Rattle.rules.proofs.SoundWorld.{TableSound, table-encoded, table-decoded}
 use Rattle.rules.proofs.SoundEntries.{owned-fine}
 use Rattle.rules.proofs.OpenTransactions.{empty-mapped}
+use Rattle.rules.proofs.Changes.{heard-few}
+use Rattle.rules.proofs.Tables.{Each}
 use Rattle.lookup.specs.Children.{AllAsked}
 use Rattle.lookup.specs.Walk.{Owned}
 use Rattle.watches.specs.Watch.{KeptWatches}
@@ -36,7 +38,6 @@ use Rattle.transactions.proofs.Written.{without-transactions}
 use Rattle.watches.proofs.Written.{without-watches}
 use Rattle.events.specs.Records as Events
 use Rattle.events.specs.Stores.{Stores, removalOf, eventName}
-use Rattle.events.proofs.ChangeLaws.{heard-few}
 use Rattle.events.proofs.RecordLaws.{recorded-more, recorded-length}
 use Rattle.replies.specs.declared.kinds.Reply.{Reply}
 use Rattle.replies.specs.Framed.{Told}
@@ -76,6 +77,12 @@ module _ (ws xs ds : Octets) (k : KeptTransactions xs) (d : Domain) (ws′ xs₁
   forgotten-still b e h = record { unwatched = unwatched; ended = rw e (h ∙ ended); forgotten = gone }
 
 -- ── the nodes ──
+
+-- a removal creates nothing
+no-parents : (t : Table) (is : List ℕ) → Each (λ (c : Change). c .parents < 1) (map (removalOf t) is)
+unfolding removalOf
+no-parents t [] = tt
+no-parents t (i ∷ is) = (omega arith, no-parents t is)
 
 none-left : (is : List ℕ) → isEmpty is ≡ eqb (length is) 0
 unfolding isEmpty
@@ -128,7 +135,8 @@ module _ (nodes ws xs ds events : Octets) (s : Releasable nodes ws xs ds events)
       module _ (events₁ : Octets) (n₁ : ℕ) (r : Events.Recorded 0 gone-heard events events₁ n₁) where
         few : n₁ ≤ n
         few =
-            let h = heard-few (tableOf before) (tableOf nodes′) (watchesOf ws′) (map (removalOf (tableOf before)) (take n list)) in
+            let gone = map (removalOf (tableOf before)) (take n list) in
+            let h = heard-few (tableOf before) (tableOf nodes′) (watchesOf ws′) 1 gone (no-parents (tableOf before) (take n list)) in
             let l : length (map (removalOf (tableOf before)) (take n list)) ≤ n = simp (length-map, length-take) (omega arith) in
             omega (arith, r .count, h, l)
 

@@ -75,33 +75,29 @@ enum-told c = search needs
 with-events-requires : tie.Need-with-events-requires
 with-events-requires c κs = search needs
 
-enum-told-2 : tie.Need-enum-told-2
-enum-told-2 c = search needs
+enum-known-effect : tie.Need-enum-known-effect
+enum-known-effect c = search needs
 
 enter-change-requires : tie.Need-enter-change-requires
 enter-change-requires c κs =
-    let counted = c .before .before .before .before .before .before .before .before .before .before .before in
+    let counted = c .before .before .before .before .before .before .before .before .before .before .before .before in
     let args = counted .before .before .before .before .before .before .before .args in
     let pre = counted .before .before .before .before .before .before .before .pre in
-    let few = subst (λ (n : ℕ). n < mostChanges) (counted .changes .ensures .0)
-    (c .before .before .before .before .before .before .before .before .before .before .if1 .left) in
-    changing (pre .1) _ _ _ _ (pre .0) _ _ _ _ (copy-part (args .copies .now) (args .k))
-    (c .before .before .before .before .before .before .before .answer .ensures) few
-    _ _ (wrote-makes _ _ _ (c .before .enum-told2 .given .1))
+    let few = subst (λ (n : ℕ). n < mostChanges) (counted .changes .ensures .0) (c .before .before .before .before .before .before .before .before .before .before .before .if1 .left) in
+    changing (pre .1) _ _ _ _ (pre .0) _ _ _ _ (copy-part (args .copies .now) (args .k)) (c .before .before .before .before .before .before .before .before .answer .ensures) few
+    _ _ (wrote-makes _ _ _ (c .before .before .effect .given .1))
 
-enum-told-3 : tie.Need-enum-told-3
-enum-told-3 c = search needs
+enum-told-2 : tie.Need-enum-told-2
+enum-told-2 c = search needs
 
 enter-change-requires-2 : tie.Need-enter-change-requires-2
 enter-change-requires-2 c κs =
     let counted = c .before .before .before .before .before .before .before .before .before .before .before in
     let args = counted .before .before .before .before .before .before .before .args in
     let pre = counted .before .before .before .before .before .before .before .pre in
-    let few = subst (λ (n : ℕ). n < mostChanges) (counted .changes .ensures .0)
-    (c .before .before .before .before .before .before .before .before .before .before .if1 .left) in
-    changing (pre .1) _ _ _ _ (pre .0) _ _ _ _ (copy-part (args .copies .now) (args .k))
-    (c .before .before .before .before .before .before .before .answer .ensures) few
-    _ _ (removed-makes _ _ (c .before .enum-told3 .given .1))
+    let few = subst (λ (n : ℕ). n < mostChanges) (counted .changes .ensures .0) (c .before .before .before .before .before .before .before .before .before .before .if1 .left) in
+    changing (pre .1) _ _ _ _ (pre .0) _ _ _ _ (copy-part (args .copies .now) (args .k)) (c .before .before .before .before .before .before .before .answer .ensures) few
+    _ _ (removed-makes _ _ (c .before .enum-told2 .given .1))
 
 same-length-4 : tie.Need-same-length-4
 same-length-4 c = search needs
@@ -131,15 +127,13 @@ same-length-9 c = search needs
 
 returns-3 : tie.Need-returns-3
 returns-3 c =
-    let counted = c .before .before .before .before .before .before .before .before .before .before .before .before .before .before in
+    let counted = c .before .before .before .before .before .before .before .before .before .before .before .before .before .before .before in
     let args = counted .before .before .before .before .before .before .before .args in
     let pre = counted .before .before .before .before .before .before .before .pre in
-    let few = subst (λ (n : ℕ). n < mostChanges) (counted .changes .ensures .0)
-    (c .before .before .before .before .before .before .before .before .before .before .before .before .before .if1 .left) in
+    let few = subst (λ (n : ℕ). n < mostChanges) (counted .changes .ensures .0) (c .before .before .before .before .before .before .before .before .before .before .before .before .before .before .if1 .left) in
     let entered = c .before .before .enter-change .ensures in
-    λ w l events. change-handled (pre .1) _ _ _ _ (pre .0) _ _ _ _ (copy-part (args .copies .now) (args .k))
-    (c .before .before .before .before .before .before .before .before .before .before .answer .ensures)
-    w (l .copies) (l .transactions) events _ _ _ (wrote-makes _ _ _ (c .before .before .before .before .enum-told2 .given .1)) few _ (entered .0) (entered .1)
+    λ w l events. change-handled (pre .1) _ _ _ _ (pre .0) _ _ _ _ (copy-part (args .copies .now) (args .k)) (c .before .before .before .before .before .before .before .before .before .before .before .answer .ensures)
+    w (l .copies) (l .transactions) events _ _ _ (wrote-makes _ _ _ (c .before .before .before .before .before .effect .given .1)) few _ (entered .0) (entered .1)
 
 same-length-10 : tie.Need-same-length-10
 same-length-10 c = search needs
@@ -155,12 +149,10 @@ returns-4 c =
     let counted = c .before .before .before .before .before .before .before .before .before .before .before .before .before .before in
     let args = counted .before .before .before .before .before .before .before .args in
     let pre = counted .before .before .before .before .before .before .before .pre in
-    let few = subst (λ (n : ℕ). n < mostChanges) (counted .changes .ensures .0)
-    (c .before .before .before .before .before .before .before .before .before .before .before .before .before .if1 .left) in
+    let few = subst (λ (n : ℕ). n < mostChanges) (counted .changes .ensures .0) (c .before .before .before .before .before .before .before .before .before .before .before .before .before .if1 .left) in
     let entered = c .before .before .enter-change2 .ensures in
-    λ w l events. change-handled (pre .1) _ _ _ _ (pre .0) _ _ _ _ (copy-part (args .copies .now) (args .k))
-    (c .before .before .before .before .before .before .before .before .before .before .answer .ensures)
-    w (l .copies) (l .transactions) events _ _ _ (removed-makes _ _ (c .before .before .before .before .enum-told3 .given .1)) few _ (entered .0) (entered .1)
+    λ w l events. change-handled (pre .1) _ _ _ _ (pre .0) _ _ _ _ (copy-part (args .copies .now) (args .k)) (c .before .before .before .before .before .before .before .before .before .before .answer .ensures)
+    w (l .copies) (l .transactions) events _ _ _ (removed-makes _ _ (c .before .before .before .before .enum-told2 .given .1)) few _ (entered .0) (entered .1)
 
 pub in-transaction-spec : {M : Type 1} → statement M
 in-transaction-spec =
@@ -183,9 +175,9 @@ in-transaction-spec =
     answer-requires
     enum-told
     with-events-requires
-    enum-told-2
+    enum-known-effect
     enter-change-requires
-    enum-told-3
+    enum-told-2
     enter-change-requires-2
     same-length-4
     same-length-5
