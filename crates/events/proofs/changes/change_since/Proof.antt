@@ -14,7 +14,8 @@ event-since-requires : tie.Need-event-since-requires
 event-since-requires c κs =
     let at-created = c .before .before .before in
     let start = at-created .before .before .before .before .before .before in
-    (start .pre .0, start .pre .1, start .pre .2, since-room _ _ _ _ _ _ _ (start .pre .4) (start .pre .5) (at-created .created .ensures))
+    let room = since-room _ _ _ _ _ _ _ (start .pre .4) (start .pre .5) (at-created .created .ensures) in
+    search needs
 
 same-length : tie.Need-same-length
 same-length c = search needs

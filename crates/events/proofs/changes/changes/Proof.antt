@@ -56,7 +56,8 @@ change-requires c κs =
     let new = at-parents .parents .ensures in
     let room = entered-room _ _ _ _ _ _ _ _ (at-loop .loop .inv .2) (omega arith) in
     let below = change-parents _ _ _ h _ new in
-    (start .pre .0, change-full _ _ _ h _ text, change-short _ _ _ h _ text, change-above _ _ _ h _ text (start .pre .2) _ new, room-less room (omega arith))
+    let over = change-above _ _ _ h _ text (start .pre .2) _ new in
+    (start .pre .0, change-full _ _ _ h _ text, change-short _ _ _ h _ text, omega arith, room-less room (omega arith))
 
 add-j : tie.Need-add-j Inv-loop μ-loop
 add-j c = omega arith
