@@ -20,7 +20,7 @@ use Rattle.rules.specs.Sound.{goodChange, goodChanges}
 use Rattle.rules.proofs.PathLaws.{full, text-full, text-names}
 use Rattle.rules.proofs.Tables.{each-at}
 use Rattle.rules.proofs.SoundTables.{good-changes}
-use Rattle.rules.proofs.Changes.{good-parts, lineage-at, events-length, heard-once, change-few}
+use Rattle.rules.proofs.Changes.{good-parts, lineage-at, events-length, events-few, change-few}
 use Rattle.paths.specs.Names.{Above}
 use Rattle.paths.proofs.AboveLaws.{above-names}
 use Rattle.transactions.specs.Transaction.{changeGiven, noChange, transactionOf, changeOf, OpenTransaction, HasChange}
@@ -29,7 +29,6 @@ use Rattle.lookup.specs.Rights.{Asked}
 use Rattle.events.specs.Records.{Recorded, Room}
 use Rattle.events.specs.Stores.{happened, NewAbove, heardParents, removalOf}
 use Rattle.events.proofs.RecordLaws.{recorded-length}
-use Rattle.events.proofs.Entering.{flat-few}
 use Rattle.events.proofs.EitherLaws.{heard-after}
 use Rattle.events.proofs.SlotPaths.{slot-text}
 
@@ -113,7 +112,7 @@ parents-few : (a : Table) (ws : Watches) (parents : ℕ) (p : Octets) → length
 unfolding heardParents
 parents-few a ws parents p =
     let l = length-take-le parents (eventsOf (changeGiven false parents p)) (omega (arith, given-length false parents p)) in
-    omega (arith, flat-few (heardEvent a a ws) 1 (heard-once a a ws) (take parents (eventsOf (changeGiven false parents p))))
+    omega (arith, events-few a a ws (take parents (eventsOf (changeGiven false parents p))))
 
 -- and there is room for that one
 pub since-room : (a : Table) (ws : Watches) (parents : ℕ) (p before after : Octets) (r : ℕ) → parents < deepest → length before ≡ eventsSize

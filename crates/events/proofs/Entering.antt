@@ -1,11 +1,11 @@
 -- Things recorded one after the other, each with so many records at most: the turns of a loop that enters them.
 use mathlib.Core.Path.{_≡_, ap, _∙_}
-use mathlib.Core.List.{List, [], _∷_, _++_, flatMap}
-use Prim.Native.Nat.{ℕ, suc, _+_, _*_, _≤_, _<_}
+use mathlib.Core.List.{List, _++_, flatMap}
+use Prim.Native.Nat.{ℕ, _+_, _*_, _≤_, _<_}
 use native.Mathlib.Nat.{suc-mul}
 use native.Mathlib.Numerals.{add-one}
 use native.Mathlib.Omega.{arith}
-use lib.ListN.{length, getD, take, length-append}
+use lib.ListN.{length, getD, take}
 use lib.Seq.{take-suc, take-all}
 use Rattle.rules.specs.Size.{mostRecords, eventsSize}
 use Rattle.rules.specs.Octets.{Octets}
@@ -20,11 +20,6 @@ module _ {A : Type 0} (f : A → List Record) where
       ap (flatMap f) (ap (λ (k : ℕ). take k xs) (add-one j) ∙ take-suc xs j d h) ∙ flat-last f (take j xs) (getD xs j d)
 
   module _ (most : ℕ) where
-    pub flat-few : ((x : A) → length (f x) ≤ most) → (xs : List A) → length (flatMap f xs) ≤ length xs * most
-    unfolding flatMap
-    flat-few h [] = omega arith
-    flat-few h (x ∷ xs) = rw (length-append (f x) (flatMap f xs)) (omega (arith, h x, flat-few h xs, suc-mul (length xs) most))
-
     next-most : (j : ℕ) → (j + 1) * most ≡ j * most + most
     next-most j = ap (λ (i : ℕ). i * most) (add-one j) ∙ suc-mul j most
 

@@ -8,7 +8,7 @@ use native.Mathlib.Omega.{arith}
 use lib.ListN.{length, take}
 use Rattle.rules.specs.Entries.{isEmpty}
 use Rattle.rules.specs.Domain.{Domain}
-use Rattle.rules.specs.Path.{Name, Names}
+use Rattle.rules.specs.Path.{Names}
 use Rattle.rules.specs.Node.{Table, Reached, child, reachFrom, reach}
 use Rattle.rules.specs.Rights.{readable}
 

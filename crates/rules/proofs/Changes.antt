@@ -1,11 +1,11 @@
 -- Changes and their events: what a good change is made of, how many events it has, and which path stands where among them.
 use mathlib.Core.Path.{_≡_, refl, sym, _∙_, ap}
-use mathlib.Core.Bool.{Bool, true, false, not, _&&_, _||_, and-eq-true-iff}
-use mathlib.Core.List.{List, [], _∷_, map, flatMap}
-use Prim.Native.Nat.{ℕ, zero, suc, _+_, _*_, _-_, _≤_, _<_}
+use mathlib.Core.Bool.{Bool, true, false, _&&_, and-eq-true-iff}
+use mathlib.Core.List.{List, [], flatMap}
+use Prim.Native.Nat.{ℕ, zero, suc, _*_, _-_, _≤_, _<_}
 use native.Mathlib.Nat.{sub-zero, suc-sub-suc}
 use native.Mathlib.Omega.{arith}
-use lib.ListN.{length, getD, take, length-append, length-map, List·getD-map}
+use lib.ListN.{length, getD, take, length-map}
 use lib.Seq.{take-all}
 use lib.Dec.{eqb, ltb, leb}
 use borrow.Author.Tests.{eqb-true, eq-eqb, leb-true, le-leb, ltb-true, lt-ltb}
@@ -16,7 +16,7 @@ use Rattle.rules.specs.Answer.{Change}
 use Rattle.rules.specs.Event.{Watches, Record, Happening, lineage, eventsOf, hears, maskOf, anyBit, kept, heardEvent, heardChange, heard}
 use Rattle.rules.specs.Sound.{goodRemoval, goodChange}
 use Rattle.rules.proofs.Cases.{cond-case}
-use Rattle.rules.proofs.Tables.{Each}
+use Rattle.rules.proofs.Tables.{Each, each-map, each-always, flat-few}
 
 -- ── good changes ──
 
@@ -89,11 +89,8 @@ module _ (before after : Table) (ws : Watches) where
   unfolding heardEvent kept
   heard-once e = cond-case (λ (l : List Record). length l ≤ 1) (anyBit (maskOf (hears before after e) ws)) _ _ (omega arith) (omega arith)
 
-  events-few : (es : List Happening) → length (flatMap (heardEvent before after ws) es) ≤ length es
-  unfolding flatMap
-  events-few [] = omega arith
-  events-few (e ∷ es) =
-      rw (length-append (heardEvent before after ws e) (flatMap (heardEvent before after ws) es)) (omega (arith, heard-once e, events-few es))
+  pub events-few : (es : List Happening) → length (flatMap (heardEvent before after ws) es) ≤ length es
+  events-few es = omega (arith, flat-few (heardEvent before after ws) 1 es (each-always _ heard-once es))
 
   -- a change has one record for each created node at most
   pub change-few : (c : Change) → length (heardChange before after ws c) ≤ suc (c .parents)
@@ -101,8 +98,7 @@ module _ (before after : Table) (ws : Watches) where
   change-few c = omega (arith, events-few (eventsOf c), events-length c)
 
   pub heard-few : (most : ℕ) (cs : List Change) → Each (λ (c : Change). c .parents < most) cs → length (heard before after ws cs) ≤ length cs * most
-  unfolding heard flatMap
-  heard-few most [] h = omega arith
-  heard-few most (c ∷ cs) h =
-      rw (length-append (heardChange before after ws c) (flatMap (heardChange before after ws) cs))
-      (omega (arith, change-few c, h .0, heard-few most cs (h .1)))
+  unfolding heard
+  heard-few most cs h =
+      flat-few (heardChange before after ws) most cs
+      (each-map (λ (c : Change). c .parents < most) _ (λ c few. omega (arith, few, change-few c)) cs h)

@@ -1,8 +1,9 @@
 -- Tables of entries of one width: what stands in a place, what a written place changes, and that decoding undoes encoding.
 use mathlib.Core.Path.{_≡_, refl, sym, ap, ap₂, _∙_}
 use mathlib.Core.List.{List, [], _∷_, _++_, map, flatMap, append-nil, append-assoc}
-use Prim.Native.Nat.{ℕ, zero, suc, _+_, _*_, _<_}
+use Prim.Native.Nat.{ℕ, zero, suc, _+_, _*_, _≤_, _<_}
 use native.Mathlib.Nat.{suc-mul, zero-mul, zero-add, add-comm, add-assoc, le-of-suc-le-suc, not-suc-le-zero}
+use native.Mathlib.Omega.{arith}
 use lib.ListN.{length, getD, take, drop, set, length-append}
 use lib.Seq.{take-at, drop-at, drop-drop, take-append-add, drop-append-add}
 use Rattle.rules.specs.Octets.{Octets, chunks, paste}
@@ -43,9 +44,20 @@ module _ {A : Type 0} where
   each-map P Q f [] e = tt
   each-map P Q f (x ∷ xs) e = (f x (e .0), each-map P Q f xs (e .1))
 
+  pub each-always : (P : A → Type 0) → ((x : A) → P x) → (xs : List A) → Each P xs
+  each-always P f [] = tt
+  each-always P f (x ∷ xs) = (f x, each-always P f xs)
+
   pub each-append : (P : A → Type 0) (xs ys : List A) → Each P xs → Each P ys → Each P (xs ++ ys)
   each-append P [] ys p q = q
   each-append P (x ∷ xs) ys p q = (p .0, each-append P xs ys (p .1) q)
+
+-- lists of so many entries at most, joined
+pub flat-few : {A B : Type 0} (f : A → List B) (most : ℕ) (xs : List A) → Each (λ (x : A). length (f x) ≤ most) xs → length (flatMap f xs) ≤ length xs * most
+unfolding flatMap
+flat-few f most [] h = omega arith
+flat-few f most (x ∷ xs) h =
+    rw (length-append (f x) (flatMap f xs)) (omega (arith, h .0, flat-few f most xs (h .1), suc-mul (length xs) most))
 
 -- ── bytes taken as entries ──
 
