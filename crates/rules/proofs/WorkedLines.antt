@@ -40,21 +40,21 @@ use Rattle.rules.specs.Worked.{Line, starred, added, sameTables, isSeen,
 computed : List Line → Bool
 unfolding domainOf isControl flatMap text same less begins allZero padded paste chunks fourBytes littleEndian bigEndian bigFrom field packFrom pack bitsAt
     digitsBefore decimal isDigit allDigits valueFrom plainForm number numberIn signed nameByte allBytes isName allNames glued split introduceName releaseName
-    specialOf checked afterSlash given namesIn isFull base slashed pathText shortNames fits beyond isBelow isEmpty lowest freeCount has without root freshTable
-    nodeAt isChild childFrom child reachFrom reach heir newNode lastValue made withValue withEntries within clearedFrom removed insert hasParent childrenFrom
-    children pathUp pathOf ownedBelow ownedBy withoutAll named accessOf mayRead mayWrite mayOwn readable before ended strings firstString accessLetter entryOf
-    entriesOf namesOf placeOf onRoot proper asking plain writing setting settingAll depthFor watchingTo watchPayload unwatchPayload introducingOf
-    introducePayload ofDomain bare startPayload endPayload parse errnoText OK accessText entryText permissions nameList listing listed unchanged changed absent
-    looked sized stocked room created written directoryMade taken maySet permitted answered answer placeText lineage eventsOf deepEnough mayHear hearsAt hears
-    maskOf anyBit kept heardEvent heardChange heard isEvent heardOf onlyFrom firstHeard textAt entryBits nodeBits slotBytes entryAt nodeOf slotOf tableBytes tableOf
-    domainBytes domainIn domainsBytes domainsOf isRelative depthBits watchBits watchBytes placeIn watchAt watchIn watchesBytes watchesOf changeBits changeBytes
-    transactionBytes changeIn transactionAt transactionIn transactionsBytes transactionsOf maskBits recordBytes goodEntries reachesRoot goodName goodNode goodNodes goodRoot
-    clash distinct goodTable soundTable introduced known goodDomains soundDomains noNul strictlyBelow eventDepth goodPlace twin watched goodWatch goodWatches
-    soundWatches goodRemoval goodChange goodChanges goodTransactions soundTransactions freshWorld staled staledIf withoutTransactions withoutWatches speaksFor left to
-    onStore transactionOf inTransaction copyOf asked placeFits watching unwatching starting closing committing ending introducing removalOf releasing resetting
-    forControl forPlace introducedText handle callNumber isHandled sizedTables sound worldOf tablesOf freshCall typeOf txOf lenOf payloadOf frameVerdict
-    requestVerdict replyType replyPayload replyTo outcomeOf outcome turnedAway delivered requestBy requestCall sameTables isSeen allSeen stepsHold lineHolds
-    allHold message string
+    specialOf checked afterSlash given namesIn isFull base slashed pathText shortNames fits beyond isBelow isEmpty lowest freeCount has without root
+    freshTable nodeAt isChild childFrom child reachFrom reach heir newNode lastValue made withValue withEntries within clearedFrom removed insert hasParent
+    childrenFrom children pathUp pathOf ownedBelow ownedBy withoutAll named accessOf mayRead mayWrite mayOwn readable before ended strings firstString
+    accessLetter entryOf entriesOf namesOf placeOf onRoot proper asking plain writing setting settingAll depthFor watchingTo watchPayload unwatchPayload
+    introducingOf introducePayload ofDomain bare startPayload endPayload parse errnoText OK accessText entryText permissions nameList listing listed unchanged
+    changed absent looked sized stocked room created written directoryMade taken maySet permitted answered answer placeText lineage eventsOf deepEnough
+    mayHear hearsAt hears maskOf anyBit kept heardEvent heardChange heard isEvent heardOf onlyFrom firstHeard textAt entryBits nodeBits slotBytes entryAt
+    nodeOf slotOf tableBytes tableOf domainBytes domainIn domainsBytes domainsOf isRelative depthBits watchBits watchBytes placeIn watchAt watchIn
+    watchesBytes watchesOf changeBits changeBytes transactionBytes changeIn transactionAt transactionIn transactionsBytes transactionsOf maskBits recordBytes
+    goodEntries reachesRoot goodName goodNode goodNodes goodRoot clash distinct goodTable soundTable introduced known goodDomains soundDomains noNul
+    strictlyBelow eventDepth goodPlace twin watched goodWatch goodWatches soundWatches goodRemoval goodChange goodChanges goodTransactions soundTransactions
+    freshWorld staled staledIf withoutTransactions withoutWatches speaksFor left to onStore transactionOf inTransaction copyOf asked placeFits watching
+    unwatching starting closing committing ending introducing removalOf releasing resetting forControl forPlace introducedText handle callNumber isHandled
+    sizedTables sound worldOf tablesOf freshCall typeOf txOf lenOf payloadOf frameVerdict requestVerdict replyType replyPayload replyTo outcomeOf outcome
+    turnedAway delivered requestBy requestCall sameTables isSeen allSeen stepsHold lineHolds allHold message string
 computed ls = allHold ls
 
 -- every starred line of document 01 holds

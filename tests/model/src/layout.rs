@@ -1,4 +1,5 @@
-//! The bytes of tables and messages. Decoding answers None where a length or count is past its bound, or where the bytes are not those that the content encodes to.
+//! The bytes of tables and messages. Decoding answers None where a length or count is past its bound, or where the bytes are not those that the
+//! content encodes to.
 
 use crate::few::Few;
 use crate::size::*;

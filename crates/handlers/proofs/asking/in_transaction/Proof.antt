@@ -80,11 +80,11 @@ enum-known-effect c = search needs
 
 enter-change-requires : tie.Need-enter-change-requires
 enter-change-requires c κs =
-    let counted = c .before .before .before .before .before .before .before .before .before .before .before .before in
-    let args = counted .before .before .before .before .before .before .before .args in
-    let pre = counted .before .before .before .before .before .before .before .pre in
-    let few = subst (λ (n : ℕ). n < mostChanges) (counted .changes .ensures .0) (c .before .before .before .before .before .before .before .before .before .before .before .if1 .left) in
-    changing (pre .1) _ _ _ _ (pre .0) _ _ _ _ (copy-part (args .copies .now) (args .k)) (c .before .before .before .before .before .before .before .before .answer .ensures) few
+    let answered = c .before .before .before .before .before .before .before .before in
+    let tested = answered .before .before .before in
+    let start = tested .before .before .before .before .before .before .before .before in
+    let few = subst (λ (n : ℕ). n < mostChanges) (tested .before .changes .ensures .0) (tested .if1 .left) in
+    changing (start .pre .1) _ _ _ _ (start .pre .0) _ _ _ _ (copy-part (start .args .copies .now) (start .args .k)) (answered .answer .ensures) few
     _ _ (wrote-makes _ _ _ (c .before .before .effect .given .1))
 
 enum-told-2 : tie.Need-enum-told-2
@@ -92,11 +92,11 @@ enum-told-2 c = search needs
 
 enter-change-requires-2 : tie.Need-enter-change-requires-2
 enter-change-requires-2 c κs =
-    let counted = c .before .before .before .before .before .before .before .before .before .before .before in
-    let args = counted .before .before .before .before .before .before .before .args in
-    let pre = counted .before .before .before .before .before .before .before .pre in
-    let few = subst (λ (n : ℕ). n < mostChanges) (counted .changes .ensures .0) (c .before .before .before .before .before .before .before .before .before .before .if1 .left) in
-    changing (pre .1) _ _ _ _ (pre .0) _ _ _ _ (copy-part (args .copies .now) (args .k)) (c .before .before .before .before .before .before .before .answer .ensures) few
+    let answered = c .before .before .before .before .before .before .before in
+    let tested = answered .before .before .before in
+    let start = tested .before .before .before .before .before .before .before .before in
+    let few = subst (λ (n : ℕ). n < mostChanges) (tested .before .changes .ensures .0) (tested .if1 .left) in
+    changing (start .pre .1) _ _ _ _ (start .pre .0) _ _ _ _ (copy-part (start .args .copies .now) (start .args .k)) (answered .answer .ensures) few
     _ _ (removed-makes _ _ (c .before .enum-told2 .given .1))
 
 same-length-4 : tie.Need-same-length-4
@@ -127,13 +127,14 @@ same-length-9 c = search needs
 
 returns-3 : tie.Need-returns-3
 returns-3 c =
-    let counted = c .before .before .before .before .before .before .before .before .before .before .before .before .before .before .before in
-    let args = counted .before .before .before .before .before .before .before .args in
-    let pre = counted .before .before .before .before .before .before .before .pre in
-    let few = subst (λ (n : ℕ). n < mostChanges) (counted .changes .ensures .0) (c .before .before .before .before .before .before .before .before .before .before .before .before .before .before .if1 .left) in
     let entered = c .before .before .enter-change .ensures in
-    λ w l events. change-handled (pre .1) _ _ _ _ (pre .0) _ _ _ _ (copy-part (args .copies .now) (args .k)) (c .before .before .before .before .before .before .before .before .before .before .before .answer .ensures)
-    w (l .copies) (l .transactions) events _ _ _ (wrote-makes _ _ _ (c .before .before .before .before .before .effect .given .1)) few _ (entered .0) (entered .1)
+    let answered = c .before .before .before .before .before .before .before .before .before .before .before in
+    let tested = answered .before .before .before in
+    let start = tested .before .before .before .before .before .before .before .before in
+    let few = subst (λ (n : ℕ). n < mostChanges) (tested .before .changes .ensures .0) (tested .if1 .left) in
+    λ w l events. change-handled (start .pre .1) _ _ _ _ (start .pre .0) _ _ _ _ (copy-part (start .args .copies .now) (start .args .k))
+    (answered .answer .ensures) w (l .copies) (l .transactions) events _ _ _ (wrote-makes _ _ _ (c .before .before .before .before .before .effect .given .1)) few _
+    (entered .0) (entered .1)
 
 same-length-10 : tie.Need-same-length-10
 same-length-10 c = search needs
@@ -146,13 +147,14 @@ same-length-12 c = search needs
 
 returns-4 : tie.Need-returns-4
 returns-4 c =
-    let counted = c .before .before .before .before .before .before .before .before .before .before .before .before .before .before in
-    let args = counted .before .before .before .before .before .before .before .args in
-    let pre = counted .before .before .before .before .before .before .before .pre in
-    let few = subst (λ (n : ℕ). n < mostChanges) (counted .changes .ensures .0) (c .before .before .before .before .before .before .before .before .before .before .before .before .before .if1 .left) in
     let entered = c .before .before .enter-change2 .ensures in
-    λ w l events. change-handled (pre .1) _ _ _ _ (pre .0) _ _ _ _ (copy-part (args .copies .now) (args .k)) (c .before .before .before .before .before .before .before .before .before .before .answer .ensures)
-    w (l .copies) (l .transactions) events _ _ _ (removed-makes _ _ (c .before .before .before .before .enum-told2 .given .1)) few _ (entered .0) (entered .1)
+    let answered = c .before .before .before .before .before .before .before .before .before .before in
+    let tested = answered .before .before .before in
+    let start = tested .before .before .before .before .before .before .before .before in
+    let few = subst (λ (n : ℕ). n < mostChanges) (tested .before .changes .ensures .0) (tested .if1 .left) in
+    λ w l events. change-handled (start .pre .1) _ _ _ _ (start .pre .0) _ _ _ _ (copy-part (start .args .copies .now) (start .args .k))
+    (answered .answer .ensures) w (l .copies) (l .transactions) events _ _ _ (removed-makes _ _ (c .before .before .before .before .enum-told2 .given .1)) few _
+    (entered .0) (entered .1)
 
 pub in-transaction-spec : {M : Type 1} → statement M
 in-transaction-spec =

@@ -45,17 +45,19 @@ same-length-2 c = search needs
 
 returns-2 : tie.Need-returns-2
 returns-2 c =
+    let left = c .before .before .before .before .names-left .ensures in
     let may = c .before .before .before .before .before in
     let a = may .before .before .before .before .before .before .before in
     refused-so (a .args .domain) _ (a .args .t .now) (sound-canonical _ (a .pre .0 .standing .sound)) _ (a .args .reply .now) _ _ (c .refusal2 .ensures)
     (created-full _ _ _ _ _ (a .pre .1) _ (sym (may .before .may-write .ensures) ∙ not-false _ (may .if1 .left))
-    (sym (c .before .before .has-room .ensures (a .args .domain) _ (c .before .before .before .before .names-left .ensures)) ∙ not-true _ (c .before .if2 .taken)))
+    (sym (c .before .before .has-room .ensures (a .args .domain) _ left) ∙ not-true _ (c .before .if2 .taken)))
 
 make-requires : tie.Need-make-requires
 make-requires c κs =
     let a = c .before .before .before .before .before .before .before .before .before .before .before .before in
     let left = c .before .before .before .before .names-left .ensures in
-    let m = roomy (a .args .domain) _ _ _ _ (sym (c .before .before .has-room .ensures (a .args .domain) (leftAt (a .args .path .now) (a .args .at)) left) ∙ not-false _ (c .before .if2 .left)) in (
+    let room = c .before .before .has-room .ensures (a .args .domain) (leftAt (a .args .path .now) (a .args .at)) left in
+    let m = roomy (a .args .domain) _ _ _ _ (sym room ∙ not-false _ (c .before .if2 .left)) in (
       (a .pre .1 .below, sound-canonical _ (a .pre .0 .standing .sound), a .pre .1 .used),
       (left-short _ _ _ _ (a .pre .1) (m .1), (m .2, (m .0, a .pre .0 .domain))),
     )
