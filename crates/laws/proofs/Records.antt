@@ -44,9 +44,6 @@ kept-few : (m : List Bool) (p : Octets) → length (kept m p) ≤ 1
 unfolding kept
 kept-few m p = cond-case (λ (l : List Record). length l ≤ 1) (anyBit m) _ _ (omega arith) (omega arith)
 
-fewer : {n : ℕ} (m : ℕ) (o : Outcome) → n ≤ m → Few n o → Few m o
-fewer m o l h = omega (arith, h)
-
 -- ── requests on the sound world w ──
 
 module _ (w : World) (s : SoundWorld w) where
