@@ -27,7 +27,7 @@ use Rattle.rules.proofs.GoodAnswers.{change-good}
 use Rattle.rules.proofs.GoodRequests.{AskedGood, ParsedGood}
 use Rattle.rules.proofs.SoundWorld.{SoundWorld, known-range}
 use Rattle.laws.specs.History.{run, succeeds, isThere}
-use Rattle.laws.specs.Heard.{creates, Attends, Told, Lengthening, CreatedIsHeard}
+use Rattle.laws.specs.Heard.{creates, Attends, Tells, Lengthening, CreatedIsHeard}
 use Rattle.laws.proofs.Calls.{served-is, served-known, request-good}
 use Rattle.laws.proofs.SoundCalls.{fresh-sound, run-keeps}
 use Rattle.laws.proofs.Step.{on-store-reply}
@@ -100,7 +100,7 @@ module _ (before after : Table) (ws : Watches) (removal : Bool) (ns : Names) whe
               | none ↦ elim (beyond p wn) as (λ m. Bool) [ none ↦ false | some rest ↦ removal && mayHear before after (domainOf (v .owner)) wn ]
             ]
 
-    told-here : (p : Names) → Attends after v p → Told p i (heardEvent before after ws (happening p))
+    told-here : (p : Names) → Attends after v p → Tells p i (heardEvent before after ws (happening p))
     unfolding heardEvent kept
     told-here p a =
         let m = mask-at (hears before after (happening p)) ws i v at (attends p a) in
@@ -111,26 +111,26 @@ module _ (before after : Table) (ws : Watches) (removal : Bool) (ns : Names) whe
           marked = m;
         }
 
-    told-left : (p : Names) (rs more : List Record) → Told p i rs → Told p i (rs ++ more)
+    told-left : (p : Names) (rs more : List Record) → Tells p i rs → Tells p i (rs ++ more)
     told-left p rs more t = record { told = t .told; among = Memᴰ·append-left more (t .among); path = t .path; marked = t .marked }
 
-    told-right : (p : Names) (rs more : List Record) → Told p i more → Told p i (rs ++ more)
+    told-right : (p : Names) (rs more : List Record) → Tells p i more → Tells p i (rs ++ more)
     told-right p rs more t = record { told = t .told; among = Memᴰ·append-right rs (t .among); path = t .path; marked = t .marked }
 
     -- a path at most k levels up is told of
-    told-among : (k j : ℕ) → j ≤ k → (p : Names) → take (length ns - j) ns ≡ p → Attends after v p → Told p i (told-of k)
+    told-among : (k j : ℕ) → j ≤ k → (p : Names) → take (length ns - j) ns ≡ p → Attends after v p → Tells p i (told-of k)
     unfolding lineage flatMap
     told-among zero j h p e a =
         let none-off : j ≡ 0 = omega arith in
         let whole : ns ≡ p = sym (take-all (length ns - 0) ns (rw sub-zero (omega arith))) ∙ (ap (λ (m : ℕ). take (length ns - m) ns) (sym none-off) ∙ e) in
-        told-left p _ [] (subst (λ (q : Names). Told p i (heardEvent before after ws (happening q))) (sym whole) (told-here p a))
+        told-left p _ [] (subst (λ (q : Names). Tells p i (heardEvent before after ws (happening q))) (sym whole) (told-here p a))
     told-among (suc k) j h p e a = go (ℕ-discrete j (suc k)) (λ l. told-among k j l p e a)
       where
-        go : Dec (j ≡ suc k) → (j ≤ k → Told p i (told-of k)) → Told p i (heardEvent before after ws (happening (take (length ns - suc k) ns)) ++ told-of k)
+        go : Dec (j ≡ suc k) → (j ≤ k → Tells p i (told-of k)) → Tells p i (heardEvent before after ws (happening (take (length ns - suc k) ns)) ++ told-of k)
         go (yes q) f =
             let this : p ≡ take (length ns - suc k) ns = sym e ∙ ap (λ (m : ℕ). take (length ns - m) ns) q in
             told-left p (heardEvent before after ws (happening (take (length ns - suc k) ns))) (told-of k)
-            (subst (λ (q : Names). Told p i (heardEvent before after ws (happening q))) this (told-here p a))
+            (subst (λ (q : Names). Tells p i (heardEvent before after ws (happening q))) this (told-here p a))
         go (no q) f = told-right p (heardEvent before after ws (happening (take (length ns - suc k) ns))) (told-of k) (f (omega (arith, q)))
 
 -- ── a request on the store ──
@@ -169,7 +169,7 @@ module _ (w : World) (s : SoundWorld w) (d : Domain) (a : Ask) (ns : Names) (f :
   -- a path that was not there is told of
   told-of-created : d ≤ lastDomain → creates a ≡ true → succeeds (x .reply) ≡ true → (p : Names) → allNames p ≡ true → isThere (w .nodes) p ≡ false
       → isThere (onStore w x .world .nodes) p ≡ true → (i : ℕ) (v : Watch) → At (w .watches) i v
-      → Attends (onStore w x .world .nodes) v p → Told p i (onStore w x .records)
+      → Attends (onStore w x .world .nodes) v p → Tells p i (onStore w x .records)
   unfolding onStore left to heard heardChange eventsOf flatMap x
   told-of-created hd c q p hp n h i v at b =
       let l = reach (w .nodes) ns .left in
@@ -182,7 +182,7 @@ module _ (w : World) (s : SoundWorld w) (d : Domain) (a : Ask) (ns : Names) (f :
       (told-among (w .nodes) (x .table) (w .watches) false ns i v at (length l - 1) (length below) (omega (arith, above .fewer)) p this e)) b
     where
       Telling : Option Change → Type 0
-      Telling m = let o = onStore w (record { reply = x .reply; table = x .table; change = m }) in Attends (o .world .nodes) v p → Told p i (o .records)
+      Telling m = let o = onStore w (record { reply = x .reply; table = x .table; change = m }) in Attends (o .world .nodes) v p → Tells p i (o .records)
 
 -- ── a call ──
 
@@ -196,7 +196,7 @@ created-is-heard cs c ns o k =
     let y : onStore w (answer d (k .kind) ns (w .nodes)) ≡ o = rw (k .asked, k .plain) at (served-is w c o (k .served)) in
     let hd = known-range (w .domains) d (s .domains) (served-known w c o (k .served)) in (
       λ p hp n h i v at.
-          subst (λ (z : Outcome). succeeds (z .reply) ≡ true → isThere (z .world .nodes) p ≡ true → Attends (z .world .nodes) v p → Told p i (z .records)) y
+          subst (λ (z : Outcome). succeeds (z .reply) ≡ true → isThere (z .world .nodes) p ≡ true → Attends (z .world .nodes) v p → Tells p i (z .records)) y
           (λ q e. told-of-created w s d (k .kind) ns f hd (k .creating) (subst (λ (r : Reply). succeeds r ≡ true) (on-store-reply w 0 _) q) p hp n e i v at)
           (k .done) h,
       subst (λ (z : Outcome). Lengthening 0 (z .records)) y (in-order w s d (k .kind) ns f),

@@ -50,7 +50,7 @@ pub record Attends (t : Table) (v : Watch) (p : Names) : Type 0 where
   pub reads : readable t (domainOf (v .owner)) p ≡ true
 
 -- one of these records tells the watch in place i of the path p
-pub record Told (p : Names) (i : ℕ) (rs : List Record) : Type 0 where
+pub record Tells (p : Names) (i : ℕ) (rs : List Record) : Type 0 where
   pub told : Record
   pub among : List·Memᴰ told rs
   pub path : told .path ≡ pathText p
@@ -67,7 +67,7 @@ abbrev pub CreatedIsHeard : Type 0
 CreatedIsHeard =
     (cs : History) (c : Call) (ns : Names) (o : Outcome) → let w = run freshWorld cs in Creates w c ns o →
     ((p : Names) → allNames p ≡ true → isThere (w .nodes) p ≡ false → isThere (o .world .nodes) p ≡ true →
-    (i : ℕ) (v : Watch) → getD (w .watches) i none ≡ some v → Attends (o .world .nodes) v p → Told p i (o .records))
+    (i : ℕ) (v : Watch) → getD (w .watches) i none ≡ some v → Attends (o .world .nodes) v p → Tells p i (o .records))
     × Lengthening 0 (o .records)
 
 -- ── how many records ──

@@ -133,8 +133,8 @@ returns-3 c =
     let start = tested .before .before .before .before .before .before .before .before in
     let few = subst (λ (n : ℕ). n < mostChanges) (tested .before .changes .ensures .0) (tested .if1 .left) in
     λ w l events. change-handled (start .pre .1) _ _ _ _ (start .pre .0) _ _ _ _ (copy-part (start .args .copies .now) (start .args .k))
-    (answered .answer .ensures) w (l .copies) (l .transactions) events _ _ _ (wrote-makes _ _ _ (c .before .before .before .before .before .effect .given .1)) few _
-    (entered .0) (entered .1)
+    (answered .answer .ensures) w (l .copies) (l .transactions) events _ _ _
+    (wrote-makes _ _ _ (c .before .before .before .before .before .effect .given .1)) few _ (entered .0) (entered .1)
 
 same-length-10 : tie.Need-same-length-10
 same-length-10 c = search needs
@@ -153,8 +153,8 @@ returns-4 c =
     let start = tested .before .before .before .before .before .before .before .before in
     let few = subst (λ (n : ℕ). n < mostChanges) (tested .before .changes .ensures .0) (tested .if1 .left) in
     λ w l events. change-handled (start .pre .1) _ _ _ _ (start .pre .0) _ _ _ _ (copy-part (start .args .copies .now) (start .args .k))
-    (answered .answer .ensures) w (l .copies) (l .transactions) events _ _ _ (removed-makes _ _ (c .before .before .before .before .enum-told2 .given .1)) few _
-    (entered .0) (entered .1)
+    (answered .answer .ensures) w (l .copies) (l .transactions) events _ _ _
+    (removed-makes _ _ (c .before .before .before .before .enum-told2 .given .1)) few _ (entered .0) (entered .1)
 
 pub in-transaction-spec : {M : Type 1} → statement M
 in-transaction-spec =
