@@ -103,7 +103,10 @@ def main():
         return
     for p in texts(".antt", ".rt", ".edit", ".md"):
         t = read(p)
-        ours = {} if not is_walk(p) else {n for n in defined(re.sub(r"(?m)(^|\s)--[^\n]*", r"\1", t))}
+        ours = set() if not is_walk(p) else {n for n in defined(re.sub(r"(?m)(^|\s)--[^\n]*", r"\1", t))}
+        if not p.endswith(".antt"):
+            # A snake-cased word of code, an edit or a page is a function's name, and stays.
+            ours |= {n for n in new if re.fullmatch(r"[a-z_0-9]+", n)}
         u = PIECE.sub(lambda m: m[0] if m[0][0] == '"' or m[0] in ours else new.get(m[0], m[0]), t)
         if u != t:
             with open(p, "w", encoding="utf-8") as f:

@@ -1,4 +1,6 @@
 // The introduced domains, on lent bytes.
+#![tactic(auto)]
+
 pub mod changes;
 pub mod checks;
 pub mod places;

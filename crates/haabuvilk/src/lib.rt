@@ -1,4 +1,6 @@
 // The calls that the daemon's C side makes.
+#![tactic(auto)]
+
 pub mod checks;
 pub mod event_message;
 pub mod fresh;

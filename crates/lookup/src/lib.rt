@@ -1,4 +1,6 @@
 // The node table read: paths, rights, children and the release walk, on the bytes of a sound table.
+#![tactic(auto)]
+
 pub mod children;
 pub mod listing;
 pub mod owned;

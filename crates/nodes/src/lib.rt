@@ -1,4 +1,6 @@
 // The seven node requests on one table.
+#![tactic(auto)]
+
 pub mod answers;
 pub mod changing;
 pub mod kinds;

@@ -1,4 +1,6 @@
 // Bytes: comparing, copying and clearing them, and the numbers that they hold.
+#![tactic(auto)]
+
 pub mod compare;
 pub mod decimals;
 pub mod numbers;

@@ -1,7 +1,7 @@
 // What is answered about paths.
 
 // The form of a path in a payload.
-#[derive(Drop)]
+#[derive(Clone, Copy)]
 pub enum Form {
     Absolute,
     Relative,

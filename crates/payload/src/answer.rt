@@ -2,28 +2,28 @@
 use paths::answer::Form;
 
 // A path: the payload's first string, which ends at `end`, and its form.
-#[derive(Drop)]
+#[derive(Clone, Copy)]
 pub struct Path {
     pub end: usize,
     pub form: Form,
 }
 
 // A watch's depth, if one is given.
-#[derive(Drop)]
+#[derive(Clone, Copy)]
 pub enum Depth {
     Given(u32),
     None,
 }
 
 // A permission entry: the access (none 0, read 1, write 2, both 3) of a domain.
-#[derive(Drop)]
+#[derive(Clone, Copy)]
 pub struct Entry {
     pub access: u32,
     pub domain: u32,
 }
 
 // The permission entries of a payload: how many there are, and the first four.
-#[derive(Drop)]
+#[derive(Clone, Copy)]
 pub struct Entries {
     pub count: usize,
     pub first: Entry,
@@ -33,7 +33,7 @@ pub struct Entries {
 }
 
 // What is asked of a node.
-#[derive(Drop)]
+#[derive(Clone, Copy)]
 pub enum Ask {
     Directory,
     Read,

@@ -1,4 +1,6 @@
 // A request's type and payload taken apart.
+#![tactic(auto)]
+
 pub mod answer;
 pub mod asks;
 pub mod bare;

@@ -1,4 +1,6 @@
 // A message's request, taken apart and handed to its handler.
+#![tactic(auto)]
+
 pub mod control;
 pub mod handle;
 pub mod node;

@@ -1,4 +1,6 @@
 // Who asks: a connection, and the domain that it speaks for.
+#![tactic(auto)]
+
 ghost use Rattle.std.specs.Prelude.{◌≡◌};
 ghost use Rattle.rules.specs.Domain.{domain_of, is_control};
 ghost use Rattle.senders.specs.Speaks.{Speaks};

@@ -1,4 +1,6 @@
 // Prints what a mechanic reviews by eye: the class of each byte, and the steps of the path machine.
+#![tactic(auto)]
+
 ghost use Rattle.std.specs.Prelude.{◌<◌};
 
 use paths::classes::class_of;

@@ -1,4 +1,6 @@
 // Whether the bytes of a node table are sound: the check that every call makes first.
+#![tactic(auto)]
+
 pub mod answer;
 pub mod chain;
 pub mod entries;

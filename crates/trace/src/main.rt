@@ -1,4 +1,6 @@
 // Reads messages from standard input, each behind its sender, and prints a line for each.
+#![tactic(auto)]
+
 mod input;
 mod line;
 

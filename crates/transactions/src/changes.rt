@@ -9,7 +9,7 @@ ghost use Rattle.rules.specs.World.{staled, without_transactions};
 ghost use Rattle.domains.specs.Entry.{dropped_if};
 ghost use Rattle.transactions.specs.Transaction.{KeptTransactions, transaction_of, held_by, stale_of, change_given, changed_by, RoomForChange};
 
-use crate::places::{changes, held, is_open_lem};
+use crate::places::{changes, held, is_open};
 use octets::parts::{clear, put_text};
 use octets::sizes::{
     CHANGE_FIELDS_SIZE, CHANGE_SIZE, CHANGES_AT, CHANGES_SIZE, LONGEST_PATH, TRANSACTION_SIZE,
@@ -75,7 +75,7 @@ fn make_stale(s: &mut [u8], k: usize)
     requires { (k < most_transactions) × KeptTransactions s.old }
     ensures { s.new ≡ transactions_bytes (set (transactions_of s.old) k (stale_of (get_or (transactions_of s.old) k none))) }
 {
-    if is_open_lem(s, k) {
+    if is_open(s, k) {
         let at = k * TRANSACTION_SIZE;
         s[at] = 192 + s[at] % 16;
     }

@@ -10,7 +10,7 @@ ghost use Rattle.domains.specs.Kept.{kept_at};
 ghost use Rattle.transactions.specs.Transaction.{KeptTransactions, transaction_of, change_of, change_given, OpenTransaction, HasChange};
 ghost use Rattle.transactions.specs.Checks.{change_kept, changes_kept, good_open, all_open_good, sound_entries};
 
-use crate::places::{changes, holder, is_open_lem, parents, path, removed};
+use crate::places::{changes, holder, is_open, parents, path, removed};
 use domains::places::known_sender;
 use octets::compare::{all_zero, rest_zero};
 use octets::numbers::two;

@@ -12,7 +12,7 @@ use octets::numbers::two;
 use octets::sizes::{CHANGE_FIELDS_SIZE, CHANGE_SIZE, CHANGES_AT, TRANSACTION_SIZE, TRANSACTIONS};
 
 // Whether place k is open.
-pub fn is_open_lem(s: &[u8], k: usize) -> bool
+pub fn is_open(s: &[u8], k: usize) -> bool
     requires { (k < most_transactions) × (length s.now ≡ transactions_size) }
     ensures { result ≡ taken (get_or (transactions_of s.now) k none) }
 {

@@ -117,7 +117,7 @@ fn kept(s: &[u8]) -> bool
 
 // ── what is asked of each watch ──
 
-fn no_nul_lem(t: &[u8]) -> bool
+fn no_nul(t: &[u8]) -> bool
     ensures { result ≡ no_nul t.now }
 {
     let mut i = 0;

@@ -2,6 +2,8 @@
 // of a worked line, and starts from the fresh store; its steps follow, each behind two blanks: `slot K` shows how slot K
 // begins, and a request is sender, type, tx_id and payload, with `|` for a nul. `times N` before a request makes it N times,
 // or up to the first that is refused, and counts up the number at the end of its payload.
+#![tactic(auto)]
+
 ghost use Rattle.std.specs.Prelude.{◌<◌, length};
 
 mod call;
