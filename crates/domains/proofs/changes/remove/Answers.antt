@@ -1,0 +1,33 @@
+-- The places before the one in turn are done, the others as they were.
+use mathlib.Core.Path.{◌≡◌, refl}
+use Prim.Native.Nat.{◌-◌}
+use native.Mathlib.Omega.{arith}
+use lib.Dec.{eqb}
+use Rattle.rules.specs.Size.{mostDomains}
+use Rattle.rules.specs.Layout.{domainsOf}
+use Rattle.domains.specs.Entry.{droppedIf}
+use Rattle.domains.specs.Kept.{KeptDomains}
+use Rattle.domains.proofs.Search.{sweptBefore}
+use Rattle.domains.proofs.Laws.{swept-domain, swept-domains}
+use Rattle.domains.proofs.changes.remove.Goals as goal
+
+pub loop-i-init : goal.loop-i-init
+loop-i-init c = (c.requires, refl)
+
+pub free_if-requires : goal.free_if-requires
+free_if-requires c = (c.loop-i-test.true, c.loop-i.invariant.0)
+
+pub loop-i-preserved : goal.loop-i-preserved
+loop-i-preserved c =
+    let args = c.args in
+    let inv = c.loop-i.invariant in
+    swept-domain _ inv.0 _ c.loop-i-test.true (eqb args.d) (domainsOf args.s.now) inv.1 _ c.free_if.ensures
+
+pub shape_of-s : goal.shape_of-s
+shape_of-s c = omega (arith, c.loop-i.invariant.0.whole, c.requires.whole)
+
+pub returns : goal.returns
+returns c =
+    let args = c.args in
+    let inv = c.loop-i.invariant in
+    swept-domains (eqb args.d) _ args.s.now inv.0 _ c.loop-i-test.false inv.1

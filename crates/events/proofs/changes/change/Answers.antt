@@ -1,0 +1,44 @@
+-- From the topmost created parent down the events are recorded one after the other, and the path's own at last.
+use native.Mathlib.Omega.{arith}
+use Rattle.rules.specs.Layout.{table_of, watchesOf}
+use Rattle.rules.specs.Size.{longestPath}
+use Rattle.paths.proofs.AboveLaws.{above-long, above-short, above-full}
+use Rattle.events.proofs.Levels.{Told, told_none, told-room, told-next, told-all}
+use Rattle.events.proofs.changes.change.Goals as goal
+
+pub loop-levels-init : goal.loop-levels-init
+loop-levels-init c =
+    told_none _ _ _ _ _ _ _ _ c.requires.4.whole
+
+pub above-end-requires : goal.above-end-requires
+above-end-requires c =
+    (c.requires.1, omega (arith, c.requires.3, c.loop-levels.invariant.few, c.loop-levels-test.true))
+
+pub slice_bounds-parent-end : goal.slice_bounds-parent-end
+slice_bounds-parent-end c =
+    above-long _ c.requires.1 _ _ c.above-end.ensures
+
+pub event-count-requires : goal.event-count-requires
+event-count-requires c =
+    let up = c.above-end.ensures in
+    let room = told-room _ _ _ _ _ _ _ _ _ _ _ c.loop-levels.invariant (omega (arith, c.requires.4.few)) in
+    (c.requires.0, above-full _ c.requires.1 _ _ up, above-short _ c.requires.1 _ _ up longestPath c.requires.2, room)
+
+pub loop-levels-preserved : goal.loop-levels-preserved
+loop-levels-preserved c =
+    let room = c.requires.4.few in
+    told-next _ _ _ _ _ _ _ _ _ _ _ c.loop-levels.invariant c.requires.1 c.loop-levels-test.true (omega arith) _
+    c.above-end.ensures _ _ c.event-count.ensures
+
+pub event-requires : goal.event-requires
+event-requires c =
+    let room = told-room _ _ _ _ _ _ _ _ _ _ _ c.loop-levels.invariant (omega (arith, c.requires.4.few)) in
+    (c.requires.0, c.requires.1, c.requires.2, room)
+
+pub shape_of-events : goal.shape_of-events
+shape_of-events c =
+    omega (arith, c.loop-levels.invariant.entered.long, c.requires.4.whole)
+
+pub returns : goal.returns
+returns c =
+    told-all _ _ _ _ _ _ _ _ _ _ _ c.loop-levels.invariant c.loop-levels-test.false c.requires.4.few _ _ c.event.ensures

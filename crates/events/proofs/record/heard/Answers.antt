@@ -1,0 +1,8 @@
+-- The mask is the first two bytes of the record, so its bit for the watch is that of the number in them.
+use Rattle.events.proofs.RecordLaws.{mask-read}
+use borrow.Author.Rules.{rules}
+use Rattle.events.proofs.record.heard.Goals as goal
+
+pub returns : goal.returns
+returns c =
+    mask-read c.args.events.now c.args.i c.requires.0 c.requires.2 c.args.k c.two-mask.result c.two-mask.ensures

@@ -1,0 +1,64 @@
+-- The rule's cases are told by the watch's text: the same text, an event's, a path's below or above.
+use mathlib.Core.Path.{◌≡◌, ap, ◌∙◌}
+use mathlib.Core.Bool.{true, false}
+use mathlib.Core.List.{[], ◌∷◌}
+use borrow.Author.Tests.{not-true, not-false}
+use Rattle.rules.specs.Octets.{Octets, same, begins}
+use Rattle.rules.specs.Path.{is_below}
+use Rattle.rules.specs.Payload.{Place}
+use Rattle.rules.specs.Event.{place_text}
+use Rattle.rules.proofs.EntryLayouts.{PlaceFits}
+use Rattle.watches.specs.Watch.{watch_of}
+use Rattle.events.proofs.WatchLaws.{taken-watch, watch-fits}
+use Rattle.events.proofs.PlaceLaws.{told}
+use Rattle.events.proofs.ReportLaws.{concern_same, concern_event, concern_below, concern_above}
+use borrow.Author.Rules.{rules}
+use Rattle.events.proofs.report.concerns.Goals as goal
+use Rattle.events.proofs.report.concerns.Goals.{After-path-own, Else-not-begins, Else-same, Then-not-begins}
+
+pub path-own-requires : goal.path-own-requires
+path-own-requires c =
+    taken-watch c.args.watches.now c.args.k c.requires
+
+pub returns-then-same : goal.returns-then-same
+returns-then-same c =
+    concern_same _ _ (told (same _) c.same.ensures c.path-own.ensures c.if-same.true)
+
+-- the watch's place and its text
+abbrev place : After-path-own → Place
+place c = (watch_of c.args.watches.now c.args.k).place
+
+abbrev own : After-path-own → Octets
+own c = place_text (place c)
+
+fits : (c : After-path-own) → PlaceFits (place c)
+fits c = (watch-fits c.args.watches.now c.args.k c.requires).place
+
+differs : (c : Else-same) → same c.args.p.now (own c.before.before) ≡ false
+differs c = told (same _) c.same.ensures c.path-own.ensures c.if-same.false
+
+unslashed : (c : Then-not-begins) → begins (47 ∷ []) (own c.before.before.before.before.before.before) ≡ false
+unslashed c =
+    told (begins (47 ∷ [])) c.begins.ensures c.path-own.ensures c.if-not-begins.true
+
+slashed : (c : Else-not-begins) → begins (47 ∷ []) (own c.before.before.before.before.before.before) ≡ true
+slashed c =
+    told (begins (47 ∷ [])) c.begins.ensures c.path-own.ensures c.if-not-begins.false
+
+pub returns-then-not-begins : goal.returns-then-not-begins
+returns-then-not-begins c =
+    c.is_domain_path.ensures ∙ concern_event _ _ (differs (goal.at.returns-then-not-begins c).Else-same) (unslashed (goal.at.returns-then-not-begins c).Then-not-begins)
+
+pub returns-then-is_below : goal.returns-then-is_below
+returns-then-is_below c =
+    let record-path = c.args.p.now in
+    concern_below record-path _ (fits (goal.at.returns-then-is_below c).After-path-own) (differs (goal.at.returns-then-is_below c).Else-same) (slashed (goal.at.returns-then-is_below c).Else-not-begins)
+    (told (λ (x : Octets). is_below x record-path) c.is_below.ensures c.path-own.ensures c.if-is_below.true)
+
+pub returns : goal.returns
+returns c =
+    let record-path = c.args.p.now in
+    c.is_below-2.ensures
+    ∙ ap (is_below record-path) c.path-own.ensures
+    ∙ concern_above record-path _ (fits (goal.at.returns c).After-path-own) (differs (goal.at.returns c).Else-same) (slashed (goal.at.returns c).Else-not-begins)
+    (told (λ (x : Octets). is_below x record-path) c.is_below.ensures c.path-own.ensures c.if-is_below.false)

@@ -1,0 +1,85 @@
+-- A watch on an event reports by its depth; one on a path the nearer of the two paths, cut by its base, for which there is room.
+use mathlib.Core.Path.{◌≡◌, refl, sym, ap, ◌∙◌}
+use mathlib.Core.Bool.{Bool, true, false}
+use mathlib.Core.List.{[], ◌∷◌}
+use borrow.Author.Tests.{not-true, not-false}
+use Rattle.rules.specs.Octets.{begins}
+use Rattle.rules.specs.Path.{is_below}
+use Rattle.rules.specs.Event.{Watch, place_text}
+use Rattle.rules.specs.Sound.{good_place}
+use Rattle.rules.proofs.EntryLayouts.{PlaceFits}
+use Rattle.watches.specs.Watch.{depth_meant, watch_of, TakenWatch}
+use Rattle.events.proofs.WatchLaws.{taken-watch, watch-fits, good-place}
+use Rattle.events.proofs.PlaceLaws.{told}
+use Rattle.events.proofs.ReportLaws.{cut-same, report_own, report_record, report_nearer, report_further, nearer-room, further_room}
+use borrow.Author.Rules.{rules}
+use Rattle.events.proofs.report.reported.Goals as goal
+use Rattle.events.proofs.report.reported.Goals.{After-is_below, After-path-own, Else-not-begins, Then-not-begins}
+
+pub path-own-requires : goal.path-own-requires
+path-own-requires c =
+    taken-watch c.args.watches.now c.args.k c.requires.0
+
+abbrev watch : After-path-own → Watch
+watch c = watch_of c.args.watches.now c.args.k
+
+used : (c : After-path-own) → TakenWatch c.args.watches.now c.args.k
+used c = taken-watch c.args.watches.now c.args.k c.requires.0
+
+fits : (c : After-path-own) → PlaceFits (watch c).place
+fits c = (watch-fits c.args.watches.now c.args.k c.requires.0).place
+
+good : (c : After-path-own) → good_place (watch c).owner (watch c).depth (watch c).place ≡ true
+good c = good-place c.args.watches.now c.args.k c.requires.0
+
+unslashed : (c : Then-not-begins) → begins (47 ∷ []) (place_text (watch c.before.before.before.before).place) ≡ false
+unslashed c =
+    told (begins (47 ∷ [])) c.begins.ensures c.path-own.ensures c.if-not-begins.true
+
+slashed : (c : Else-not-begins) → begins (47 ∷ []) (place_text (watch c.before.before.before.before).place) ≡ true
+slashed c =
+    told (begins (47 ∷ [])) c.begins.ensures c.path-own.ensures c.if-not-begins.false
+
+pub depth-requires : goal.depth-requires
+depth-requires c = used (goal.at.depth-requires c).After-path-own
+
+pub returns-in-To : goal.returns-in-To
+returns-in-To c =
+    report_record _ _ _ (unslashed (goal.at.returns-in-To c).Then-not-begins) (sym c.depth.ensures ∙ ap depth_meant c.in-To.is)
+
+pub returns-in-Any : goal.returns-in-Any
+returns-in-Any c =
+    c.path-own.ensures
+    ∙ report_own _ _ (unslashed (goal.at.returns-in-Any c).Then-not-begins) (sym c.depth.ensures ∙ ap depth_meant c.in-Any.is)
+
+pub relative-r-requires : goal.relative-r-requires
+relative-r-requires c = used (goal.at.relative-r-requires c).After-path-own
+
+pub domain-d-requires : goal.domain-d-requires
+domain-d-requires c = used (goal.at.domain-d-requires c).After-path-own
+
+-- whether the record's path is above the watch's own
+above : (c : After-is_below) (b : Bool) → c.is_below.result ≡ b
+    → is_below c.args.p.now (place_text (watch c.before.before.before.before.before.before.before).place) ≡ b
+above c b e = told (is_below c.args.p.now) c.is_below.ensures c.path-own.ensures e
+
+pub cut-requires : goal.cut-requires
+cut-requires c =
+    nearer-room (watch (goal.at.cut-requires c).After-path-own) (good (goal.at.cut-requires c).After-path-own) c.relative-r.ensures c.domain-d.ensures c.path-own.ensures
+
+pub returns-then-is_below : goal.returns-then-is_below
+returns-then-is_below c =
+    c.cut.ensures
+    ∙ cut-same c.relative-r.ensures c.domain-d.ensures c.path-own.ensures
+    ∙ report_nearer _ _ (fits (goal.at.returns-then-is_below c).After-path-own) (slashed (goal.at.returns-then-is_below c).Else-not-begins) (above (goal.at.returns-then-is_below c).After-is_below true c.if-is_below.true)
+
+pub cut-requires-2 : goal.cut-requires-2
+cut-requires-2 c =
+    further_room (watch (goal.at.cut-requires-2 c).After-path-own) (good (goal.at.cut-requires-2 c).After-path-own) c.relative-r.ensures c.domain-d.ensures _ c.requires.1
+    (above (goal.at.cut-requires-2 c).After-is_below false c.if-is_below.false)
+
+pub returns : goal.returns
+returns c =
+    c.cut-2.ensures
+    ∙ cut-same c.relative-r.ensures c.domain-d.ensures refl
+    ∙ report_further _ _ (fits (goal.at.returns c).After-path-own) (slashed (goal.at.returns c).Else-not-begins) (above (goal.at.returns c).After-is_below false c.if-is_below.false)

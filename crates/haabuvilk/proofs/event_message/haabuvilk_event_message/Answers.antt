@@ -1,0 +1,49 @@
+-- A wrong size, an unsound table and a record with no message have their numbers and alter nothing; else the message is put.
+use mathlib.Core.Path.{◌≡◌, sym, ◌∙◌}
+use mathlib.Core.Bool.{true}
+use borrow.Author.Tests.{not-true, not-false}
+use Rattle.rules.specs.Layout.{domains_of}
+use Rattle.rules.specs.Sound.{sound_domains, sound_watches}
+use Rattle.rules.specs.Call.{call_number}
+use Rattle.rules.specs.Message.{sized_message}
+use Rattle.haabuvilk.proofs.EventLaws.{wrong_size_lem, unsound-domains, unsound-watches, lent-sized, answered}
+use borrow.Author.Rules.{rules}
+use Rattle.haabuvilk.proofs.event_message.haabuvilk_event_message.Goals as goal
+use Rattle.haabuvilk.proofs.event_message.haabuvilk_event_message.Goals.{Else-not-sized_message, Else-not-sound_domains, Else-not-sound_watches}
+
+pub returns-then-not-sized_message : goal.returns-then-not-sized_message
+returns-then-not-sized_message c = wrong_size_lem _ _ _ _ _ _ _ (sym c.sized_message.ensures ∙ c.if-not-sized_message.true)
+
+sized : (c : Else-not-sized_message) → sized_message c.args.watches.now c.args.domains.now c.args.events.now c.args.message.now ≡ true
+sized c = sym c.sized_message.ensures ∙ c.if-not-sized_message.false
+
+domains-sound : (c : Else-not-sound_domains) → sound_domains c.args.domains.now ≡ true
+domains-sound c = sym c.sound_domains.ensures ∙ c.if-not-sound_domains.false
+
+watches-sound : (c : Else-not-sound_watches) → sound_watches (domains_of c.args.domains.now) c.args.watches.now
+    ≡ true
+watches-sound c = sym c.sound_watches.ensures ∙ c.if-not-sound_watches.false
+
+pub returns-then-not-sound_domains : goal.returns-then-not-sound_domains
+returns-then-not-sound_domains c = unsound-domains _ _ _ _ (sized (goal.at.returns-then-not-sound_domains c).Else-not-sized_message) _ _ _ (sym c.sound_domains.ensures ∙ c.if-not-sound_domains.true)
+
+pub sound_watches-requires : goal.sound_watches-requires
+sound_watches-requires c = (lent-sized _ _ _ _ (sized (goal.at.sound_watches-requires c).Else-not-sized_message)).0
+
+pub returns-then-not-sound_watches : goal.returns-then-not-sound_watches
+returns-then-not-sound_watches c = unsound-watches _ _ _ _ (sized (goal.at.returns-then-not-sound_watches c).Else-not-sized_message) _ _ _ (domains-sound (goal.at.returns-then-not-sound_watches c).Else-not-sound_domains)
+    (sym c.sound_watches.ensures ∙ c.if-not-sound_watches.true)
+
+pub message-requires : goal.message-requires
+message-requires c = let s = lent-sized _ _ _ _ (sized (goal.at.message-requires c).Else-not-sized_message) in
+    (record { domains = _; sound = watches-sound (goal.at.message-requires c).Else-not-sound_watches }, s.1, s.2)
+
+pub returns-in-Message : goal.returns-in-Message
+unfolding call_number
+returns-in-Message c =
+    answered _ _ _ _ (sized (goal.at.returns-in-Message c).Else-not-sized_message) _ _ _ (domains-sound (goal.at.returns-in-Message c).Else-not-sound_domains) _ _ _ (watches-sound (goal.at.returns-in-Message c).Else-not-sound_watches) c.in-Message.is c.message.ensures
+
+pub returns-in-Nothing : goal.returns-in-Nothing
+unfolding call_number
+returns-in-Nothing c =
+    answered _ _ _ _ (sized (goal.at.returns-in-Nothing c).Else-not-sized_message) _ _ _ (domains-sound (goal.at.returns-in-Nothing c).Else-not-sound_domains) _ _ _ (watches-sound (goal.at.returns-in-Nothing c).Else-not-sound_watches) c.in-Nothing.is c.message.ensures

@@ -1,0 +1,70 @@
+-- After k turns the texts of the first k entries stand one behind the other; there are four at most and each is short, so there is room.
+use mathlib.Core.Path.{◌≡◌, ap, ◌∙◌}
+use Prim.Native.Nat.{suc, ◌≤◌, ◌-◌}
+use native.Mathlib.Omega.{arith}
+use borrow.Author.Rules.{rules}
+use lib.ListN.{length}
+use Rattle.rules.specs.Node.{node_at}
+use Rattle.rules.specs.Layout.{table_of}
+use Rattle.rules.proofs.Paste.{length-paste}
+use Rattle.slots.proofs.Canonical.{sound_canonical}
+use Rattle.lookup.proofs.RightsLaws.{count_is, few}
+use Rattle.lookup.proofs.ListingLaws.{Written, none_written, entry-fits, written-room, one_more, all-written}
+use Rattle.lookup.proofs.listing.put_entries.Goals as goal
+
+pub entry_count-count-requires : goal.entry_count-count-requires
+entry_count-count-requires c = (c.requires.0.below, (sound_canonical _ c.requires.0.sound).whole)
+
+pub loop-k-init : goal.loop-k-init
+loop-k-init c =
+    let args = c.args in (
+      search rules,
+      c.entry_count-count.ensures ∙ count_is args.t.now args.i c.requires.0,
+      none_written args.t.now args.i c.requires.0 args.at args.into.now c.requires.1,
+    )
+
+pub entry_at-e-requires : goal.entry_at-e-requires
+entry_at-e-requires c =
+    (c.requires.0.below, (sound_canonical _ c.requires.0.sound).whole, omega (arith, few c.args.t.now c.args.i c.requires.0))
+
+pub put_entry-to-requires : goal.put_entry-to-requires
+put_entry-to-requires c =
+    let args = c.args in
+    let loop = c.loop-k in
+    let e = c.entry_at-e.ensures in
+    let f = entry-fits args.t.now args.i c.requires.0 args.at args.into.now c.requires.1 loop.k loop.into loop.to
+    loop.invariant.2 (omega arith) in
+    let r = written-room args.t.now args.i c.requires.0 args.at args.into.now c.requires.1 loop.k loop.into loop.to
+    loop.invariant.2 (omega arith) in
+    let n = few args.t.now args.i c.requires.0 in
+    (omega arith, omega arith, omega (arith, loop.invariant.2.short))
+
+pub loop-k-preserved : goal.loop-k-preserved
+loop-k-preserved c =
+    let args = c.args in
+    let loop = c.loop-k in
+    let e = c.entry_at-e in (
+      omega arith,
+      loop.invariant.1,
+      one_more args.t.now args.i c.requires.0 args.at args.into.now c.requires.1 loop.k
+          loop.into loop.to loop.invariant.2 (omega arith) e.result.access e.result.domain e.ensures.0 e.ensures.1
+          c.put_entry-to.new.into c.put_entry-to.result c.put_entry-to.ensures,
+    )
+
+pub shape_of-into : goal.shape_of-into
+shape_of-into c =
+    let args = c.args in
+    let loop = c.loop-k in
+    let n = few args.t.now args.i c.requires.0 in
+    let w = all-written args.t.now args.i c.requires.0 args.at args.into.now c.requires.1 loop.k loop.into loop.to
+    loop.invariant.2 (omega arith) in
+    ap length w.bytes ∙ length-paste args.at _ args.into.now (omega (arith, w.behind, loop.invariant.2.short))
+
+pub returns : goal.returns
+returns c =
+    let args = c.args in
+    let loop = c.loop-k in
+    let n = few args.t.now args.i c.requires.0 in
+    let w = all-written args.t.now args.i c.requires.0 args.at args.into.now c.requires.1 loop.k loop.into loop.to
+    loop.invariant.2 (omega arith) in
+    w

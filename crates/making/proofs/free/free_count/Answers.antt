@@ -1,0 +1,31 @@
+-- What is counted so far and the free slots from there on make the whole count.
+use mathlib.Core.Logic.{⊎_elim}
+use mathlib.Core.Path.{sym, ◌∙◌, ◌≡◌}
+use Prim.Native.Nat.{◌<◌, ◌+◌, ◌-◌, ◌≤◌}
+use native.Mathlib.Omega.{arith}
+use lib.ListN.{length, drop}
+use borrow.Author.Rules.{rules}
+use borrow.Author.Tests.{not-true, not-false}
+use Rattle.rules.proofs.Slots.{length-table_of}
+use Rattle.rules.specs.Entries.{free_count}
+use Rattle.rules.specs.Layout.{table_of}
+use Rattle.rules.specs.Size.{slots}
+use Rattle.making.proofs.FreeSlots.{count_here, count_further, count_over}
+use Rattle.making.proofs.free.free_count.Goals as goal
+
+pub loop-i-preserved : goal.loop-i-preserved
+loop-i-preserved c =
+    let i = c.loop-i.i in
+    let s = c.args.t.now in
+    let ts = table_of s in
+    let h : i < length ts = omega (arith, length-table_of s) in
+    let used = c.used.ensures in
+    ⊎_elim
+    (λ w. omega (arith, count_here ts i h (sym used ∙ not-true _ w.0.taken)))
+    (λ w. omega (arith, count_further ts i h (sym used ∙ not-false _ w.0.left)))
+    c.if-not-used.branch
+
+pub returns : goal.returns
+returns c =
+    let s = c.args.t.now in
+    omega (arith, length-table_of s, count_over (table_of s) c.loop-i.i (rw (length-table_of s) c.loop-i-test.false))

@@ -1,0 +1,37 @@
+-- The marked slots before the one in turn are freed, the others as they were.
+use mathlib.Core.Logic.{⊎_elim}
+use mathlib.Core.Path.{ap, ◌∙◌, ◌≡◌, refl}
+use Prim.Native.Nat.{◌<◌, ◌-◌, ◌≤◌}
+use native.Mathlib.Omega.{arith}
+use lib.ListN.{length, take}
+use borrow.Author.Rules.{rules}
+use Rattle.rules.specs.Layout.{table_of, table_bytes}
+use Rattle.rules.specs.Size.{slots}
+use Rattle.making.specs.Marks.{swept}
+use Rattle.making.proofs.SweptLaws.{swept_canonical, swept_none, swept_here, swept_further, swept_all}
+use Rattle.making.proofs.removing.sweep.Goals as goal
+
+pub loop-j-init : goal.loop-j-init
+loop-j-init c = let args = c.args in (omega arith, refl, swept_none args.marks.now args.t.now c.requires.0)
+
+pub clear_slot-requires : goal.clear_slot-requires
+clear_slot-requires c = let turn = c.loop-j in (omega arith, (swept_canonical _ _ turn.j turn.invariant.2).0)
+
+pub loop-j-preserved : goal.loop-j-preserved
+loop-j-preserved c =
+    let args = c.args in
+    let marks = args.marks.now in
+    let s = args.t.now in
+    let j = c.loop-j.j in
+    let inv = c.loop-j.invariant in
+    let h : j < length marks = omega arith in
+    ⊎_elim
+    (λ w. (omega arith, ap length w.5 ∙ (w.2.kept.0 ∙ inv.1), w.5 ∙ swept_here marks s j h w.0.taken inv.2 w.2.ensures))
+    (λ w. (omega arith, ap length w.1 ∙ inv.1, w.1 ∙ swept_further marks s j h w.0.left inv.2))
+    c.if-marks-j.branch
+
+pub shape_of-t : goal.shape_of-t
+shape_of-t c = c.loop-j.invariant.1
+
+pub returns : goal.returns
+returns c = let turn = c.loop-j in swept_all _ _ turn.j (omega arith) turn.invariant.2

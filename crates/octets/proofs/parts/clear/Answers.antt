@@ -1,0 +1,27 @@
+-- After i turns the first i of the zeros are in place.
+use mathlib.Core.Path.{◌≡◌, refl, sym}
+use Prim.Native.Nat.{◌≤◌, ◌-◌}
+use native.Mathlib.Omega.{arith}
+use lib.ListN.{length, take, replicate, length-replicate, length-set}
+use Rattle.rules.specs.Octets.{paste}
+use Rattle.rules.proofs.Paste.{paste_nil, paste-zero, paste_all}
+use Rattle.octets.proofs.parts.clear.Goals as goal
+
+pub loop-i-init : goal.loop-i-init
+loop-i-init c = (omega arith, (refl, sym (paste_nil _ _)))
+
+pub loop-i-preserved : goal.loop-i-preserved
+loop-i-preserved c =
+    (
+      omega arith,
+      (
+        simp length-set (omega arith),
+        paste-zero _ c.args.n _ c.loop-i.i c.loop-i.invariant.1.1 (omega arith) (omega arith),
+      ),
+    )
+
+pub shape_of-into : goal.shape_of-into
+shape_of-into c = omega arith
+
+pub returns : goal.returns
+returns c = paste_all _ _ _ c.loop-i.i (rw length-replicate c.loop-i-test.false) c.loop-i.invariant.1.1

@@ -1,0 +1,27 @@
+-- A full path other than the root has a slash before each name; those passed and those to come are counted.
+use mathlib.Core.Path.{◌≡◌}
+use mathlib.Core.Logic.{⊎_elim}
+use Prim.Native.Nat.{◌+◌, ◌≤◌, ◌-◌}
+use native.Mathlib.Omega.{arith}
+use lib.ListN.{length, drop}
+use Rattle.paths.proofs.PieceLaws.{slashes, slash_here, no_slash_here, slashes_over, depth-root, depth_slashes}
+use Rattle.paths.proofs.names.depth.Goals as goal
+
+pub returns-then-s-eq1 : goal.returns-then-s-eq1
+returns-then-s-eq1 c = depth-root _ c.requires c.if-s-eq1.true
+
+pub loop-i-init : goal.loop-i-init
+loop-i-init c = (omega arith, omega arith, omega arith)
+
+pub loop-i-preserved : goal.loop-i-preserved
+loop-i-preserved c =
+    let s = c.args.s.now in
+    let h = c.loop-i-test.true in
+    ⊎_elim (λ w. omega (arith, slash_here s c.loop-i.i h w.0.taken))
+    (λ w. omega (arith, no_slash_here s c.loop-i.i h w.0.left)) c.if-s-i-eq47.branch
+
+pub returns : goal.returns
+returns c =
+    let d = depth_slashes _ c.requires c.if-s-eq1.false in
+    let e = slashes_over c.args.s.now _ c.loop-i-test.false in
+    omega arith

@@ -1,0 +1,36 @@
+-- The first string is the path, if it is one, and the rest the value.
+use mathlib.Core.Path.{◌≡◌, ap, sym, ◌∙◌}
+use mathlib.Core.List.{[], ◌∷◌}
+use types.Run.{miss}
+use native.Mathlib.Omega.{arith}
+use Rattle.payload.specs.Cursor.{taken_at}
+use Rattle.payload.specs.declared.cursor.Taken.TheVariants.{String}
+use Rattle.payload.proofs.CursorLaws.{string-told, first-told, nothing_told}
+use Rattle.payload.proofs.AskLaws.{write_other, write_not, write_means}
+use borrow.Author.Rules.{rules}
+use Rattle.payload.proofs.asks.write.Goals as goal
+use Rattle.payload.proofs.asks.write.Goals.{In-String}
+
+found : (c : In-String) → taken_at c.args.s.now 0
+    ≡ String c.in-String.start c.in-String.end c.in-String.next
+found c =
+    sym (ap (taken_at _) c.new.ensures) ∙ (sym c.next.ensures ∙ c.in-String.is)
+
+pub returns-in_default : goal.returns-in_default
+returns-in_default c =
+    write_other _ (nothing_told _ _ (λ start end next h.
+    miss (1 ∷ 2 ∷ []) 0 tt (rw (c.next.ensures ∙ (ap (taken_at _) c.new.ensures ∙ h)) at c.in_default.in_default-own.keys2)))
+
+pub named-requires : goal.named-requires
+named-requires c = omega (arith, (string-told _ _ _ _ _ (found (goal.at.named-requires c).In-String)).string.high)
+
+pub returns-in_default-named : goal.returns-in_default-named
+returns-in_default-named c =
+    write_not _ _ (sym c.named.ensures ∙ c.in_default-named.is) (first-told _ _ _ _ (found (goal.at.returns-in_default-named c).In-String))
+
+pub returns : goal.returns
+returns c =
+    let f = found (goal.at.returns c).In-String in
+    let t = string-told _ _ _ _ _ f in
+    let is-path = sym c.named.ensures ∙ c.in-At.is in
+    write_means _ _ _ t.string.high is-path _ _ t.goes_on (first-told _ _ _ _ f) (c.asking.ensures _)

@@ -1,0 +1,41 @@
+-- The first string is the path, if it is one, and the others are entries, if they are.
+use mathlib.Core.Path.{◌≡◌, ap, sym, ◌∙◌}
+use mathlib.Core.List.{[], ◌∷◌}
+use types.Run.{miss}
+use native.Mathlib.Omega.{arith}
+use Rattle.payload.specs.Cursor.{taken_at}
+use Rattle.payload.specs.declared.cursor.Taken.TheVariants.{String}
+use Rattle.payload.proofs.CursorLaws.{string-told, nothing_told}
+use Rattle.payload.proofs.SettingLaws.{setting_other, setting_not, setting_unnamed, setting_means}
+use borrow.Author.Rules.{rules}
+use Rattle.payload.proofs.entries.set_perms.Goals as goal
+use Rattle.payload.proofs.entries.set_perms.Goals.{In-String}
+
+found : (c : In-String) → taken_at c.args.s.now 0
+    ≡ String c.in-String.start c.in-String.end c.in-String.next
+found c =
+    sym (ap (taken_at _) c.new.ensures) ∙ (sym c.next.ensures ∙ c.in-String.is)
+
+pub returns-in_default : goal.returns-in_default
+returns-in_default c =
+    setting_other _ (nothing_told _ _ (λ start end next h.
+    miss (1 ∷ 2 ∷ []) 0 tt (rw (c.next.ensures ∙ (ap (taken_at _) c.new.ensures ∙ h)) at c.in_default.in_default-own.keys2)))
+
+pub permissions-requires : goal.permissions-requires
+permissions-requires c = let t = string-told _ _ _ _ _ (found (goal.at.permissions-requires c).In-String) in omega arith
+
+pub returns-in_default-permissions : goal.returns-in_default-permissions
+returns-in_default-permissions c =
+    setting_not _ _ _ _ (found (goal.at.returns-in_default-permissions c).In-String) (sym c.permissions.ensures ∙ c.in_default-permissions.is)
+
+pub named-requires : goal.named-requires
+named-requires c = let t = string-told _ _ _ _ _ (found (goal.at.named-requires c).In-String) in omega arith
+
+pub returns-in_default-named : goal.returns-in_default-named
+returns-in_default-named c =
+    setting_unnamed _ _ _ _ (found (goal.at.returns-in_default-named c).In-String) (sym c.named.ensures ∙ c.in_default-named.is)
+
+pub returns : goal.returns
+returns c =
+    let are-entries = sym c.permissions.ensures ∙ c.in-Are.is in
+    setting_means _ _ _ _ (found (goal.at.returns c).In-String) _ (sym c.named.ensures ∙ c.in-At.is) _ _ are-entries (c.setting.ensures _)

@@ -1,0 +1,49 @@
+-- The slots before i reach the root in time, and what is known of them is the length of their ways.
+use mathlib.Core.Path.{◌≡◌, refl, sym, ◌∙◌}
+use mathlib.Core.Logic.{⊎_elim}
+use Prim.Native.Nat.{◌≤◌, ◌-◌}
+use native.Mathlib.Omega.{arith}
+use borrow.Author.Rules.{rules}
+use Rattle.rules.specs.Size.{slots}
+use Rattle.soundness.specs.Parts.{every}
+use Rattle.soundness.specs.Walks.{chained}
+use Rattle.soundness.proofs.TableLaws.{every_further, every_stop, every-ended, lost_chained, root-chained, root_level, root-count}
+use Rattle.soundness.proofs.TableLaws.{unused_chained, Levels, levels-set, levels-lent, none_levelled}
+use Rattle.soundness.proofs.chain.all_chained.Goals as goal
+
+pub loop-i-init : goal.loop-i-init
+loop-i-init c = (omega arith, refl, none_levelled _)
+
+pub used-requires : goal.used-requires
+used-requires c = (omega arith, c.requires.whole)
+
+pub walk-way-requires : goal.walk-way-requires
+walk-way-requires c =
+    (omega arith, omega arith, levels-lent _ c.loop-i.known _ c.requires c.loop-i.invariant.2 refl)
+
+pub returns-in_default : goal.returns-in_default
+returns-in_default c =
+    every_stop (chained _) slots c.loop-i.i c.loop-i-test.true
+    (lost_chained _ _ _ _ _ c.walk-way.ensures (sym c.used.ensures ∙ c.if-used.true) c.in_default.is)
+    ∙ sym c.loop-i.invariant.1
+
+pub overflow_add-known : goal.overflow_add-known
+overflow_add-known c = record { fits = omega (arith, root-count _ _ _ _ _ c.walk-way.ensures _ _ c.in-Root.is) }
+
+pub loop-i-preserved : goal.loop-i-preserved
+loop-i-preserved c =
+    let loop = c.loop-i in
+    let t = c.args.t.now in
+    let i = loop.i in
+    let h = c.loop-i-test.true in (
+      omega arith,
+      loop.invariant.1
+          ∙ every_further (chained t) slots i h
+          (⊎_elim (λ w. root-chained t i _ _ _ w.3.ensures _ _ w.6.given.1 (sym c.used.ensures ∙ w.0.taken))
+          (λ w. unused_chained t i (sym c.used.ensures ∙ w.0.left)) c.if-used.branch),
+      ⊎_elim (λ w. rw w.8 (levels-set t loop.known i _ h (root_level t i _ _ _ w.3.ensures _ _ w.6.given.1) loop.invariant.2))
+          (λ w. rw w.1 loop.invariant.2) c.if-used.branch,
+    )
+
+pub returns : goal.returns
+returns c = every-ended (chained _) slots c.loop-i.i c.loop-i-test.false ∙ sym c.loop-i.invariant.1

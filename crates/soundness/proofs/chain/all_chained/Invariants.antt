@@ -1,0 +1,18 @@
+-- The slots before i reach the root in time, and what is known of them is the length of their ways.
+use mathlib.Core.Path.{◌≡◌, refl, sym, ◌∙◌}
+use mathlib.Core.Logic.{⊎_elim}
+use Prim.Native.Nat.{◌≤◌, ◌-◌}
+use native.Mathlib.Omega.{arith}
+use borrow.Author.Rules.{rules}
+use Rattle.rules.specs.Size.{slots}
+use Rattle.soundness.specs.Parts.{every}
+use Rattle.soundness.specs.Walks.{chained}
+use Rattle.soundness.proofs.TableLaws.{every_further, every_stop, every-ended, lost_chained, root-chained, root_level, root-count}
+use Rattle.soundness.proofs.TableLaws.{unused_chained, Levels, levels-set, levels-lent, none_levelled}
+use Rattle.soundness.proofs.chain.all_chained.Given as goal
+
+abbrev pub invariant-loop-i : goal.invariant-loop-i
+invariant-loop-i l = (l.i ≤ slots) × (every (chained l.t) slots 0 ≡ every (chained l.t) (slots - l.i) l.i) × Levels l.t l.known
+
+abbrev pub decreases-loop-i : goal.decreases-loop-i
+decreases-loop-i l = slots - l.i

@@ -1,0 +1,85 @@
+-- Of two siblings with one name the later finds the earlier's key among those met, so no pair that is passed over has one name.
+use Rattle.rules.specs.Size.{slots}
+use Rattle.slots.specs.Slot.{slot_at}
+use Rattle.soundness.proofs.KeyLaws.{key_used}
+use mathlib.Core.Path.{◌≡◌, refl, sym, ◌∙◌}
+use mathlib.Core.Bool.{true}
+use mathlib.Core.Logic.{⊎_elim}
+use Prim.Native.Nat.{◌≤◌, ◌-◌}
+use native.Mathlib.Omega.{arith}
+use Rattle.soundness.proofs.PairLaws.{row_whole, Taken, taken_next, met_key, Keyed, Apart, Row, keyed_next, apart_next, row_differ, row_names}
+use Rattle.soundness.proofs.PairLaws.{row_new, all_apart, pair_found}
+use Rattle.soundness.proofs.pairs.all_distinct.Goals as goal
+
+pub pairs-init : goal.pairs-init
+pairs-init c = (
+  omega arith,
+  refl,
+  record { long = refl; each = λ j l. absurd (omega arith) },
+  λ a b n m l h p q. absurd (omega arith),
+  record { long = refl; each = λ j l. absurd (omega arith) },
+)
+
+pub key_of-key-requires : goal.key_of-key-requires
+key_of-key-requires c = (omega arith, c.requires)
+
+pub place_of-place-requires : goal.place_of-place-requires
+place_of-place-requires c = tt
+
+pub may_clash-requires : goal.may_clash-requires
+may_clash-requires c = (c.place_of-place.ensures.1, c.pairs.invariant.2.long)
+
+pub loop-j-init : goal.loop-j-init
+loop-j-init c = (omega arith, c.pairs.invariant.1, λ a n m l p q. absurd (omega arith))
+
+pub same_names-requires : goal.same_names-requires
+same_names-requires c =
+    let t = c.args.t.now in
+    let z = met_key _ _ _ c.key_of-key.result (sym c.may_clash.ensures ∙ c.if-may_clash.true) in (
+      omega arith,
+      c.pairs-test.true,
+      c.requires,
+      key_used (slot_at t c.loop-j.j) c.key_of-key.result
+          (sym c.if-keys-j.true ∙ c.pairs.invariant.2.each c.loop-j.j c.loop-j-test.true) z,
+      key_used (slot_at t c.pairs.i) c.key_of-key.result c.key_of-key.ensures z,
+    )
+
+pub loop-j-preserved : goal.loop-j-preserved
+loop-j-preserved c =
+    let loop = c.loop-j in
+    let t = c.args.t.now in (
+      omega arith,
+      loop.invariant.1,
+      ⊎_elim (λ w. row_names t c.pairs.i loop.j (sym w.1.ensures ∙ w.2.left) loop.invariant.2)
+          (λ w. row_differ t c.pairs.keys c.pairs.i loop.j c.key_of-key.result c.pairs.invariant.2
+          c.key_of-key.ensures c.loop-j-test.true w.left loop.invariant.2) c.if-keys-j.branch,
+    )
+
+pub bounds-taken-place : goal.bounds-taken-place
+bounds-taken-place c = c.place_of-place.ensures.1
+
+pub pairs-preserved : goal.pairs-preserved
+pairs-preserved c =
+    let t = c.args.t.now in (
+      omega arith,
+      ⊎_elim (λ w. w.3 ∙ w.1.inv.1) (λ w. w.1 ∙ c.pairs.invariant.1) c.if-may_clash.branch,
+      keyed_next t c.pairs.keys c.pairs.i c.key_of-key.result c.pairs-test.true c.key_of-key.ensures
+          c.pairs.invariant.2,
+      apart_next t c.pairs.i c.pairs.invariant.3 (⊎_elim
+          (λ w. row_whole t c.pairs.i w.1.j w.1.inv.0 w.2.left w.1.inv.2)
+          (λ w. row_new t c.pairs.taken c.pairs.keys c.pairs.i c.key_of-key.result c.place_of-place.result
+          c.pairs-test.true
+          c.pairs.invariant.2 c.pairs.invariant.4 c.key_of-key.ensures c.place_of-place.ensures.0
+          (sym c.may_clash.ensures ∙ w.0.left)) c.if-may_clash.branch),
+      taken_next t c.pairs.taken c.pairs.i c.key_of-key.result c.place_of-place.result c.key_of-key.ensures
+          c.place_of-place.ensures.0 c.place_of-place.ensures.1 c.pairs.invariant.4,
+    )
+
+pub returns-after-pairs : goal.returns-after-pairs
+returns-after-pairs c = c.pairs.invariant.1 ∙ all_apart _ c.pairs.i c.pairs-test.false c.pairs.invariant.3
+
+pub returns-then-same_names : goal.returns-then-same_names
+returns-then-same_names c =
+    pair_found c.args.t.now c.pairs.keys c.pairs.i c.loop-j.j c.key_of-key.result c.pairs.invariant.2
+    c.key_of-key.ensures (met_key _ _ _ c.key_of-key.result (sym c.may_clash.ensures ∙ c.if-may_clash.true))
+    c.loop-j-test.true c.if-keys-j.true (sym c.same_names.ensures ∙ c.if-same_names.true)

@@ -1,0 +1,35 @@
+-- The places before the one in turn are done, the others as they were.
+use mathlib.Core.Path.{◌≡◌, refl}
+use Prim.Native.Nat.{◌-◌}
+use native.Mathlib.Omega.{arith}
+use Rattle.rules.specs.Size.{mostTransactions}
+use Rattle.rules.specs.Layout.{transactionsOf}
+use Rattle.rules.specs.World.{withoutTransactions}
+use Rattle.domains.specs.Entry.{droppedIf}
+use Rattle.transactions.specs.Transaction.{heldBy, KeptTransactions}
+use Rattle.domains.proofs.Search.{sweptBefore}
+use Rattle.transactions.proofs.Written.{swept-transaction, swept-transactions}
+use Rattle.transactions.proofs.changes.remove_of.Goals as goal
+
+pub loop-i-init : goal.loop-i-init
+loop-i-init c = (c.requires, refl)
+
+pub close_held-requires : goal.close_held-requires
+close_held-requires c = (c.loop-i-test.true, c.loop-i.invariant.0)
+
+pub loop-i-preserved : goal.loop-i-preserved
+loop-i-preserved c =
+    let args = c.args in
+    let inv = c.loop-i.invariant in
+    let xs = transactionsOf args.s.now in
+    swept-transaction _ inv.0 _ c.loop-i-test.true (heldBy args.c) xs inv.1 _ c.close_held.ensures
+
+pub shape_of-s : goal.shape_of-s
+shape_of-s c = omega (arith, c.loop-i.invariant.0.whole, c.requires.whole)
+
+pub returns : goal.returns
+unfolding withoutTransactions heldBy
+returns c =
+    let args = c.args in
+    let inv = c.loop-i.invariant in
+    swept-transactions (heldBy args.c) _ args.s.now inv.0 _ c.loop-i-test.false inv.1

@@ -1,0 +1,40 @@
+-- The path that was read fits, and the change that was read is that of the table.
+use mathlib.Core.Path.{sym, ap, ◌∙◌}
+use borrow.Author.Tests.{not-true, not-false}
+use Rattle.rules.specs.Sound.{good_change}
+use Rattle.transactions.proofs.ChangeLaws.{change-fits}
+use Rattle.transactions.proofs.Good.{path-full, change_unfit, given_is}
+use Rattle.transactions.proofs.checks.change_good.Goals as goal
+
+pub path-p-requires : goal.path-p-requires
+path-p-requires c = c.requires
+
+pub fits-requires : goal.fits-requires
+fits-requires c =
+    let args = c.args in
+    path-full _ (change-fits args.s.now args.k args.j c.requires) _ c.path-p.ensures
+
+pub returns-then-not-fits : goal.returns-then-not-fits
+returns-then-not-fits c =
+    let args = c.args in
+    let fits = change-fits args.s.now args.k args.j c.requires in
+    sym (change_unfit _ fits _ c.path-p.ensures (sym c.fits.ensures ∙ c.if-not-fits.true))
+
+pub removed-requires : goal.removed-requires
+removed-requires c = c.requires
+
+pub parents-requires : goal.parents-requires
+parents-requires c = c.requires
+
+pub parents_good-requires : goal.parents_good-requires
+parents_good-requires c =
+    let args = c.args in
+    let full = path-full _ (change-fits args.s.now args.k args.j c.requires) _ c.path-p.ensures in
+    (full, sym c.fits.ensures ∙ c.if-not-fits.false)
+
+pub returns : goal.returns
+returns c =
+    let args = c.args in
+    let fits = change-fits args.s.now args.k args.j c.requires in
+    c.parents_good.ensures
+    ∙ ap good_change (given_is _ fits _ c.path-p.ensures _ _ c.removed.ensures c.parents.ensures)

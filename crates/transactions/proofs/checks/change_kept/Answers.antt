@@ -1,0 +1,50 @@
+-- A change is its fields and its full path, and zero behind that.
+use mathlib.Core.Path.{sym, ◌∙◌}
+use native.Mathlib.Omega.{arith}
+use borrow.Author.Tests.{not-true, not-false}
+use borrow.Author.Rules.{rules}
+use Rattle.transactions.proofs.ChangesKept.{change-marked, change_over, change_unfull, change-rest}
+use Rattle.transactions.proofs.checks.change_kept.Goals as goal
+
+pub two-fields-requires : goal.two-fields-requires
+two-fields-requires c = omega (arith, c.requires)
+
+pub returns-then-fields-ne0 : goal.returns-then-fields-ne0
+returns-then-fields-ne0 c =
+    let fields = c.two-fields.ensures in
+    sym (change-marked c.args.s.now c.args.at fields.bytes c.requires (rw fields.value at c.if-fields-ne0.true))
+
+pub returns-then-n-gt-LONGEST_PATH : goal.returns-then-n-gt-LONGEST_PATH
+returns-then-n-gt-LONGEST_PATH c =
+    let fields = c.two-fields.ensures in
+    sym (change_over c.args.s.now c.args.at fields.bytes c.requires (rw fields.value at c.if-n-gt-LONGEST_PATH.true))
+
+pub overflow_add-from : goal.overflow_add-from
+overflow_add-from c = omega (arith, c.requires)
+
+pub overflow_add-from-2 : goal.overflow_add-from-2
+overflow_add-from-2 c = omega (arith, c.requires)
+
+pub slice_bounds-is_full-end : goal.slice_bounds-is_full-end
+slice_bounds-is_full-end c = omega (arith, c.requires)
+
+pub returns-then-not-is_full : goal.returns-then-not-is_full
+returns-then-not-is_full c =
+    let fields = c.two-fields.ensures in
+    let v = fields.value in
+    let full = sym c.is_full.ensures ∙ c.if-not-is_full.true in
+    sym (change_unfull c.args.s.now c.args.at fields.bytes c.requires (rw v at c.if-n-gt-LONGEST_PATH.false) (rw v at full))
+
+pub rest_zero-requires : goal.rest_zero-requires
+rest_zero-requires c =
+    (c.if-n-gt-LONGEST_PATH.false, omega (arith, c.requires))
+
+pub returns : goal.returns
+returns c =
+    let fields = c.two-fields.ensures in
+    let v = fields.value in
+    let full = sym c.is_full.ensures ∙ c.if-not-is_full.false in
+    let rest = c.rest_zero.ensures in
+    (rw v at rest)
+    ∙ sym (change-rest c.args.s.now c.args.at fields.bytes c.requires
+    (rw v at c.if-fields-ne0.false) (rw v at c.if-n-gt-LONGEST_PATH.false) (rw v at full))

@@ -1,0 +1,41 @@
+-- The tests are those of an open transaction, in its order.
+use mathlib.Core.Path.{sym, ap, ◌∙◌}
+use borrow.Author.Tests.{not-true, not-false}
+use Rattle.rules.specs.Domain.{Connection, domain_of}
+use Rattle.rules.specs.Layout.{domains_of}
+use Rattle.rules.specs.Sound.{known}
+use Rattle.transactions.proofs.Good.{open_free, open_unknown, open_known}
+use Rattle.transactions.proofs.checks.place_good.Goals as goal
+
+pub is_open-requires : goal.is_open-requires
+is_open-requires c = let pre = c.requires in (pre.0, pre.1.whole)
+
+pub returns-then-not-is_open : goal.returns-then-not-is_open
+returns-then-not-is_open c = sym (open_free _ _ (sym c.is_open.ensures ∙ c.if-not-is_open.true))
+
+pub holder-requires : goal.holder-requires
+holder-requires c =
+    let pre = c.requires in
+    record { below = pre.0; kept = pre.1; used = sym c.is_open.ensures ∙ c.if-not-is_open.false }
+
+pub known_sender-requires : goal.known_sender-requires
+known_sender-requires c = c.requires.2
+
+pub returns-then-not-known_sender : goal.returns-then-not-known_sender
+returns-then-not-known_sender c =
+    let ds = domains_of c.args.domains.now in
+    let is_open_lem = sym c.is_open.ensures ∙ c.if-not-is_open.false in
+    let whose = ap (λ (o : Connection). known (domain_of o) ds) (sym c.holder.ensures) in
+    sym (open_unknown _ _ is_open_lem (whose ∙ sym c.known_sender.ensures ∙ c.if-not-known_sender.true))
+
+pub changes_good-requires : goal.changes_good-requires
+changes_good-requires c =
+    let pre = c.requires in
+    record { below = pre.0; kept = pre.1; used = sym c.is_open.ensures ∙ c.if-not-is_open.false }
+
+pub returns : goal.returns
+returns c =
+    let ds = domains_of c.args.domains.now in
+    let is_open_lem = sym c.is_open.ensures ∙ c.if-not-is_open.false in
+    let whose = ap (λ (o : Connection). known (domain_of o) ds) (sym c.holder.ensures) in
+    c.changes_good.ensures ∙ sym (open_known _ _ is_open_lem (whose ∙ sym c.known_sender.ensures ∙ c.if-not-known_sender.false))

@@ -1,0 +1,60 @@
+-- A closed place is zero; an open one is its fields and its changes, and zero behind these.
+use mathlib.Core.Path.{sym, ◌∙◌}
+use native.Mathlib.Omega.{arith}
+use borrow.Author.Tests.{not-true, not-false}
+use borrow.Author.Rules.{rules}
+use Rattle.octets.proofs.Bytes.{bytes-known}
+use Rattle.domains.proofs.Tests.{and_first, and_rest}
+use Rattle.transactions.proofs.Kept.{free_same, kept-marked, kept_many, kept-parts}
+use Rattle.transactions.proofs.checks.place_kept.Goals as goal
+
+pub returns-then-s-at-lt128 : goal.returns-then-s-at-lt128
+returns-then-s-at-lt128 c =
+    let s = c.args.s.now in
+    let bytes = bytes-known s c.type_inv.s in
+    c.all_zero.ensures ∙ free_same s _ c.requires.0 bytes c.requires.1 c.if-s-at-lt128.true
+
+pub returns-then-s-at-ne0 : goal.returns-then-s-at-ne0
+returns-then-s-at-ne0 c =
+    let s = c.args.s.now in
+    let bytes = bytes-known s c.type_inv.s in
+    sym (kept-marked s _ c.requires.0 bytes c.requires.1 c.if-s-at-lt128.false c.if-s-at-ne0.true)
+
+pub returns-then-n-gt-MOST_CHANGES : goal.returns-then-n-gt-MOST_CHANGES
+returns-then-n-gt-MOST_CHANGES c =
+    let s = c.args.s.now in
+    let bytes = bytes-known s c.type_inv.s in
+    sym (kept_many s _ c.requires.0 bytes c.requires.1 c.if-s-at-lt128.false c.if-n-gt-MOST_CHANGES.true)
+
+pub changes_kept-requires : goal.changes_kept-requires
+changes_kept-requires c =
+    let few = c.if-n-gt-MOST_CHANGES.false in
+    let pre = c.requires in
+    (few, omega (arith, pre.0, pre.1, few))
+
+pub returns-then-not-changes_kept : goal.returns-then-not-changes_kept
+returns-then-not-changes_kept c =
+    let s = c.args.s.now in
+    let bytes = bytes-known s c.type_inv.s in
+    let parts = kept-parts s _ c.requires.0 bytes c.requires.1 c.if-s-at-lt128.false c.if-s-at-ne0.false c.if-n-gt-MOST_CHANGES.false in
+    sym (parts ∙ and_first _ _ (sym c.changes_kept.ensures ∙ c.if-not-changes_kept.true))
+
+pub overflow_add-at-3 : goal.overflow_add-at-3
+overflow_add-at-3 c =
+    let pre = c.requires in
+    omega (arith, pre.0)
+
+pub overflow_mul-n : goal.overflow_mul-n
+overflow_mul-n c = omega (arith, c.if-n-gt-MOST_CHANGES.false)
+
+pub rest_zero-requires : goal.rest_zero-requires
+rest_zero-requires c =
+    let pre = c.requires in
+    (omega (arith, c.if-n-gt-MOST_CHANGES.false), omega (arith, pre.0, pre.1))
+
+pub returns : goal.returns
+returns c =
+    let s = c.args.s.now in
+    let bytes = bytes-known s c.type_inv.s in
+    let parts = kept-parts s _ c.requires.0 bytes c.requires.1 c.if-s-at-lt128.false c.if-s-at-ne0.false c.if-n-gt-MOST_CHANGES.false in
+    c.rest_zero.ensures ∙ sym (parts ∙ and_rest _ _ (sym c.changes_kept.ensures ∙ c.if-not-changes_kept.false))

@@ -1,0 +1,25 @@
+-- The tests are those of sound entries, in their order.
+use mathlib.Core.Path.{sym, ◌∙◌}
+use borrow.Author.Tests.{eq-eqb, ne_eqb, not-true, not-false}
+use borrow.Author.Rules.{rules}
+use Rattle.transactions.specs.Checks.{sound_entries}
+use Rattle.transactions.proofs.Good.{kept_of}
+use Rattle.transactions.proofs.checks.sound_entries.Goals as goal
+
+pub returns-then-s-ne-TRANSACTIONS_SIZE : goal.returns-then-s-ne-TRANSACTIONS_SIZE
+unfolding sound_entries
+returns-then-s-ne-TRANSACTIONS_SIZE c = sym (rw (ne_eqb _ _ c.if-s-ne-TRANSACTIONS_SIZE.true))
+
+pub returns-then-not-kept : goal.returns-then-not-kept
+unfolding sound_entries
+returns-then-not-kept c =
+    sym (rw (eq-eqb _ _ c.if-s-ne-TRANSACTIONS_SIZE.false, sym c.kept.ensures ∙ c.if-not-kept.true))
+
+pub good-requires : goal.good-requires
+good-requires c =
+    (kept_of _ c.if-s-ne-TRANSACTIONS_SIZE.false (sym c.kept.ensures ∙ c.if-not-kept.false), c.requires)
+
+pub returns : goal.returns
+unfolding sound_entries
+returns c =
+    c.good.ensures ∙ sym (rw (eq-eqb _ _ c.if-s-ne-TRANSACTIONS_SIZE.false, sym c.kept.ensures ∙ c.if-not-kept.false))

@@ -1,0 +1,13 @@
+-- The holder is the number of the second and third byte.
+use native.Mathlib.Omega.{arith}
+use borrow.Author.Rules.{rules}
+use Rattle.transactions.proofs.Laws.{holder-read}
+use Rattle.transactions.proofs.places.holder.Goals as goal
+
+pub two-requires : goal.two-requires
+two-requires c = let pre = c.requires in omega (arith, pre.below, pre.kept.whole)
+
+pub returns : goal.returns
+returns c =
+    let pre = c.requires in
+    holder-read c.args.s.now _ pre.below c.two.ensures.bytes pre.kept.whole pre.used _ c.two.ensures

@@ -1,0 +1,33 @@
+-- A place is its fields, the path's field and the token's.
+use mathlib.Core.Path.{ap, ◌∙◌}
+use Prim.Native.Nat.{◌+◌, ◌*◌}
+use native.Mathlib.Omega.{arith}
+use borrow.Author.Rules.{rules}
+use Rattle.rules.specs.Size.{watchFieldsSize, watchSize}
+use Rattle.rules.specs.Octets.{paste}
+use Rattle.watches.proofs.Written.{put-watch}
+use Rattle.watches.proofs.changes.add.Goals as goal
+
+pub put_text-requires : goal.put_text-requires
+put_text-requires c = let pre = c.requires in (omega (arith, pre.1.whole, pre.0), pre.2.few)
+
+pub put_text-requires-2 : goal.put_text-requires-2
+put_text-requires-2 c =
+    let pre = c.requires in
+    (omega (arith, pre.1.whole, pre.0), pre.2.path)
+
+pub put_fields-requires : goal.put_fields-requires
+put_fields-requires c =
+    let pre = c.requires in
+    (omega (arith, pre.1.whole, pre.0), pre.2.few)
+
+pub returns : goal.returns
+returns c =
+    let args = c.args in
+    let pre = c.requires in
+    let levels = c.levels.ensures in
+    let at = args.k * watchSize in
+    c.put_fields.ensures
+    ∙ ap (paste at _) (c.put_text-2.ensures ∙ ap (paste (at + watchFieldsSize) _) c.put_text.ensures)
+    ∙ put-watch args.s.now pre.1 args.k pre.0 args.c args.path.now args.relative args.depth args.token.now pre.2
+    (rw (← levels.0) levels.1) _ _ c.marks.ensures levels.0

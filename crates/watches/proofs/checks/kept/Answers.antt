@@ -1,0 +1,34 @@
+-- The table is the bytes of its places, so they are those of what they mean where each place's are.
+use mathlib.Core.Path.{refl}
+use Prim.Native.Nat.{◌-◌}
+use native.Mathlib.Omega.{arith}
+use Rattle.rules.specs.Size.{most_watches, watch_size}
+use Rattle.rules.specs.Layout.{watch_bytes, watch_in, watches_bytes, watches_of}
+use Rattle.domains.specs.Kept.{kept_at}
+use Rattle.domains.proofs.Turns.{Checked, every}
+use Rattle.domains.proofs.Rows.{rows_kept, rows_failed, rows_passed, rows_ended}
+use Rattle.watches.proofs.Bytes.{watch-wide}
+use Rattle.watches.proofs.checks.kept.Goals as goal
+
+pub loop-i-init : goal.loop-i-init
+loop-i-init c = refl
+
+pub place_kept-requires : goal.place_kept-requires
+place_kept-requires c = (c.loop-i-test.true, c.requires)
+
+pub returns-then-not-place_kept : goal.returns-then-not-place_kept
+unfolding watches_bytes watches_of kept_at
+returns-then-not-place_kept c =
+    rows_failed watch_bytes watch_in watch_size watch-wide most_watches c.args.s.now c.requires _ c.loop-i.invariant c.loop-i-test.true
+    c.place_kept.ensures c.if-not-place_kept.true-raw
+
+pub loop-i-preserved : goal.loop-i-preserved
+unfolding kept_at
+loop-i-preserved c =
+    rows_passed watch_bytes watch_in watch_size watch-wide most_watches c.args.s.now c.requires _ c.loop-i.invariant c.loop-i-test.true
+    c.place_kept.ensures c.if-not-place_kept.false-raw
+
+pub returns : goal.returns
+unfolding watches_bytes watches_of
+returns c =
+    rows_ended watch_bytes watch_in watch_size watch-wide most_watches c.args.s.now c.requires _ c.loop-i.invariant c.loop-i-test.false

@@ -1,0 +1,147 @@
+-- The tests are those of a good watch, in its order, on the fields as they were read.
+use mathlib.Core.Path.{◌≡◌, sym, ap, ◌∙◌}
+use mathlib.Core.Bool.{not}
+use native.Mathlib.Omega.{arith}
+use borrow.Author.Tests.{not-true, not-false}
+use borrow.Author.Rules.{rules}
+use Rattle.rules.specs.Domain.{Connection, domain_of}
+use Rattle.rules.specs.Layout.{domains_of}
+use Rattle.rules.specs.Sound.{known, no_nul, good_place}
+use Rattle.octets.specs.Two.{Bytes}
+use Rattle.octets.proofs.Bytes.{bytes-known}
+use Rattle.watches.specs.Watch.{watch_of, TakenWatch}
+use Rattle.watches.proofs.Good.{good_free, good-unknown, good-nul, good_misplaced, good_placed, read_same, place_agree}
+use Rattle.domains.proofs.places.known_sender.Reads as known-sender-reads
+use Rattle.watches.proofs.checks.good_place.Reads as good-place-reads
+use Rattle.watches.proofs.checks.no_nul_lem.Reads as no-nul-reads
+use Rattle.watches.proofs.places.depth.Reads as depth-reads
+use Rattle.watches.proofs.places.owner.Reads as owner-reads
+use Rattle.watches.proofs.places.path.Reads as path-reads
+use Rattle.watches.proofs.places.relative.Reads as relative-reads
+use Rattle.watches.proofs.places.token.Reads as token-reads
+use Rattle.watches.proofs.places.used.Reads as used-reads
+use Rattle.watches.proofs.places.watched_from.Reads as watched-from-reads
+use Rattle.watches.proofs.checks.place_good.Reads as reads
+use Rattle.watches.proofs.checks.place_good.Lts as lts
+use Rattle.watches.proofs.checks.place_good.Goals as goal
+
+-- what its calls are known by
+abbrev calls : lts.Claims
+calls = (
+  used-reads.Asked,
+  used-reads.Learnt,
+  owner-reads.Asked,
+  owner-reads.Learnt,
+  known-sender-reads.Asked,
+  known-sender-reads.Learnt,
+  token-reads.Asked,
+  token-reads.Learnt,
+  no-nul-reads.Asked,
+  no-nul-reads.Learnt,
+  path-reads.Asked,
+  path-reads.Learnt,
+  depth-reads.Asked,
+  depth-reads.Learnt,
+  relative-reads.Asked,
+  relative-reads.Learnt,
+  good-place-reads.Asked,
+  good-place-reads.Learnt,
+  watched-from-reads.Asked,
+  watched-from-reads.Learnt,
+)
+
+-- ── what is known behind each test ──
+bytes : (c : lts.Else1 calls reads.Pre reads.Post) → Bytes c.before.before.before.before.args.s.now
+bytes c = bytes-known c.before.before.before.before.args.s.now c.before.before.before.shared-slice-known.given
+
+a-watch : (c : lts.Else1 calls reads.Pre reads.Post) → let args = c.before.before.before.before.args in TakenWatch args.s.now args.k
+a-watch c =
+    let pre = c.before.before.before.before.requires in
+    record { below = pre.0; kept = pre.1; used = sym c.before.used.ensures ∙ not-false _ c.if1.false }
+
+owner-known : (c : lts.After-known-sender calls reads.Pre reads.Post) →
+    let args = c.before.before.before.before.before.before.args in
+    known (domain_of (watch_of args.s.now args.k).owner) (domains_of args.domains.now) ≡ c.known-sender.result
+owner-known c =
+    let ds = domains_of c.before.before.before.before.before.before.args.domains.now in
+    sym (c.known-sender.ensures ∙ ap (λ (o : Connection). known (domain_of o) ds) c.before.owner.ensures)
+
+token-clean : (c : lts.After-no-nul calls reads.Pre reads.Post) →
+    let args = c.before.before.before.before.before.before.before.before.before.args in
+    no_nul (watch_of args.s.now args.k).token ≡ c.no_nul_lem.result
+token-clean c = sym (c.no_nul_lem.ensures ∙ ap no_nul c.before.token.ensures)
+
+place-good : (c : lts.After-good-place calls reads.Pre reads.Post) →
+    let args = c.before.before.before.before.before.before.before.before.before.before.before.before.before.before.args in
+    let w = watch_of args.s.now args.k in good_place w.owner w.depth w.place ≡ c.good-place.result
+place-good c =
+    let at-depth = c.before.before in
+    let at_path = at-depth.before in
+    let at-owner = at_path.before.before.before.before.before.before in
+    let at-watch = at-owner.before in
+    let w = a-watch at-watch in
+    let own = at-owner.owner.ensures in
+    place_agree at-depth.depth.result _ _ w.below (bytes at-watch) w.kept w.used own at-depth.depth.ensures c.before.relative.ensures
+    at_path.path.ensures
+    ∙ sym c.good-place.ensures
+
+-- ── the tests ──
+pub returns-then-not-used : goal.returns-then-not-used
+returns-then-not-used c = sym (good_free _ _ _ (sym c.used.ensures ∙ c.if-not-used.true))
+
+pub used-requires : goal.used-requires
+used-requires c = let pre = c.requires in (pre.0, pre.1.whole)
+
+pub owner-c-requires : goal.owner-c-requires
+owner-c-requires c = a-watch c
+
+pub known_sender-requires : goal.known_sender-requires
+known_sender-requires c = c.requires.2
+
+pub returns-then-not-known_sender : goal.returns-then-not-known_sender
+returns-then-not-known_sender c = sym (good-unknown _ _ _ (a-watch (goal.at.returns-then-not-known_sender c).Else-not-used).used (owner-known (goal.at.returns-then-not-known_sender c).After-known_sender ∙ c.if-not-known_sender.true))
+
+pub token-t-requires : goal.token-t-requires
+token-t-requires c = a-watch (goal.at.token-t-requires c).Else-not-used
+
+pub returns-then-not-no_nul : goal.returns-then-not-no_nul
+returns-then-not-no_nul c =
+    let is_Known = owner-known (goal.at.returns-then-not-no_nul c).After-known_sender ∙ c.if-not-known_sender.false in
+    sym (good-nul _ _ _ (a-watch (goal.at.returns-then-not-no_nul c).Else-not-used).used is_Known (token-clean (goal.at.returns-then-not-no_nul c).After-no_nul ∙ c.if-not-no_nul.true))
+
+pub path-p-requires : goal.path-p-requires
+path-p-requires c = a-watch (goal.at.path-p-requires c).Else-not-used
+
+pub depth-requires : goal.depth-requires
+depth-requires c = a-watch (goal.at.depth-requires c).Else-not-used
+
+pub relative-requires : goal.relative-requires
+relative-requires c = a-watch (goal.at.relative-requires c).Else-not-used
+
+pub good_place-requires : goal.good_place-requires
+good_place-requires c =
+    let w = a-watch (goal.at.good_place-requires c).Else-not-used in
+    read_same _ _ w.below (bytes (goal.at.good_place-requires c).Else-not-used) w.kept w.used c.relative.ensures c.path-p.ensures
+
+pub returns-then-not-good_place : goal.returns-then-not-good_place
+returns-then-not-good_place c =
+    let watch = a-watch (goal.at.returns-then-not-good_place c).Else-not-used in
+    let is_Known = owner-known (goal.at.returns-then-not-good_place c).After-known_sender ∙ c.if-not-known_sender.false in
+    let is-clean = token-clean (goal.at.returns-then-not-good_place c).After-no_nul ∙ c.if-not-no_nul.false in
+    sym (good_misplaced _ _ _ watch.used is_Known is-clean (place-good (goal.at.returns-then-not-good_place c).After-good_place ∙ c.if-not-good_place.true))
+
+pub watched_from-requires : goal.watched_from-requires
+watched_from-requires c =
+    let watch = a-watch (goal.at.watched_from-requires c).Else-not-used in
+    (omega (arith, watch.below), watch.kept)
+
+pub returns : goal.returns
+returns c =
+    let watch = a-watch (goal.at.returns c).Else-not-used in
+    let is_Known = owner-known (goal.at.returns c).After-known_sender ∙ c.if-not-known_sender.false in
+    let is-clean = token-clean (goal.at.returns c).After-no_nul ∙ c.if-not-no_nul.false in
+    let is-placed = place-good (goal.at.returns c).After-good_place ∙ c.if-not-good_place.false in
+    let later = c.watched_from.ensures in
+    let path = c.path-p.ensures in
+    ap not (rw (c.owner-c.ensures, path, c.token-t.ensures) at later)
+    ∙ sym (good_placed _ _ _ watch.used is_Known is-clean is-placed)

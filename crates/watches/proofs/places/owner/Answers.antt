@@ -1,0 +1,13 @@
+-- The owner is the number of the third and fourth byte.
+use native.Mathlib.Omega.{arith}
+use borrow.Author.Rules.{rules}
+use Rattle.watches.proofs.Laws.{owner-read}
+use Rattle.watches.proofs.places.owner.Goals as goal
+
+pub two-requires : goal.two-requires
+two-requires c = let pre = c.requires in omega (arith, pre.below, pre.kept.whole)
+
+pub returns : goal.returns
+returns c =
+    let pre = c.requires in
+    owner-read c.args.s.now _ pre.below c.two.ensures.bytes pre.kept.whole pre.used _ c.two.ensures
