@@ -33,3 +33,7 @@ verdict-requires c = tt
 
 pub returns : goal.returns
 returns c = c.verdict.ensures ∙ verdict_right _ _ _ c.loop-i.invariant.2 c.loop-i-test.false
+
+pub bounds-steps-class : goal.bounds-steps-class
+unfolding classes
+bounds-steps-class c = classes_small (get_or c.args.s.now c.loop-i.i 0) (omega (arith, c.type_inv.s c.loop-i.i))
