@@ -39,9 +39,9 @@ place-good : (c : After-good_place) →
     let args = c.args in
     let w = watch_of args.s.now args.k in good_place w.owner w.depth w.place ≡ c.good_place.result
 place-good c =
-    let w = a-watch c.before.before.before.before.before.before.before.before.before.before in
+    let w : TakenWatch c.args.s.now c.args.k = record { below = c.requires.0; kept = c.requires.1; used = sym c.used.ensures ∙ c.if-not-used.false } in
     let own = c.owner-c.ensures in
-    place_agree c.depth.result _ _ w.below (bytes c.before.before.before.before.before.before.before.before.before.before) w.kept w.used own c.depth.ensures c.relative.ensures
+    place_agree c.depth.result _ _ w.below (bytes-known c.args.s.now c.type_inv.s) w.kept w.used own c.depth.ensures c.relative.ensures
     c.path-p.ensures
     ∙ sym c.good_place.ensures
 

@@ -32,7 +32,7 @@ rests-decide c =
     let n = c.path_length-n.ensures in
     let place = sym c.place_same.ensures ∙ c.if-not-place_same.false in
     let fields = sym c.fields_same.ensures ∙ c.if-not-fields_same.false in
-    kept_rests _ _ pre.0 (bytes c.before.before.before.before.before.before.before.before) pre.1 c.if-s-at-lt128.false (rw (← n) c.if-n-gt-LONGEST_PATH.false) (rw n at place) fields
+    kept_rests _ _ pre.0 (bytes-known c.args.s.now c.type_inv.s) pre.1 c.if-s-at-lt128.false (rw (← n) c.if-n-gt-LONGEST_PATH.false) (rw n at place) fields
 
 pub returns-then-s-at-lt128 : goal.returns-then-s-at-lt128
 returns-then-s-at-lt128 c =
