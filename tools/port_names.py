@@ -22,7 +22,7 @@ OTHERS = re.compile(r"(?m)^(?:pub )?use (?!Rattle\.(?!std\b))[^\n{]*\.\{([^}]*)\
 
 def texts(*ends):
     for folder, dirs, files in os.walk("."):
-        dirs[:] = sorted(d for d in dirs if d not in ("out", ".git", "target", "build", "changes"))
+        dirs[:] = sorted(d for d in dirs if d not in ("out", ".git", "target", "build") and os.path.join(folder, d) != "./docs/changes")
         for f in sorted(files):
             p = os.path.join(folder, f)[2:]
             if f.endswith(ends) and not p.startswith(("docs/PORT", "tools/")):

@@ -2,7 +2,7 @@
 use native.Mathlib.Omega.{arith}
 use lib.ListN.{length-set}
 use borrow.Author.Rules.{rules}
-use Rattle.domains.proofs.Laws.{put-domain}
+use Rattle.domains.proofs.Laws.{put_domain}
 use Rattle.domains.proofs.changes.add.Goals as goal
 
 pub bounds-s-at : goal.bounds-s-at
@@ -18,4 +18,4 @@ pub shape_of-s : goal.shape_of-s
 shape_of-s c = simp length-set
 
 pub returns : goal.returns
-returns c = put-domain c.args.s.now c.requires.2 c.args.k c.requires.0 c.args.d c.requires.1
+returns c = put_domain c.args.s.now c.requires.2 c.args.k c.requires.0 c.args.d c.requires.1

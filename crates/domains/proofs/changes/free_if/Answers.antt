@@ -3,7 +3,7 @@ use mathlib.Core.Path.{sym, ◌∙◌}
 use native.Mathlib.Omega.{arith}
 use lib.Dec.{eqb}
 use borrow.Author.Rules.{rules}
-use Rattle.domains.proofs.Laws.{freed-domain, left-domain}
+use Rattle.domains.proofs.Laws.{freed_domain, left-domain}
 use Rattle.domains.proofs.changes.free_if.Goals as goal
 
 pub holds-requires : goal.holds-requires
@@ -16,7 +16,7 @@ pub returns-then-holds : goal.returns-then-holds
 returns-then-holds c =
     let args = c.args in
     let there = sym c.holds.ensures ∙ c.if-holds.true in
-    c.clear.ensures ∙ freed-domain args.s.now c.requires.1 args.k c.requires.0 (eqb args.d) there
+    c.clear.ensures ∙ freed_domain args.s.now c.requires.1 args.k c.requires.0 (eqb args.d) there
 
 pub returns-else-holds : goal.returns-else-holds
 returns-else-holds c =

@@ -3,11 +3,11 @@ use mathlib.Core.Path.{◌≡◌, refl}
 use Prim.Native.Nat.{◌-◌}
 use native.Mathlib.Omega.{arith}
 use lib.Dec.{eqb}
-use Rattle.rules.specs.Size.{mostDomains}
-use Rattle.rules.specs.Layout.{domainsOf}
-use Rattle.domains.specs.Entry.{droppedIf}
+use Rattle.rules.specs.Size.{most_domains}
+use Rattle.rules.specs.Layout.{domains_of}
+use Rattle.domains.specs.Entry.{dropped_if}
 use Rattle.domains.specs.Kept.{KeptDomains}
-use Rattle.domains.proofs.Search.{sweptBefore}
+use Rattle.domains.proofs.Search.{swept_before}
 use Rattle.domains.proofs.Laws.{swept-domain, swept-domains}
 use Rattle.domains.proofs.changes.remove.Goals as goal
 
@@ -21,7 +21,7 @@ pub loop-i-preserved : goal.loop-i-preserved
 loop-i-preserved c =
     let args = c.args in
     let inv = c.loop-i.invariant in
-    swept-domain _ inv.0 _ c.loop-i-test.true (eqb args.d) (domainsOf args.s.now) inv.1 _ c.free_if.ensures
+    swept-domain _ inv.0 _ c.loop-i-test.true (eqb args.d) (domains_of args.s.now) inv.1 _ c.free_if.ensures
 
 pub shape_of-s : goal.shape_of-s
 shape_of-s c = omega (arith, c.loop-i.invariant.0.whole, c.requires.whole)

@@ -3,16 +3,16 @@ use mathlib.Core.Path.{◌≡◌, refl}
 use Prim.Native.Nat.{◌-◌}
 use native.Mathlib.Omega.{arith}
 use lib.Dec.{eqb}
-use Rattle.rules.specs.Size.{mostDomains}
-use Rattle.rules.specs.Layout.{domainsOf}
-use Rattle.domains.specs.Entry.{droppedIf}
+use Rattle.rules.specs.Size.{most_domains}
+use Rattle.rules.specs.Layout.{domains_of}
+use Rattle.domains.specs.Entry.{dropped_if}
 use Rattle.domains.specs.Kept.{KeptDomains}
-use Rattle.domains.proofs.Search.{sweptBefore}
+use Rattle.domains.proofs.Search.{swept_before}
 use Rattle.domains.proofs.Laws.{swept-domain, swept-domains}
 use Rattle.domains.proofs.changes.remove.Given as goal
 
 abbrev pub invariant-loop-i : goal.invariant-loop-i
-invariant-loop-i l = KeptDomains l.s × (domainsOf l.s ≡ sweptBefore (droppedIf (eqb l.d)) l.i (domainsOf l.initial.s))
+invariant-loop-i l = KeptDomains l.s × (domains_of l.s ≡ swept_before (dropped_if (eqb l.d)) l.i (domains_of l.initial.s))
 
 abbrev pub decreases-loop-i : goal.decreases-loop-i
-decreases-loop-i l = mostDomains - l.i
+decreases-loop-i l = most_domains - l.i

@@ -1,9 +1,9 @@
 -- From the topmost created parent down the events are recorded one after the other, and the path's own at last.
 use native.Mathlib.Omega.{arith}
-use Rattle.rules.specs.Layout.{table_of, watchesOf}
-use Rattle.rules.specs.Size.{longestPath}
-use Rattle.paths.proofs.AboveLaws.{above-long, above-short, above-full}
-use Rattle.events.proofs.Levels.{Told, told_none, told-room, told-next, told-all}
+use Rattle.rules.specs.Layout.{table_of, watches_of}
+use Rattle.rules.specs.Size.{longest_path}
+use Rattle.paths.proofs.AboveLaws.{above_long, above_short, above_full}
+use Rattle.events.proofs.Levels.{Told, told_none, told-room, told_next, told-all}
 use Rattle.events.proofs.changes.change.Goals as goal
 
 pub loop-levels-init : goal.loop-levels-init
@@ -16,18 +16,18 @@ above-end-requires c =
 
 pub slice_bounds-parent-end : goal.slice_bounds-parent-end
 slice_bounds-parent-end c =
-    above-long _ c.requires.1 _ _ c.above-end.ensures
+    above_long _ c.requires.1 _ _ c.above-end.ensures
 
 pub event-count-requires : goal.event-count-requires
 event-count-requires c =
     let up = c.above-end.ensures in
     let room = told-room _ _ _ _ _ _ _ _ _ _ _ c.loop-levels.invariant (omega (arith, c.requires.4.few)) in
-    (c.requires.0, above-full _ c.requires.1 _ _ up, above-short _ c.requires.1 _ _ up longestPath c.requires.2, room)
+    (c.requires.0, above_full _ c.requires.1 _ _ up, above_short _ c.requires.1 _ _ up longest_path c.requires.2, room)
 
 pub loop-levels-preserved : goal.loop-levels-preserved
 loop-levels-preserved c =
     let room = c.requires.4.few in
-    told-next _ _ _ _ _ _ _ _ _ _ _ c.loop-levels.invariant c.requires.1 c.loop-levels-test.true (omega arith) _
+    told_next _ _ _ _ _ _ _ _ _ _ _ c.loop-levels.invariant c.requires.1 c.loop-levels-test.true (omega arith) _
     c.above-end.ensures _ _ c.event-count.ensures
 
 pub event-requires : goal.event-requires

@@ -1,14 +1,14 @@
 -- From the topmost created parent down the events are recorded one after the other, and the path's own at last.
 use native.Mathlib.Omega.{arith}
-use Rattle.rules.specs.Layout.{table_of, watchesOf}
-use Rattle.rules.specs.Size.{longestPath}
-use Rattle.paths.proofs.AboveLaws.{above-long, above-short, above-full}
-use Rattle.events.proofs.Levels.{Told, told_none, told-room, told-next, told-all}
+use Rattle.rules.specs.Layout.{table_of, watches_of}
+use Rattle.rules.specs.Size.{longest_path}
+use Rattle.paths.proofs.AboveLaws.{above_long, above_short, above_full}
+use Rattle.events.proofs.Levels.{Told, told_none, told-room, told_next, told-all}
 use Rattle.events.proofs.changes.change.Given as goal
 
 abbrev pub invariant-loop-levels : goal.invariant-loop-levels
 invariant-loop-levels l =
-    Told (table_of l.before) (table_of l.after) (watchesOf l.watches) l.removed l.parents l.changed l.n l.initial.events l.events l.levels l.count
+    Told (table_of l.before) (table_of l.after) (watches_of l.watches) l.removed l.parents l.changed l.n l.initial.events l.events l.levels l.count
 
 abbrev pub decreases-loop-levels : goal.decreases-loop-levels
 decreases-loop-levels l = l.levels

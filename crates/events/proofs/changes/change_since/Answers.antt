@@ -2,16 +2,16 @@
 use mathlib.Core.Path.{sym}
 use native.Mathlib.Omega.{arith}
 use borrow.Author.Rules.{rules}
-use Rattle.events.proofs.ChangeLaws.{heard-since, since-room}
-use Rattle.events.proofs.RecordLaws.{recorded-as, recorded_more}
+use Rattle.events.proofs.ChangeLaws.{heard_since, since_room}
+use Rattle.events.proofs.RecordLaws.{recorded_as, recorded_more}
 use Rattle.events.proofs.changes.change_since.Goals as goal
 
 pub event_since-requires : goal.event_since-requires
 event_since-requires c =
-    let room = since-room _ _ _ _ _ _ _ c.requires.4 c.requires.5 c.created-n.ensures in
+    let room = since_room _ _ _ _ _ _ _ c.requires.4 c.requires.5 c.created-n.ensures in
     search rules
 
 pub returns : goal.returns
 returns c = λ before m new.
-    recorded-as _ _ (sym (heard-since before _ _ _ _ _ new))
+    recorded_as _ _ (sym (heard_since before _ _ _ _ _ new))
     (recorded_more 0 _ _ _ _ _ _ _ (omega arith) c.created-n.ensures (c.event_since.ensures before m))

@@ -3,12 +3,12 @@ use mathlib.Core.Path.{◌≡◌}
 use Prim.Native.Nat.{◌-◌, ◌≤◌}
 use native.Mathlib.Omega.{arith}
 use lib.ListN.{length}
-use Rattle.rules.specs.Size.{mostChanges, deepest}
-use Rattle.rules.specs.Event.{heardChange, heard}
-use Rattle.rules.specs.Layout.{table_of, watchesOf}
-use Rattle.transactions.specs.Transaction.{transactionOf, noChange, HasChange}
-use Rattle.events.proofs.Entering.{Entered, entered-none, entered-room, entered-next, entered_all, room-less}
-use Rattle.events.proofs.ChangeLaws.{given-few, has-change, change-parents, change-short, change-full, change-above, change-given}
+use Rattle.rules.specs.Size.{most_changes, deepest}
+use Rattle.rules.specs.Event.{heard_change, heard}
+use Rattle.rules.specs.Layout.{table_of, watches_of}
+use Rattle.transactions.specs.Transaction.{transaction_of, no_change, HasChange}
+use Rattle.events.proofs.Entering.{Entered, entered_none, entered_room, entered_next, entered_all, room-less}
+use Rattle.events.proofs.ChangeLaws.{given-few, has-change, change-parents, change-short, change-full, change_above, change-given}
 use Rattle.events.proofs.changes.changes.Goals as goal
 use Rattle.events.proofs.changes.changes.Goals.{In-loop-j}
 
@@ -17,7 +17,7 @@ changes-count-requires c = c.requires.1
 
 pub loop-j-init : goal.loop-j-init
 loop-j-init c =
-    (c.changes-count.ensures.0, c.changes-count.ensures.1, entered-none _ _ _ _ _ c.requires.3)
+    (c.changes-count.ensures.0, c.changes-count.ensures.1, entered_none _ _ _ _ _ c.requires.3)
 
 there : (c : In-loop-j) → HasChange c.args.transactions.now c.args.k c.loop-j.j
 there c =
@@ -36,20 +36,20 @@ pub change-n-requires : goal.change-n-requires
 change-n-requires c =
     let h = there (goal.at.change-n-requires c).In-loop-j in
     let text = c.path-changed.ensures in
-    let new = c.parents-new.ensures in
-    let room = entered-room _ _ _ _ _ _ _ _ c.loop-j.invariant.2 (omega arith) in
+    let new = c.parents_new.ensures in
+    let room = entered_room _ _ _ _ _ _ _ _ c.loop-j.invariant.2 (omega arith) in
     let below = change-parents _ _ _ h _ new in
-    let over = change-above _ _ _ h _ text c.requires.2 _ new in
+    let over = change_above _ _ _ h _ text c.requires.2 _ new in
     (c.requires.0, change-full _ _ _ h _ text, change-short _ _ _ h _ text, omega arith, room-less room (omega arith))
 
 pub loop-j-preserved : goal.loop-j-preserved
 loop-j-preserved c =
     let inv = c.loop-j.invariant in
     let h = there (goal.at.loop-j-preserved c).In-loop-j in
-    let new = c.parents-new.ensures in
+    let new = c.parents_new.ensures in
     let this = change-given _ _ _ h _ c.path-changed.ensures _ _ c.removed-gone.ensures new in
     let few = given-few _ _ _ _ _ _ deepest (change-parents _ _ _ h _ new) in
-    (inv.0, inv.1, entered-next _ _ _ _ _ _ _ _ inv.2 h.there (omega arith) noChange _ this few _ _ c.change-n.ensures)
+    (inv.0, inv.1, entered_next _ _ _ _ _ _ _ _ inv.2 h.there (omega arith) no_change _ this few _ _ c.change-n.ensures)
 
 pub shape_of-events : goal.shape_of-events
 shape_of-events c =

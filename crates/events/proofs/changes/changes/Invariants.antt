@@ -3,19 +3,19 @@ use mathlib.Core.Path.{◌≡◌}
 use Prim.Native.Nat.{◌-◌, ◌≤◌}
 use native.Mathlib.Omega.{arith}
 use lib.ListN.{length}
-use Rattle.rules.specs.Size.{mostChanges, deepest}
-use Rattle.rules.specs.Event.{heardChange, heard}
-use Rattle.rules.specs.Layout.{table_of, watchesOf}
-use Rattle.transactions.specs.Transaction.{transactionOf, noChange, HasChange}
-use Rattle.events.proofs.Entering.{Entered, entered-none, entered-room, entered-next, entered_all, room-less}
-use Rattle.events.proofs.ChangeLaws.{given-few, has-change, change-parents, change-short, change-full, change-above, change-given}
+use Rattle.rules.specs.Size.{most_changes, deepest}
+use Rattle.rules.specs.Event.{heard_change, heard}
+use Rattle.rules.specs.Layout.{table_of, watches_of}
+use Rattle.transactions.specs.Transaction.{transaction_of, no_change, HasChange}
+use Rattle.events.proofs.Entering.{Entered, entered_none, entered_room, entered_next, entered_all, room-less}
+use Rattle.events.proofs.ChangeLaws.{given-few, has-change, change-parents, change-short, change-full, change_above, change-given}
 use Rattle.events.proofs.changes.changes.Given as goal
 
 abbrev pub invariant-loop-j : goal.invariant-loop-j
 invariant-loop-j l =
-    (l.count ≡ length (transactionOf l.transactions l.k).changes)
-    × (l.count ≤ mostChanges)
-    × Entered (heardChange (table_of l.before) (table_of l.after) (watchesOf l.watches)) deepest (transactionOf l.transactions l.k).changes 0 l.initial.events l.events l.j l.n
+    (l.count ≡ length (transaction_of l.transactions l.k).changes)
+    × (l.count ≤ most_changes)
+    × Entered (heard_change (table_of l.before) (table_of l.after) (watches_of l.watches)) deepest (transaction_of l.transactions l.k).changes 0 l.initial.events l.events l.j l.n
 
 abbrev pub decreases-loop-j : goal.decreases-loop-j
 decreases-loop-j l = l.count - l.j

@@ -2,13 +2,13 @@
 use mathlib.Core.Path.{sym}
 use mathlib.Core.Bool.{false}
 use native.Mathlib.Omega.{arith}
-use Rattle.rules.specs.Size.{longestPath}
-use Rattle.rules.specs.Layout.{table_of, watchesOf}
-use Rattle.paths.proofs.AboveLaws.{above-long, above-short, above-full}
-use Rattle.events.specs.Stores.{heardParents}
+use Rattle.rules.specs.Size.{longest_path}
+use Rattle.rules.specs.Layout.{table_of, watches_of}
+use Rattle.paths.proofs.AboveLaws.{above_long, above_short, above_full}
+use Rattle.events.specs.Stores.{heard_parents}
 use Rattle.events.proofs.ChangeLaws.{heard-given}
-use Rattle.events.proofs.RecordLaws.{recorded-as}
-use Rattle.events.proofs.Levels.{Told, told_none, told-room, told-next, told-parents}
+use Rattle.events.proofs.RecordLaws.{recorded_as}
+use Rattle.events.proofs.Levels.{Told, told_none, told-room, told_next, told-parents}
 use Rattle.events.proofs.changes.created.Goals as goal
 
 pub loop-levels-init : goal.loop-levels-init
@@ -21,31 +21,31 @@ above-end-requires c =
 
 pub slice_bounds-parent-end : goal.slice_bounds-parent-end
 slice_bounds-parent-end c =
-    above-long _ c.requires.1 _ _ c.above-end.ensures
+    above_long _ c.requires.1 _ _ c.above-end.ensures
 
 pub in_store-requires : goal.in_store-requires
 in_store-requires c =
-    (c.requires.0, above-full _ c.requires.1 _ _ c.above-end.ensures)
+    (c.requires.0, above_full _ c.requires.1 _ _ c.above-end.ensures)
 
 pub keep-n-requires : goal.keep-n-requires
 keep-n-requires c =
     let room =
     told-room _ _ _ _ _ _ _ _ _ _ _ c.loop-levels.invariant (omega (arith, c.requires.4.few, c.loop-levels.invariant.few, c.loop-levels-test.true)) in
-    (room, above-short _ c.requires.1 _ _ c.above-end.ensures longestPath c.requires.2)
+    (room, above_short _ c.requires.1 _ _ c.above-end.ensures longest_path c.requires.2)
 
 pub loop-levels-preserved : goal.loop-levels-preserved
 loop-levels-preserved c =
     let full = c.requires.1 in
     let up = c.above-end.ensures in
-    let record_is = sym (heard-given _ _ _ _ _ (above-full _ full _ _ up)) in
-    told-next _ _ _ _ _ _ _ _ _ _ _ c.loop-levels.invariant full c.loop-levels-test.true
+    let record_is = sym (heard-given _ _ _ _ _ (above_full _ full _ _ up)) in
+    told_next _ _ _ _ _ _ _ _ _ _ _ c.loop-levels.invariant full c.loop-levels-test.true
     (omega (arith, c.requires.4.few, c.loop-levels.invariant.few, c.loop-levels-test.true)) _ up _ _
-    (recorded-as _ _ record_is (c.keep-n.ensures _ c.in_store.ensures))
+    (recorded_as _ _ record_is (c.keep-n.ensures _ c.in_store.ensures))
 
 pub shape_of-events : goal.shape_of-events
 shape_of-events c =
     omega (arith, c.loop-levels.invariant.entered.long, c.requires.4.whole)
 
 pub returns : goal.returns
-unfolding heardParents
+unfolding heard_parents
 returns c = told-parents _ _ _ _ _ _ _ _ _ _ _ c.loop-levels.invariant c.loop-levels-test.false

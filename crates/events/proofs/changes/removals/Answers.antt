@@ -3,16 +3,16 @@ use mathlib.Core.List.{map}
 use Prim.Native.Nat.{◌-◌}
 use native.Mathlib.Omega.{arith}
 use lib.ListN.{take}
-use Rattle.rules.specs.Event.{heardChange, heard}
-use Rattle.rules.specs.Layout.{table_of, watchesOf}
+use Rattle.rules.specs.Event.{heard_change, heard}
+use Rattle.rules.specs.Layout.{table_of, watches_of}
 use Rattle.lookup.proofs.ChildrenLaws.{listed}
-use Rattle.events.specs.Stores.{removalOf}
-use Rattle.events.proofs.Entering.{Entered, entered-none, entered-room, entered-next, entered_all}
-use Rattle.events.proofs.ChangeLaws.{removals-length, removal-at, removal-few}
+use Rattle.events.specs.Stores.{removal_of}
+use Rattle.events.proofs.Entering.{Entered, entered_none, entered_room, entered_next, entered_all}
+use Rattle.events.proofs.ChangeLaws.{removals_length, removal_at, removal-few}
 use Rattle.events.proofs.changes.removals.Goals as goal
 
 pub loop-i-init : goal.loop-i-init
-loop-i-init c = entered-none _ _ _ _ _ c.requires.4
+loop-i-init c = entered_none _ _ _ _ _ c.requires.4
 
 pub overflow_cast-list : goal.overflow_cast-list
 overflow_cast-list c = omega (arith, c.type_inv.list c.loop-i.i)
@@ -20,14 +20,14 @@ overflow_cast-list c = omega (arith, c.type_inv.list c.loop-i.i)
 pub removal-n-requires : goal.removal-n-requires
 removal-n-requires c =
     let asked = listed _ _ _ _ c.requires.3 c.loop-i-test.true c.requires.1 in
-    (c.requires.0, asked, entered-room _ _ _ _ _ _ _ _ c.loop-i.invariant (omega arith))
+    (c.requires.0, asked, entered_room _ _ _ _ _ _ _ _ c.loop-i.invariant (omega arith))
 
 pub loop-i-preserved : goal.loop-i-preserved
 loop-i-preserved c =
     let h = c.loop-i-test.true in
     let long = c.requires.1 in
-    entered-next _ 1 _ _ _ _ _ _ c.loop-i.invariant (rw (removals-length _ _ _ long) h) (omega arith) _ _
-    (removal-at _ _ _ long _ h) (removal-few _ _ _ _ _) _ _ c.removal-n.ensures
+    entered_next _ 1 _ _ _ _ _ _ c.loop-i.invariant (rw (removals_length _ _ _ long) h) (omega arith) _ _
+    (removal_at _ _ _ long _ h) (removal-few _ _ _ _ _) _ _ c.removal-n.ensures
 
 pub shape_of-events : goal.shape_of-events
 shape_of-events c =
@@ -36,4 +36,4 @@ shape_of-events c =
 pub returns : goal.returns
 unfolding heard
 returns c =
-    entered_all _ _ _ _ _ _ _ _ c.loop-i.invariant (rw (removals-length _ _ _ c.requires.1) c.loop-i-test.false)
+    entered_all _ _ _ _ _ _ _ _ c.loop-i.invariant (rw (removals_length _ _ _ c.requires.1) c.loop-i-test.false)

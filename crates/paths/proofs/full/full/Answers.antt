@@ -37,4 +37,4 @@ pub returns : goal.returns
 unfolding front text
 returns c =
     full_put c.args.domain _ _ _ _ _ _ c.requires c.copy.ensures c.put_decimal-at.ensures
-    (bounds-into-at (goal.at.returns c).After-slice_known-3-1) c.copy-2.ensures
+    (omega (arith, short (goal.at.returns c).After-put_decimal-at)) c.copy-2.ensures

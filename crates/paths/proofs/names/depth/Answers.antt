@@ -1,11 +1,11 @@
 -- A full path other than the root has a slash before each name; those passed and those to come are counted.
 use mathlib.Core.Path.{◌≡◌}
-use mathlib.Core.Logic.{⊎_elim}
 use Prim.Native.Nat.{◌+◌, ◌≤◌, ◌-◌}
 use native.Mathlib.Omega.{arith}
 use lib.ListN.{length, drop}
 use Rattle.paths.proofs.PieceLaws.{slashes, slash_here, no_slash_here, slashes_over, depth-root, depth_slashes}
 use Rattle.paths.proofs.names.depth.Goals as goal
+use Rattle.paths.proofs.names.depth.Goals.{then-s-i-eq47, else-s-i-eq47}
 
 pub returns-then-s-eq1 : goal.returns-then-s-eq1
 returns-then-s-eq1 c = depth-root _ c.requires c.if-s-eq1.true
@@ -17,8 +17,10 @@ pub loop-i-preserved : goal.loop-i-preserved
 loop-i-preserved c =
     let s = c.args.s.now in
     let h = c.loop-i-test.true in
-    ⊎_elim (λ w. omega (arith, slash_here s c.loop-i.i h w.0.taken))
-    (λ w. omega (arith, no_slash_here s c.loop-i.i h w.0.left)) c.if-s-i-eq47.branch
+    elim c.if-s-i-eq47.branch [
+      | then-s-i-eq47 w ↦ omega (arith, slash_here s c.loop-i.i h w.if-s-i-eq47.true)
+      | else-s-i-eq47 w ↦ omega (arith, no_slash_here s c.loop-i.i h w.if-s-i-eq47.false)
+    ]
 
 pub returns : goal.returns
 returns c =

@@ -2,8 +2,8 @@
 use mathlib.Core.Path.{sym, ◌∙◌}
 use native.Mathlib.Omega.{arith}
 use borrow.Author.Rules.{rules}
-use Rattle.transactions.specs.Transaction.{heldBy}
-use Rattle.transactions.proofs.Written.{freed-transaction, left-transaction}
+use Rattle.transactions.specs.Transaction.{held_by}
+use Rattle.transactions.proofs.Written.{freed_transaction, left_transaction}
 use Rattle.transactions.proofs.changes.close_held.Goals as goal
 
 pub held-requires : goal.held-requires
@@ -16,9 +16,9 @@ pub returns-then-held : goal.returns-then-held
 returns-then-held c =
     let args = c.args in
     let there = sym c.held.ensures ∙ c.if-held.true in
-    c.clear.ensures ∙ freed-transaction args.s.now c.requires.1 args.k c.requires.0 (heldBy args.c) there
+    c.clear.ensures ∙ freed_transaction args.s.now c.requires.1 args.k c.requires.0 (held_by args.c) there
 
 pub returns-else-held : goal.returns-else-held
 returns-else-held c =
     let args = c.args in
-    left-transaction args.s.now c.requires.1 args.k c.requires.0 (heldBy args.c) (sym c.held.ensures ∙ c.if-held.false)
+    left_transaction args.s.now c.requires.1 args.k c.requires.0 (held_by args.c) (sym c.held.ensures ∙ c.if-held.false)

@@ -4,9 +4,9 @@ use Prim.Native.Nat.{◌+◌, ◌*◌, ◌/◌, ◌%◌}
 use native.Mathlib.Omega.{arith}
 use lib.ListN.{set, length-set}
 use borrow.Author.Rules.{rules}
-use Rattle.rules.specs.Size.{transactionSize}
+use Rattle.rules.specs.Size.{transaction_size}
 use Rattle.rules.specs.Octets.{Octets}
-use Rattle.transactions.proofs.Written.{put-open}
+use Rattle.transactions.proofs.Written.{put_open}
 use Rattle.transactions.proofs.changes.open.Goals as goal
 
 pub clear-requires : goal.clear-requires
@@ -27,7 +27,7 @@ shape_of-s c = simp length-set (omega arith)
 pub returns : goal.returns
 returns c =
     let args = c.args in
-    let at = args.k * transactionSize in
+    let at = args.k * transaction_size in
     let o = args.c in
     ap (λ (l : Octets). set (set (set l at 128) (at + 1) (o / 256 % 256)) (at + 2) (o % 256)) c.clear.ensures
-    ∙ put-open args.s.now c.requires.2 args.k c.requires.0 o c.requires.1
+    ∙ put_open args.s.now c.requires.2 args.k c.requires.0 o c.requires.1

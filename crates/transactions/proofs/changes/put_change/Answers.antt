@@ -5,7 +5,7 @@ use native.Mathlib.Omega.{arith}
 use lib.ListN.{length, set, length-set}
 use borrow.Author.Rules.{rules}
 use Rattle.rules.specs.Octets.{Octets}
-use Rattle.transactions.proofs.ChangeAdded.{put_two, mark-small}
+use Rattle.transactions.proofs.ChangeAdded.{put_two, mark_small}
 use Rattle.transactions.proofs.changes.put_change.Goals as goal
 
 pub put_text-requires : goal.put_text-requires
@@ -19,11 +19,11 @@ overflow_mul-s c = omega (arith, c.requires.3)
 
 pub overflow_add-s : goal.overflow_add-s
 overflow_add-s c =
-    omega (arith, c.requires.3, c.removal_mark.ensures, mark-small c.args.removed)
+    omega (arith, c.requires.3, c.removal_mark.ensures, mark_small c.args.removed)
 
 pub overflow_add-s-2 : goal.overflow_add-s-2
 overflow_add-s-2 c =
-    omega (arith, c.requires.3, c.removal_mark.ensures, mark-small c.args.removed)
+    omega (arith, c.requires.3, c.removal_mark.ensures, mark_small c.args.removed)
 
 pub bounds-s-at-2 : goal.bounds-s-at-2
 bounds-s-at-2 c = simp length-set (omega arith)

@@ -2,13 +2,13 @@
 use mathlib.Core.Path.{◌≡◌, refl}
 use Prim.Native.Nat.{◌-◌}
 use native.Mathlib.Omega.{arith}
-use Rattle.rules.specs.Size.{mostTransactions}
-use Rattle.rules.specs.Layout.{transactionsOf}
-use Rattle.rules.specs.World.{withoutTransactions}
-use Rattle.domains.specs.Entry.{droppedIf}
-use Rattle.transactions.specs.Transaction.{heldBy, KeptTransactions}
-use Rattle.domains.proofs.Search.{sweptBefore}
-use Rattle.transactions.proofs.Written.{swept-transaction, swept-transactions}
+use Rattle.rules.specs.Size.{most_transactions}
+use Rattle.rules.specs.Layout.{transactions_of}
+use Rattle.rules.specs.World.{without_transactions}
+use Rattle.domains.specs.Entry.{dropped_if}
+use Rattle.transactions.specs.Transaction.{held_by, KeptTransactions}
+use Rattle.domains.proofs.Search.{swept_before}
+use Rattle.transactions.proofs.Written.{swept_transaction, swept-transactions}
 use Rattle.transactions.proofs.changes.remove_of.Goals as goal
 
 pub loop-i-init : goal.loop-i-init
@@ -21,15 +21,15 @@ pub loop-i-preserved : goal.loop-i-preserved
 loop-i-preserved c =
     let args = c.args in
     let inv = c.loop-i.invariant in
-    let xs = transactionsOf args.s.now in
-    swept-transaction _ inv.0 _ c.loop-i-test.true (heldBy args.c) xs inv.1 _ c.close_held.ensures
+    let xs = transactions_of args.s.now in
+    swept_transaction _ inv.0 _ c.loop-i-test.true (held_by args.c) xs inv.1 _ c.close_held.ensures
 
 pub shape_of-s : goal.shape_of-s
 shape_of-s c = omega (arith, c.loop-i.invariant.0.whole, c.requires.whole)
 
 pub returns : goal.returns
-unfolding withoutTransactions heldBy
+unfolding without_transactions held_by
 returns c =
     let args = c.args in
     let inv = c.loop-i.invariant in
-    swept-transactions (heldBy args.c) _ args.s.now inv.0 _ c.loop-i-test.false inv.1
+    swept-transactions (held_by args.c) _ args.s.now inv.0 _ c.loop-i-test.false inv.1

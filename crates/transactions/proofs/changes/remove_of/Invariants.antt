@@ -2,17 +2,17 @@
 use mathlib.Core.Path.{◌≡◌, refl}
 use Prim.Native.Nat.{◌-◌}
 use native.Mathlib.Omega.{arith}
-use Rattle.rules.specs.Size.{mostTransactions}
-use Rattle.rules.specs.Layout.{transactionsOf}
-use Rattle.rules.specs.World.{withoutTransactions}
-use Rattle.domains.specs.Entry.{droppedIf}
-use Rattle.transactions.specs.Transaction.{heldBy, KeptTransactions}
-use Rattle.domains.proofs.Search.{sweptBefore}
-use Rattle.transactions.proofs.Written.{swept-transaction, swept-transactions}
+use Rattle.rules.specs.Size.{most_transactions}
+use Rattle.rules.specs.Layout.{transactions_of}
+use Rattle.rules.specs.World.{without_transactions}
+use Rattle.domains.specs.Entry.{dropped_if}
+use Rattle.transactions.specs.Transaction.{held_by, KeptTransactions}
+use Rattle.domains.proofs.Search.{swept_before}
+use Rattle.transactions.proofs.Written.{swept_transaction, swept-transactions}
 use Rattle.transactions.proofs.changes.remove_of.Given as goal
 
 abbrev pub invariant-loop-i : goal.invariant-loop-i
-invariant-loop-i l = KeptTransactions l.s × (transactionsOf l.s ≡ sweptBefore (droppedIf (heldBy l.c)) l.i (transactionsOf l.initial.s))
+invariant-loop-i l = KeptTransactions l.s × (transactions_of l.s ≡ swept_before (dropped_if (held_by l.c)) l.i (transactions_of l.initial.s))
 
 abbrev pub decreases-loop-i : goal.decreases-loop-i
-decreases-loop-i l = mostTransactions - l.i
+decreases-loop-i l = most_transactions - l.i

@@ -2,11 +2,11 @@
 use mathlib.Core.Path.{◌≡◌, refl}
 use Prim.Native.Nat.{◌-◌}
 use native.Mathlib.Omega.{arith}
-use Rattle.rules.specs.Size.{mostTransactions}
-use Rattle.rules.specs.Layout.{transactionsOf}
-use Rattle.transactions.specs.Transaction.{staleOf, KeptTransactions}
-use Rattle.domains.proofs.Search.{sweptBefore}
-use Rattle.transactions.proofs.Written.{swept-stale, swept-stales}
+use Rattle.rules.specs.Size.{most_transactions}
+use Rattle.rules.specs.Layout.{transactions_of}
+use Rattle.transactions.specs.Transaction.{stale_of, KeptTransactions}
+use Rattle.domains.proofs.Search.{swept_before}
+use Rattle.transactions.proofs.Written.{swept-stale, swept_stales}
 use Rattle.transactions.proofs.changes.stale_all.Goals as goal
 
 pub loop-i-init : goal.loop-i-init
@@ -19,7 +19,7 @@ pub loop-i-preserved : goal.loop-i-preserved
 loop-i-preserved c =
     let args = c.args in
     let inv = c.loop-i.invariant in
-    swept-stale _ inv.0 _ c.loop-i-test.true (transactionsOf args.s.now) inv.1 _ c.make_stale.ensures
+    swept-stale _ inv.0 _ c.loop-i-test.true (transactions_of args.s.now) inv.1 _ c.make_stale.ensures
 
 pub shape_of-s : goal.shape_of-s
 shape_of-s c = omega (arith, c.loop-i.invariant.0.whole, c.requires.whole)
@@ -28,4 +28,4 @@ pub returns : goal.returns
 returns c =
     let args = c.args in
     let inv = c.loop-i.invariant in
-    swept-stales _ args.s.now inv.0 _ c.loop-i-test.false inv.1
+    swept_stales _ args.s.now inv.0 _ c.loop-i-test.false inv.1

@@ -2,15 +2,15 @@
 use mathlib.Core.Path.{◌≡◌, refl}
 use Prim.Native.Nat.{◌-◌}
 use native.Mathlib.Omega.{arith}
-use Rattle.rules.specs.Size.{mostTransactions}
-use Rattle.rules.specs.Layout.{transactionsOf}
-use Rattle.transactions.specs.Transaction.{staleOf, KeptTransactions}
-use Rattle.domains.proofs.Search.{sweptBefore}
-use Rattle.transactions.proofs.Written.{swept-stale, swept-stales}
+use Rattle.rules.specs.Size.{most_transactions}
+use Rattle.rules.specs.Layout.{transactions_of}
+use Rattle.transactions.specs.Transaction.{stale_of, KeptTransactions}
+use Rattle.domains.proofs.Search.{swept_before}
+use Rattle.transactions.proofs.Written.{swept-stale, swept_stales}
 use Rattle.transactions.proofs.changes.stale_all.Given as goal
 
 abbrev pub invariant-loop-i : goal.invariant-loop-i
-invariant-loop-i l = KeptTransactions l.s × (transactionsOf l.s ≡ sweptBefore (staleOf) l.i (transactionsOf l.initial.s))
+invariant-loop-i l = KeptTransactions l.s × (transactions_of l.s ≡ swept_before (stale_of) l.i (transactions_of l.initial.s))
 
 abbrev pub decreases-loop-i : goal.decreases-loop-i
-decreases-loop-i l = mostTransactions - l.i
+decreases-loop-i l = most_transactions - l.i

@@ -3,9 +3,9 @@ use mathlib.Core.Path.{ap, ◌∙◌}
 use Prim.Native.Nat.{◌+◌, ◌*◌}
 use native.Mathlib.Omega.{arith}
 use borrow.Author.Rules.{rules}
-use Rattle.rules.specs.Size.{watchFieldsSize, watchSize}
+use Rattle.rules.specs.Size.{watch_fields_size, watch_size}
 use Rattle.rules.specs.Octets.{paste}
-use Rattle.watches.proofs.Written.{put-watch}
+use Rattle.watches.proofs.Written.{put_watch}
 use Rattle.watches.proofs.changes.add.Goals as goal
 
 pub put_text-requires : goal.put_text-requires
@@ -26,8 +26,8 @@ returns c =
     let args = c.args in
     let pre = c.requires in
     let levels = c.levels.ensures in
-    let at = args.k * watchSize in
+    let at = args.k * watch_size in
     c.put_fields.ensures
-    ∙ ap (paste at _) (c.put_text-2.ensures ∙ ap (paste (at + watchFieldsSize) _) c.put_text.ensures)
-    ∙ put-watch args.s.now pre.1 args.k pre.0 args.c args.path.now args.relative args.depth args.token.now pre.2
+    ∙ ap (paste at _) (c.put_text-2.ensures ∙ ap (paste (at + watch_fields_size) _) c.put_text.ensures)
+    ∙ put_watch args.s.now pre.1 args.k pre.0 args.c args.path.now args.relative args.depth args.token.now pre.2
     (rw (← levels.0) levels.1) _ _ c.marks.ensures levels.0

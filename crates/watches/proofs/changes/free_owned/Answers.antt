@@ -3,7 +3,7 @@ use mathlib.Core.Path.{sym, ◌∙◌}
 use native.Mathlib.Omega.{arith}
 use borrow.Author.Rules.{rules}
 use Rattle.watches.specs.Watch.{owned_by}
-use Rattle.watches.proofs.Written.{freed-watch, left-watch}
+use Rattle.watches.proofs.Written.{freed_watch, left-watch}
 use Rattle.watches.proofs.changes.free_owned.Goals as goal
 
 pub owned-requires : goal.owned-requires
@@ -16,7 +16,7 @@ pub returns-then-owned : goal.returns-then-owned
 returns-then-owned c =
     let args = c.args in
     let there = sym c.owned.ensures ∙ c.if-owned.true in
-    c.clear.ensures ∙ freed-watch args.s.now c.requires.1 args.k c.requires.0 (owned_by args.c) there
+    c.clear.ensures ∙ freed_watch args.s.now c.requires.1 args.k c.requires.0 (owned_by args.c) there
 
 pub returns-else-owned : goal.returns-else-owned
 returns-else-owned c =

@@ -3,7 +3,7 @@ use mathlib.Core.Path.{sym, ◌∙◌}
 use native.Mathlib.Omega.{arith}
 use borrow.Author.Rules.{rules}
 use Rattle.rules.specs.Sound.{twin}
-use Rattle.watches.proofs.Written.{freed-watch, left-watch}
+use Rattle.watches.proofs.Written.{freed_watch, left-watch}
 use Rattle.watches.proofs.changes.free_twin.Goals as goal
 
 pub is_twin-requires : goal.is_twin-requires
@@ -17,7 +17,7 @@ returns-then-is_twin c =
     let args = c.args in
     let there = sym c.is_twin.ensures ∙ c.if-is_twin.true in
     c.clear.ensures
-    ∙ freed-watch args.s.now c.requires.1 args.k c.requires.0 (twin args.c args.p.now args.t.now) there
+    ∙ freed_watch args.s.now c.requires.1 args.k c.requires.0 (twin args.c args.p.now args.t.now) there
 
 pub returns-else-is_twin : goal.returns-else-is_twin
 returns-else-is_twin c =

@@ -2,7 +2,7 @@
 use native.Mathlib.Omega.{arith}
 use lib.ListN.{length-set}
 use borrow.Author.Rules.{rules}
-use Rattle.watches.proofs.Written.{paste-six}
+use Rattle.watches.proofs.Written.{paste_six}
 use Rattle.watches.proofs.changes.put_fields.Goals as goal
 
 pub bounds-s-at-2 : goal.bounds-s-at-2
@@ -24,4 +24,4 @@ pub shape_of-s : goal.shape_of-s
 shape_of-s c = simp length-set
 
 pub returns : goal.returns
-returns c = paste-six _ _ _ _ _ _ _ _ c.requires.0
+returns c = paste_six _ _ _ _ _ _ _ _ c.requires.0

@@ -2,12 +2,12 @@
 use mathlib.Core.Path.{◌≡◌, refl}
 use Prim.Native.Nat.{◌-◌}
 use native.Mathlib.Omega.{arith}
-use Rattle.rules.specs.Size.{mostWatches}
-use Rattle.rules.specs.Layout.{watchesOf}
-use Rattle.rules.specs.World.{withoutWatches}
-use Rattle.domains.specs.Entry.{droppedIf}
+use Rattle.rules.specs.Size.{most_watches}
+use Rattle.rules.specs.Layout.{watches_of}
+use Rattle.rules.specs.World.{without_watches}
+use Rattle.domains.specs.Entry.{dropped_if}
 use Rattle.watches.specs.Watch.{owned_by, KeptWatches}
-use Rattle.domains.proofs.Search.{sweptBefore}
+use Rattle.domains.proofs.Search.{swept_before}
 use Rattle.watches.proofs.Written.{swept-watch, swept-watches}
 use Rattle.watches.proofs.changes.remove_of.Goals as goal
 
@@ -22,13 +22,13 @@ loop-i-preserved c =
     let args = c.args in
     let inv = c.loop-i.invariant in
     let test = owned_by args.c in
-    swept-watch _ inv.0 _ c.loop-i-test.true test (watchesOf args.s.now) inv.1 _ c.free_owned.ensures
+    swept-watch _ inv.0 _ c.loop-i-test.true test (watches_of args.s.now) inv.1 _ c.free_owned.ensures
 
 pub shape_of-s : goal.shape_of-s
 shape_of-s c = omega (arith, c.loop-i.invariant.0.whole, c.requires.whole)
 
 pub returns : goal.returns
-unfolding withoutWatches owned_by
+unfolding without_watches owned_by
 returns c =
     let args = c.args in
     let inv = c.loop-i.invariant in

@@ -2,12 +2,12 @@
 use mathlib.Core.Path.{◌≡◌, refl}
 use Prim.Native.Nat.{◌-◌}
 use native.Mathlib.Omega.{arith}
-use Rattle.rules.specs.Size.{mostWatches}
-use Rattle.rules.specs.Layout.{watchesOf}
+use Rattle.rules.specs.Size.{most_watches}
+use Rattle.rules.specs.Layout.{watches_of}
 use Rattle.rules.specs.Sound.{twin}
-use Rattle.domains.specs.Entry.{droppedIf}
+use Rattle.domains.specs.Entry.{dropped_if}
 use Rattle.watches.specs.Watch.{KeptWatches}
-use Rattle.domains.proofs.Search.{sweptBefore}
+use Rattle.domains.proofs.Search.{swept_before}
 use Rattle.watches.proofs.Written.{swept-watch, swept-watches}
 use Rattle.watches.proofs.changes.remove_twin.Goals as goal
 
@@ -22,7 +22,7 @@ loop-i-preserved c =
     let args = c.args in
     let inv = c.loop-i.invariant in
     let test = twin args.c args.p.now args.t.now in
-    swept-watch _ inv.0 _ c.loop-i-test.true test (watchesOf args.s.now) inv.1 _ c.free_twin.ensures
+    swept-watch _ inv.0 _ c.loop-i-test.true test (watches_of args.s.now) inv.1 _ c.free_twin.ensures
 
 pub shape_of-s : goal.shape_of-s
 shape_of-s c = omega (arith, c.loop-i.invariant.0.whole, c.requires.whole)
