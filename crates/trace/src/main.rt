@@ -34,7 +34,6 @@ fn serve_all(
     let mut channel: u32 = 0;
     let mut number: u64 = 1;
     while number < u64::MAX && read_message(rt, from, &mut input) {
-        let end = end_of(&input);
         let call = haabuvilk_request(
             nodes,
             copies,
@@ -42,7 +41,7 @@ fn serve_all(
             transactions,
             domains,
             two(&input, 0),
-            &input[MESSAGE_AT..end],
+            &input[MESSAGE_AT..end_of(&input)],
             &mut reply,
             &mut events,
             &mut reply_length,
