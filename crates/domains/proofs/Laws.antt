@@ -10,7 +10,7 @@ use lib.ListN.{length, get_or, take, drop, set, replicate, length-replicate}
 use lib.Dec.{eqb, leb}
 use borrow.Author.Tests.{le-leb, lt-leb}
 use Rattle.rules.specs.Size.{most_domains, domain_size, domains_size, last_domain}
-use Rattle.rules.specs.Octets.{Octets, same, all_zero, paste, field, bits_at, big_endian, pack, pack_from, ◌bits◌}
+use Rattle.rules.specs.Octets.{Octets, all_zero, paste, field, bits_at, big_endian, pack, pack_from, ◌bits◌}
 use Rattle.rules.specs.Path.{Domain}
 use Rattle.rules.specs.Entries.{without}
 use Rattle.rules.specs.Layout.{Domains, domain_in, domain_bytes, domains_bytes, domains_of}
@@ -110,7 +110,7 @@ module _ (s : Octets) (bytes : Bytes s) (whole : length s ≡ domains_size) (k :
       let d : (x * 256 + y) % 256 ≡ y = omega arith in
       let kept = used-kept domain_bytes domain_in domain_size wide most_domains s k h 0 t in
       sym (kept ∙ rw (← domain-bytes s bytes whole k h t, three_bytes_lem (x * 256 + y) (omega arith), row, b, d)
-          (same_first 128 (get_or s (at k) 0) (x ∷ y ∷ [])))
+      (same_first 128 (get_or s (at k) 0) (x ∷ y ∷ [])))
 
   -- a free place is all zero
   pub free_same : get_or s (at k) 0 < 128 → all_zero (part_at s (at k) domain_size) ≡ kept_at most_domains domain_size domain_bytes domain_in s k

@@ -84,7 +84,7 @@ unfolding copy_of
 copy_of_lem w cs k e h =
     ap (λ (x : List Octets). table_of (get_or x k [])) e ∙ ap table_of
     (sym (ap (λ (x : List Octets). get_or x k []) (map_whole (chunks most_transactions table_size cs)))
-        ∙ decoded_at whole most_transactions table_size k cs [] h)
+    ∙ decoded_at whole most_transactions table_size k cs [] h)
 
 -- ── replies ──
 
@@ -161,7 +161,7 @@ module _ (cs xs : Octets) (k : ℕ) (reply : Octets) (s : InCopy cs xs k reply) 
       Told (ninth_reply (a (table_of (take (k * table_size + table_size - k * table_size) (drop (k * table_size) cs))))) o.reply reply reply' →
       o ≡ outcome_of o.reply 0 →
       Handled (W.in_transaction w k (transaction_of xs k) (a (copy_of w k))) (tables (its_nodes w) cs (its_watches w) xs (its_domains w)) reply reply'
-          events events o
+      events events o
   full-handled a many events reply' o t p =
       let here = ap table_of (copy-part cs k) ∙ sym (copy_of_lem w cs k cw s.place.below) in
       done_so w _ reply o events (ninth_reply (a (copy_of w k))) w reply' o.reply _ (in_transaction_full w k (transaction_of xs k) (a (copy_of w k)) many) p

@@ -15,7 +15,7 @@ use Rattle.rules.specs.Octets.{Octets, less, decimal}
 use Rattle.rules.specs.Entries.{has, without, is_empty}
 use Rattle.rules.specs.Path.{Domain, Connection, domain_of, is_control, release_name}
 use Rattle.rules.specs.Node.{Node, Table, node_at, within, removed, insert, has_parent, children_from, children, owned_below, owned_by, without_all}
-use Rattle.rules.specs.Payload.{Place, path, event, release, request}
+use Rattle.rules.specs.Payload.{Place, event, release, request}
 use Rattle.rules.specs.Answer.{Errno, EACCES, ENOENT, refused, OK}
 use Rattle.rules.specs.Event.{Watch, Watches, Record, mask_of, any_bit, kept, heard, is_event, heard_of}
 use Rattle.rules.specs.Layout.{Transaction}

@@ -22,7 +22,7 @@ use Rattle.rules.specs.World.{World, Outcome, staled, staled_if}
 use Rattle.rules.proofs.Slots.{table-read}
 use Rattle.rules.proofs.Fitting.{Fitting}
 use Rattle.laws.specs.History.{after}
-use Rattle.laws.specs.Order.{Single, node, then, replay, Agrees, Logs, added}
+use Rattle.laws.specs.Order.{Single, node, then, replay, Agrees, Logs}
 use Rattle.rules.proofs.Places.{nothing, some_is, at_set, set_cases, at_without, length_without, has_at}
 use Rattle.rules.proofs.OpenTransactions.{get_or-staled, length-staled_if}
 use Rattle.rules.proofs.Senders.{control-zero}

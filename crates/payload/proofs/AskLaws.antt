@@ -9,8 +9,6 @@ use native.Mathlib.Omega.{arith}
 use lib.Dec.{eqb}
 use lib.ListN.{length, take, drop}
 use lib.Seq.{length-take-le}
-use types.Run.{OneOf, miss}
-use denote.Enum.Declared.{tag_of}
 use borrow.Author.Tests.{ne_eqb}
 use Rattle.rules.specs.Octets.{Octets}
 use Rattle.rules.specs.Path.{Domain, Connection, domain_of, Names, Given, malformed, absolute, relative, special, given, base, path_text, slashed}
@@ -32,7 +30,6 @@ use Rattle.payload.specs.declared.answer.Ask.TheVariants as ask
 use Rattle.payload.specs.declared.answer.Request.{Request}
 use Rattle.payload.specs.declared.answer.Request.TheVariants.{Invalid, Ask as Asked}
 use Rattle.payload.specs.declared.parts.Parts.TheVariants.{One}
-use Rattle.payload.specs.contracts.answer.Ask.{the_type}
 use Rattle.payload.proofs.CursorLaws.{Untold}
 
 -- what is asked of some names

@@ -1,7 +1,7 @@
 -- What is known of the lent tables where a request is handled, and what each kind of request comes to.
 use mathlib.Core.Path.{◌≡◌, refl, sym, ap, subst, ◌∙◌}
 use mathlib.Core.Bool.{Bool, true, false, cond, and-eq-true_iff}
-use mathlib.Core.List.{List, [], ◌∷◌, map-id}
+use mathlib.Core.List.{List, [], map-id}
 use mathlib.Core.Option.{none, some}
 use Prim.Native.Nat.{ℕ, ◌≤◌, ◌<◌}
 use lib.Dec.{eqb}
@@ -13,7 +13,7 @@ use Rattle.rules.specs.Domain.{Domain, Connection, is_control}
 use Rattle.rules.specs.Payload.{parse}
 use Rattle.rules.specs.Answer.{EACCES, refused}
 use Rattle.rules.specs.Layout.{opened, table_of, watches_of, transactions_of, domains_of}
-use Rattle.rules.specs.Sound.{known, sound_table, sound_domains, sound_watches, sound_transactions}
+use Rattle.rules.specs.Sound.{sound_table, sound_domains, sound_watches, sound_transactions}
 use Rattle.rules.specs.World as W
 use Rattle.rules.specs.World.{World, left, for_control}
 use Rattle.rules.specs.Call as Call

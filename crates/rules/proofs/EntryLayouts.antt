@@ -10,7 +10,7 @@ use lib.Seq.{take_at, drop_at}
 use lib.Dec.{eqb, lit<}
 use Rattle.rules.specs.Size.{longest_token, longest_path, domain_size, most_domains, watch_size, most_watches}
 use Rattle.rules.specs.Octets.{Octets, paste, padded, bit, ◌bits◌, chunks, big_endian, big_from, field, pack, pack_from, bits_at}
-use Rattle.rules.specs.Path.{Domain, relative, special, given, all_names, path_text}
+use Rattle.rules.specs.Path.{Domain, special, given, all_names, path_text}
 use Rattle.rules.specs.Payload.{Place, path, event}
 use Rattle.rules.specs.Event.{Watch, Watches, place_text}
 use Rattle.rules.specs.Layout.{text_at, is_relative, depth_bits, watch_bits, watch_bytes, place_in, watch_at, watch_in, watches_bytes, watches_of}

@@ -30,7 +30,7 @@ use Rattle.rules.proofs.GoodRequests.{PlaceGood, DepthGood}
 use Rattle.rules.proofs.EntryLayouts.{PlaceFits, DepthFits}
 use Rattle.rules.proofs.TransactionLayouts.{ChangeFits}
 use Rattle.rules.proofs.Owned.{OwnedSlot, owned_slots}
-use Rattle.rules.proofs.OpenTransactions.{get_or-staled, length-staled_if, named}
+use Rattle.rules.proofs.OpenTransactions.{get_or-staled, length-staled_if}
 use Rattle.rules.proofs.SoundWorld.{WatchSound, twins, WatchesSound, TransactionSound, TransactionsSound, TableSound, table_encoded}
 
 -- ── watches ──

@@ -12,7 +12,7 @@ use borrow.Author.Tests.{eqb-true, eq-eqb, eqb-false}
 use Rattle.rules.specs.Size.{most_changes, most_transactions, most_domains, most_watches, longest_token, table_size, last_domain}
 use Rattle.rules.specs.Octets.{Octets, same}
 use Rattle.rules.specs.Entries.{lowest, without, has}
-use Rattle.rules.specs.Path.{Domain, domain_of, Names, is_control, fits}
+use Rattle.rules.specs.Path.{Domain, domain_of, Names, is_control}
 use Rattle.rules.specs.Node.{Table}
 use Rattle.rules.specs.Payload.{Ask}
 use Rattle.rules.specs.Answer.{Change, answer}

@@ -129,7 +129,7 @@ module _ (t : Octets) (bytes : Bytes t) (whole : length t ≡ table_size) (i : �
         let u = uncut (name_length t i) (value_length t i) (entry_count t i) (mod-lt _ (omega arith)) (mod-lt _ (omega arith)) (mod-lt _ (omega arith))
         (aligned (head t i / 65536 % 128) (name_length t i) (value_length t i) (entry_count t i) (min (name_length t i) longest_name)
         (min (value_length t i) longest_value) (min (entry_count t i - 1) 3) (pack (node_bits (meant t i))) (head t i)
-            (fields_of_lem (head t i) bound first) number
+        (fields_of_lem (head t i) bound first) number
         e) in
         of_sizes t i (record { name = u.0; value = u.1; least = u.2; few = u.3 }))
         (λ p.
@@ -261,7 +261,7 @@ module _ (t : Octets) (bytes : Bytes t) (whole : length t ≡ table_size) (i : �
     entries_by e first rest c ef er ec =
         let s = sizes_of t i e in
         let split : field t (i * slot_size + fields_size) entries_size
-            ≡ field t (i * slot_size + fields_size) 1 * 256 ^ 8 + field t (i * slot_size + fields_size + 1)
+        ≡ field t (i * slot_size + fields_size) 1 * 256 ^ 8 + field t (i * slot_size + fields_size + 1)
         8 = field-split t (i * slot_size + fields_size) 1 8 (omega arith) in
         let m : field t (i * slot_size + fields_size) entries_size ≡ first * 256 ^ 8 + rest = split
         ∙ rw (field_one t (i * slot_size + fields_size) (omega arith), ← ef, ← er) refl in

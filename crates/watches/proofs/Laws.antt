@@ -11,8 +11,7 @@ use lib.Dec.{eqb, leb, lit≤}
 use borrow.Author.Tests.{le-leb}
 use Rattle.rules.specs.Size.{most_watches, watch_fields_size, token_at, watch_size, watches_size, longest_path, longest_token}
 use Rattle.rules.specs.Octets.{Octets, same, field, bits_at, bit, padded}
-use Rattle.rules.specs.Path.{Connection, relative, given}
-use Rattle.rules.specs.Payload.{path}
+use Rattle.rules.specs.Path.{Connection}
 use Rattle.rules.specs.Event.{Watch, place_text}
 use Rattle.rules.specs.Layout.{text_at, is_relative, watch_bytes, watch_in, watch_at, place_in, watches_of}
 use Rattle.rules.specs.Sound.{twin}
@@ -32,7 +31,7 @@ use Rattle.watches.proofs.Bytes.{place_short, place-whole, marks_back, lengths_b
 
 pub six_listed : (s : Octets) (p : ℕ) → p + watch_fields_size ≤ length s
     → take watch_fields_size (drop p s)
-        ≡ get_or s p 0 ∷ get_or s (p + 1) 0 ∷ get_or s (p + 2) 0 ∷ get_or s (p + 3) 0 ∷ get_or s (p + 4) 0 ∷ get_or s (p + 5) 0 ∷ []
+    ≡ get_or s p 0 ∷ get_or s (p + 1) 0 ∷ get_or s (p + 2) 0 ∷ get_or s (p + 3) 0 ∷ get_or s (p + 4) 0 ∷ get_or s (p + 5) 0 ∷ []
 six_listed s p h = listed_from s p watch_fields_size (omega arith)
 
 module _ (s : Octets) (k : ℕ) (h : k < most_watches) where

@@ -1,7 +1,6 @@
 -- The three bytes of a place are those of its domain.
 use native.Mathlib.Omega.{arith}
 use lib.ListN.{length-set}
-use borrow.Author.Rules.{rules}
 use Rattle.domains.proofs.Laws.{put_domain}
 use Rattle.domains.proofs.changes.add.Goals as goal
 

@@ -2,7 +2,6 @@
 use mathlib.Core.Path.{sym, ◌∙◌}
 use native.Mathlib.Omega.{arith}
 use lib.Dec.{eqb}
-use borrow.Author.Rules.{rules}
 use Rattle.domains.proofs.Laws.{freed_domain, left-domain}
 use Rattle.domains.proofs.changes.free_if.Goals as goal
 

@@ -1,13 +1,8 @@
 -- The places before the one in turn are done, the others as they were.
-use mathlib.Core.Path.{◌≡◌, refl}
-use Prim.Native.Nat.{◌-◌}
+use mathlib.Core.Path.{refl}
 use native.Mathlib.Omega.{arith}
 use lib.Dec.{eqb}
-use Rattle.rules.specs.Size.{most_domains}
 use Rattle.rules.specs.Layout.{domains_of}
-use Rattle.domains.specs.Entry.{dropped_if}
-use Rattle.domains.specs.Kept.{KeptDomains}
-use Rattle.domains.proofs.Search.{swept_before}
 use Rattle.domains.proofs.Laws.{swept-domain, swept-domains}
 use Rattle.domains.proofs.changes.remove.Goals as goal
 

@@ -1,14 +1,12 @@
 -- The places before the one in turn are done, the others as they were.
-use mathlib.Core.Path.{◌≡◌, refl}
+use mathlib.Core.Path.{◌≡◌}
 use Prim.Native.Nat.{◌-◌}
-use native.Mathlib.Omega.{arith}
 use lib.Dec.{eqb}
 use Rattle.rules.specs.Size.{most_domains}
 use Rattle.rules.specs.Layout.{domains_of}
 use Rattle.domains.specs.Entry.{dropped_if}
 use Rattle.domains.specs.Kept.{KeptDomains}
 use Rattle.domains.proofs.Search.{swept_before}
-use Rattle.domains.proofs.Laws.{swept-domain, swept-domains}
 use Rattle.domains.proofs.changes.remove.Given as goal
 
 abbrev pub invariant-loop-i : goal.invariant-loop-i

@@ -1,12 +1,9 @@
 -- What is asked of the table is asked of each place, with those after it.
-use mathlib.Core.Path.{refl}
 use Prim.Native.Nat.{◌-◌}
-use native.Mathlib.Omega.{arith}
 use Rattle.rules.specs.Size.{most_domains}
 use Rattle.rules.specs.Layout.{domains_of}
 use Rattle.rules.specs.Sound.{good_domains}
-use Rattle.domains.proofs.Turns.{Checked, check_failed, check_passed, check_ended}
-use Rattle.domains.proofs.Laws.{length-domains_of, good_check}
+use Rattle.domains.proofs.Turns.{Checked}
 use Rattle.domains.proofs.checks.good.Given as goal
 
 abbrev pub invariant-loop-i : goal.invariant-loop-i

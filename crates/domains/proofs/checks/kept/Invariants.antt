@@ -1,12 +1,9 @@
 -- The table is the bytes of its places, so they are those of what they mean where each place's are.
-use mathlib.Core.Path.{refl}
 use Prim.Native.Nat.{◌-◌}
-use native.Mathlib.Omega.{arith}
 use Rattle.rules.specs.Size.{most_domains, domain_size}
-use Rattle.rules.specs.Layout.{domain_bytes, domain_in, domains_bytes, domains_of}
-use Rattle.domains.specs.Kept.{kept_at}
+use Rattle.rules.specs.Layout.{domain_bytes, domain_in}
 use Rattle.domains.proofs.Turns.{Checked, every}
-use Rattle.domains.proofs.Rows.{rows_kept, rows_failed, rows_passed, rows_ended}
+use Rattle.domains.proofs.Rows.{rows_kept}
 use Rattle.domains.proofs.Laws.{wide}
 use Rattle.domains.proofs.checks.kept.Given as goal
 

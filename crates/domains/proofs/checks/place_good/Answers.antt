@@ -4,8 +4,6 @@ use mathlib.Core.Bool.{not}
 use Prim.Native.Nat.{◌+◌}
 use native.Mathlib.Omega.{arith}
 use lib.ListN.{drop}
-use borrow.Author.Tests.{not-true, not-false}
-use borrow.Author.Rules.{rules}
 use Rattle.rules.specs.Layout.{domains_of}
 use Rattle.rules.specs.Sound.{introduced}
 use Rattle.domains.proofs.Laws.{good_free, good-zero, good_large, good_ranged}

@@ -1,6 +1,5 @@
 -- A used place has nothing but its id, and a free one is zero.
 use mathlib.Core.Path.{◌∙◌}
-use borrow.Author.Rules.{rules}
 use Rattle.octets.proofs.Bytes.{bytes-known}
 use Rattle.domains.proofs.Laws.{used-same, free_same}
 use Rattle.domains.proofs.checks.place_kept.Goals as goal

@@ -1,7 +1,6 @@
 -- The tests are those of sound domains, in their order.
 use mathlib.Core.Path.{sym, ◌∙◌}
-use borrow.Author.Tests.{eq-eqb, ne_eqb, not-true, not-false}
-use borrow.Author.Rules.{rules}
+use borrow.Author.Tests.{eq-eqb, ne_eqb}
 use Rattle.rules.specs.Sound.{sound_domains}
 use Rattle.domains.proofs.checks.sound_domains.Goals as goal
 

@@ -1,5 +1,4 @@
 -- The id is the number of the two bytes behind the first.
-use borrow.Author.Rules.{rules}
 use Rattle.domains.proofs.Laws.{domain_two}
 use Rattle.domains.proofs.places.domain.Goals as goal
 

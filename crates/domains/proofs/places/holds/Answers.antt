@@ -1,8 +1,6 @@
 -- A free place has no domain; a taken one has its own.
 use mathlib.Core.Path.{sym, ap, ◌∙◌}
 use lib.Dec.{eqb}
-use borrow.Author.Tests.{not-true, not-false}
-use borrow.Author.Rules.{rules}
 use Rattle.domains.proofs.Search.{passes_free, passes-taken}
 use Rattle.domains.proofs.places.holds.Goals as goal
 

@@ -1,5 +1,4 @@
 -- Introduced is what a place from the first on has.
-use borrow.Author.Rules.{rules}
 use Rattle.rules.specs.Sound.{introduced}
 use Rattle.domains.proofs.places.introduced.Goals as goal
 

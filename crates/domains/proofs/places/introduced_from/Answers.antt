@@ -1,11 +1,6 @@
 -- The first place that has the domain is found, if one from there on has it.
-use mathlib.Core.Path.{◌≡◌, refl}
-use Prim.Native.Nat.{◌-◌}
-use native.Mathlib.Omega.{arith}
-use lib.Dec.{eqb}
-use lib.ListN.{drop}
+use mathlib.Core.Path.{refl}
 use Rattle.rules.specs.Size.{most_domains}
-use Rattle.rules.specs.Entries.{has}
 use Rattle.rules.specs.Layout.{domains_of}
 use Rattle.domains.proofs.Search.{found, passed_by, not_found}
 use Rattle.domains.proofs.Laws.{length-domains_of}

@@ -1,6 +1,5 @@
 -- The control domain is known; of the others those that are introduced.
 use mathlib.Core.Path.{sym, ◌∙◌}
-use borrow.Author.Rules.{rules}
 use Rattle.rules.specs.Sound.{known}
 use Rattle.domains.proofs.places.known.Goals as goal
 

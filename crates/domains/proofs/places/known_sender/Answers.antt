@@ -1,6 +1,5 @@
 -- The domain that it speaks for is known.
 use mathlib.Core.Path.{ap, ◌∙◌}
-use borrow.Author.Rules.{rules}
 use Rattle.rules.specs.Domain.{Domain}
 use Rattle.rules.specs.Layout.{domains_of}
 use Rattle.rules.specs.Sound.{known}

@@ -1,7 +1,6 @@
 -- A domain is in a place where the first bit of the place is set.
 use mathlib.Core.Path.{refl, ◌∙◌}
 use lib.Dec.{lit≤}
-use borrow.Author.Rules.{rules}
 use Rattle.rules.specs.Size.{domain_size, most_domains}
 use Rattle.rules.specs.Layout.{domains_of}
 use Rattle.octets.proofs.Bytes.{bytes-known}

@@ -1,5 +1,4 @@
 -- The first bit of the place says it.
-use borrow.Author.Rules.{rules}
 use Rattle.octets.proofs.Bytes.{bytes-known}
 use Rattle.domains.proofs.Laws.{used_byte}
 use Rattle.domains.proofs.places.used.Goals as goal

@@ -1,9 +1,6 @@
 -- From the topmost created parent down the events are recorded one after the other, and the path's own at last.
-use native.Mathlib.Omega.{arith}
 use Rattle.rules.specs.Layout.{table_of, watches_of}
-use Rattle.rules.specs.Size.{longest_path}
-use Rattle.paths.proofs.AboveLaws.{above_long, above_short, above_full}
-use Rattle.events.proofs.Levels.{Told, told_none, told-room, told_next, told-all}
+use Rattle.events.proofs.Levels.{Told}
 use Rattle.events.proofs.changes.change.Given as goal
 
 abbrev pub invariant-loop-levels : goal.invariant-loop-levels

@@ -1,13 +1,9 @@
 -- After j turns the records are those of the first j changes; a change makes a record a level at most, so there is room for all.
-use mathlib.Core.Path.{◌≡◌}
-use Prim.Native.Nat.{◌-◌, ◌≤◌}
 use native.Mathlib.Omega.{arith}
-use lib.ListN.{length}
-use Rattle.rules.specs.Size.{most_changes, deepest}
-use Rattle.rules.specs.Event.{heard_change, heard}
-use Rattle.rules.specs.Layout.{table_of, watches_of}
-use Rattle.transactions.specs.Transaction.{transaction_of, no_change, HasChange}
-use Rattle.events.proofs.Entering.{Entered, entered_none, entered_room, entered_next, entered_all, room-less}
+use Rattle.rules.specs.Size.{deepest}
+use Rattle.rules.specs.Event.{heard}
+use Rattle.transactions.specs.Transaction.{no_change, HasChange}
+use Rattle.events.proofs.Entering.{entered_none, entered_room, entered_next, entered_all, room-less}
 use Rattle.events.proofs.ChangeLaws.{given-few, has-change, change-parents, change-short, change-full, change_above, change-given}
 use Rattle.events.proofs.changes.changes.Goals as goal
 use Rattle.events.proofs.changes.changes.Goals.{In-loop-j}

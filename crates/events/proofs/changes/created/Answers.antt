@@ -1,14 +1,12 @@
 -- From the topmost created parent down the events are recorded one after the other.
 use mathlib.Core.Path.{sym}
-use mathlib.Core.Bool.{false}
 use native.Mathlib.Omega.{arith}
 use Rattle.rules.specs.Size.{longest_path}
-use Rattle.rules.specs.Layout.{table_of, watches_of}
 use Rattle.paths.proofs.AboveLaws.{above_long, above_short, above_full}
 use Rattle.events.specs.Stores.{heard_parents}
 use Rattle.events.proofs.ChangeLaws.{heard-given}
 use Rattle.events.proofs.RecordLaws.{recorded_as}
-use Rattle.events.proofs.Levels.{Told, told_none, told-room, told_next, told-parents}
+use Rattle.events.proofs.Levels.{told_none, told-room, told_next, told-parents}
 use Rattle.events.proofs.changes.created.Goals as goal
 
 pub loop-levels-init : goal.loop-levels-init

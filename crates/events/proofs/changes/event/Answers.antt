@@ -1,5 +1,4 @@
 -- Those that hear the event in the store before it are known, and so those that hear it before or after it.
-use borrow.Author.Rules.{rules}
 use Rattle.events.proofs.changes.event.Goals as goal
 
 pub returns : goal.returns

@@ -1,5 +1,4 @@
 -- The record of an event has the mask of those that hear it and the path that was given, and is kept if the mask has a bit.
-use borrow.Author.Rules.{rules}
 use Rattle.events.proofs.ChangeLaws.{heard-given}
 use Rattle.events.proofs.changes.event_since.Goals as goal
 

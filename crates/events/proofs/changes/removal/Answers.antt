@@ -1,6 +1,5 @@
 -- The text that was put is the path of the slot, so the event that is recorded is the removal of its node.
 use mathlib.Core.Path.{ap, ◌∙◌}
-use borrow.Author.Rules.{rules}
 use Rattle.rules.specs.Size.{longest_path}
 use Rattle.rules.specs.Path.{is_full}
 use Rattle.events.proofs.RecordLaws.{recorded_as}

@@ -1,13 +1,8 @@
 -- After i turns the records are those of the first i removals; there are no more removals than places for records.
-use mathlib.Core.List.{map}
-use Prim.Native.Nat.{◌-◌}
 use native.Mathlib.Omega.{arith}
-use lib.ListN.{take}
-use Rattle.rules.specs.Event.{heard_change, heard}
-use Rattle.rules.specs.Layout.{table_of, watches_of}
+use Rattle.rules.specs.Event.{heard}
 use Rattle.lookup.proofs.ChildrenLaws.{listed}
-use Rattle.events.specs.Stores.{removal_of}
-use Rattle.events.proofs.Entering.{Entered, entered_none, entered_room, entered_next, entered_all}
+use Rattle.events.proofs.Entering.{entered_none, entered_room, entered_next, entered_all}
 use Rattle.events.proofs.ChangeLaws.{removals_length, removal_at, removal-few}
 use Rattle.events.proofs.changes.removals.Goals as goal
 

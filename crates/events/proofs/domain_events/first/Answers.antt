@@ -1,7 +1,6 @@
 -- The record has the watch's own text and the mask of this watch alone, and is put whether or not a bit is set.
 use mathlib.Core.Path.{sym}
 use native.Mathlib.Omega.{arith}
-use borrow.Author.Rules.{rules}
 use Rattle.rules.specs.Event.{first_heard}
 use Rattle.events.proofs.HearingLaws.{own-short}
 use Rattle.events.proofs.domain_events.first.Goals as goal

@@ -1,7 +1,6 @@
 -- The text is a slash and the domain's decimal, and the mask that of the watches on the event's name.
 use mathlib.Core.Path.{sym}
 use native.Mathlib.Omega.{arith}
-use borrow.Author.Rules.{rules}
 use Rattle.rules.specs.Size.{longest_path}
 use Rattle.rules.specs.Event.{heard_of}
 use Rattle.rules.proofs.Decimals.{length-decimal_le}

@@ -1,5 +1,4 @@
 -- The two cases of a depth are those of the rule.
-use borrow.Author.Rules.{rules}
 use Rattle.events.proofs.HearingLaws.{depth_to, depth_any}
 use Rattle.events.proofs.hearing.deep_enough.Goals as goal
 

@@ -1,7 +1,5 @@
 -- A watch whose text begins with a slash is on a full path; any other hears no change of a node.
 use mathlib.Core.Path.{sym, ◌∙◌}
-use borrow.Author.Tests.{not-true, not-false}
-use borrow.Author.Rules.{rules}
 use Rattle.watches.specs.Watch.{TakenWatch}
 use Rattle.domains.proofs.Search.{passes_free}
 use Rattle.events.proofs.HearingLaws.{taken_here, OnPath, on_path, deaf, hears_so}
@@ -24,7 +22,7 @@ returns-then-not-begins c =
 
 on : (c : Else-not-begins)
     → OnPath c.args.watches.now c.args.k (taken_here c.requires.0 c.requires.1.kept c.used.ensures c.if-not-used.false-raw) c.path-own.result.now
-        c.path-own.ensures
+    c.path-own.ensures
 on c = on_path _ _ _ _ _ (sym c.begins.ensures ∙ c.if-not-begins.false)
 
 pub domain-requires : goal.domain-requires

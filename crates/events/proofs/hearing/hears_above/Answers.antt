@@ -1,7 +1,5 @@
 -- A removed path that is above the watch's own is heard if the owner may read the watch's own; any other is not.
 use mathlib.Core.Path.{sym, ◌∙◌}
-use borrow.Author.Tests.{not-true, not-false}
-use borrow.Author.Rules.{rules}
 use Rattle.events.proofs.HearingLaws.{hear_once, above_kept, above_removed, above_other}
 use Rattle.events.proofs.hearing.hears_above.Goals as goal
 

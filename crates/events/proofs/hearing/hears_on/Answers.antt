@@ -1,7 +1,5 @@
 -- The path is at or below the watch's own, deep enough and readable; or it was removed above it.
 use mathlib.Core.Path.{sym, ◌∙◌}
-use borrow.Author.Tests.{not-true, not-false}
-use borrow.Author.Rules.{rules}
 use Rattle.events.specs.Stores.{happened}
 use Rattle.events.proofs.HearingLaws.{hear_once, too_deep, within-depth, not_below}
 use Rattle.events.proofs.hearing.hears_on.Goals as goal

@@ -1,6 +1,5 @@
 -- A path that is not reached to its end is not there; where it is, the slot's rights decide.
 use mathlib.Core.Path.{◌∙◌}
-use borrow.Author.Rules.{rules}
 use Rattle.events.proofs.HearingLaws.{unreadable, readable-there}
 use Rattle.events.proofs.hearing.readable.Goals as goal
 

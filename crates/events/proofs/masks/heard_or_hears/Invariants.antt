@@ -1,11 +1,10 @@
 -- After k turns the number has the first k bits of those that heard or hear, and the rest has the bits that are left, highest first.
 use Prim.Native.Nat.{◌-◌}
-use native.Mathlib.Omega.{arith}
 use Rattle.rules.specs.Size.{most_watches}
 use Rattle.rules.specs.Layout.{table_of}
 use Rattle.rules.specs.Event.{hears}
 use Rattle.events.specs.Stores.{happened}
-use Rattle.events.proofs.EitherLaws.{Either, either_none, either_small, either_next, either_all}
+use Rattle.events.proofs.EitherLaws.{Either}
 use Rattle.events.proofs.masks.heard_or_hears.Given as goal
 
 abbrev pub invariant-loop-k : goal.invariant-loop-k

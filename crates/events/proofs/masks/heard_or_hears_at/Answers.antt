@@ -1,7 +1,6 @@
 -- The highest of 16 bits is set where the number is 32768 or more; where it is not, the store decides.
 use mathlib.Core.Path.{refl}
 use borrow.Author.Tests.{le-leb, lt-leb}
-use borrow.Author.Rules.{rules}
 use Rattle.events.proofs.masks.heard_or_hears_at.Goals as goal
 
 pub returns-then-heard-ge32768 : goal.returns-then-heard-ge32768

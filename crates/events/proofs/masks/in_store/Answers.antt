@@ -1,7 +1,6 @@
 -- Where nobody heard it before, those that heard or hear are those that hear it in the store.
 use mathlib.Core.Bool.{false}
 use Rattle.events.proofs.EitherLaws.{mask-none}
-use borrow.Author.Rules.{rules}
 use Rattle.events.proofs.masks.in_store.Goals as goal
 
 pub returns : goal.returns

@@ -1,8 +1,6 @@
 -- The text of a watch on an event is the event's name, and no path's text is.
 use mathlib.Core.Bool.{true, false}
 use mathlib.Core.Path.{sym, ◌∙◌}
-use borrow.Author.Tests.{not-true}
-use borrow.Author.Rules.{rules}
 use Rattle.rules.specs.Path.{introduce_name, release_name}
 use Rattle.rules.specs.Octets.{text}
 use Rattle.watches.specs.Watch.{TakenWatch}

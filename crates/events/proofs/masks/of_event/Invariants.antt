@@ -1,12 +1,10 @@
 -- After k turns the number has the first k bits of the mask.
-use mathlib.Core.Path.{◌∙◌}
 use Prim.Native.Nat.{◌-◌}
-use native.Mathlib.Omega.{arith}
 use Rattle.rules.specs.Size.{most_watches}
 use Rattle.rules.specs.Layout.{watches_of}
 use Rattle.rules.specs.Event.{is_event, mask_of}
 use Rattle.events.specs.Stores.{event_name}
-use Rattle.events.proofs.MaskLaws.{Masked, masked_none, masked_small, masked_next, masked_all, mask-long, mask_at}
+use Rattle.events.proofs.MaskLaws.{Masked}
 use Rattle.events.proofs.masks.of_event.Given as goal
 
 abbrev pub invariant-loop-k : goal.invariant-loop-k

@@ -1,6 +1,5 @@
 -- Who hears an event hears it in the store before it or in the store after it.
 use Rattle.events.proofs.EitherLaws.{mask_either}
-use borrow.Author.Rules.{rules}
 use Rattle.events.proofs.masks.of_event_since.Goals as goal
 
 pub returns : goal.returns

@@ -1,10 +1,9 @@
 -- After i turns the number has the first i bits of the mask.
 use Prim.Native.Nat.{◌-◌}
-use native.Mathlib.Omega.{arith}
 use Rattle.rules.specs.Size.{most_watches}
 use Rattle.rules.specs.Layout.{watches_of}
 use Rattle.rules.specs.Event.{only_from}
-use Rattle.events.proofs.MaskLaws.{Masked, masked_none, masked_small, masked_next, masked_all, only_long, only_at}
+use Rattle.events.proofs.MaskLaws.{Masked}
 use Rattle.events.proofs.masks.one_watch.Given as goal
 
 abbrev pub invariant-loop-i : goal.invariant-loop-i

@@ -2,7 +2,6 @@
 use mathlib.Core.Path.{◌≡◌}
 use Prim.Native.Nat.{◌+◌, ◌*◌}
 use native.Mathlib.Omega.{arith}
-use borrow.Author.Rules.{rules}
 use Rattle.events.proofs.masks.with_bit.Goals as goal
 
 pub returns-then-on : goal.returns-then-on

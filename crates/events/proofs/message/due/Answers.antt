@@ -3,7 +3,6 @@ use mathlib.Core.Path.{◌≡◌, sym, ap, ◌∙◌}
 use mathlib.Core.Bool.{true}
 use mathlib.Core.Option.{none}
 use lib.ListN.{get_or}
-use borrow.Author.Tests.{not-true, not-false}
 use Rattle.rules.specs.Octets.{Octets}
 use Rattle.rules.specs.Layout.{watches_of}
 use Rattle.rules.specs.Message.{record_at, mask_bit, concerns}
@@ -11,7 +10,6 @@ use Rattle.domains.specs.Entry.{taken}
 use Rattle.watches.specs.Watch.{watch_of}
 use Rattle.watches.proofs.Written.{sound-kept}
 use Rattle.events.proofs.DueLaws.{due_free, due_unheard, due_empty, due-long, due-concerns}
-use borrow.Author.Rules.{rules}
 use Rattle.events.proofs.message.due.Goals as goal
 use Rattle.events.proofs.message.due.Goals.{Else-not-heard, Else-not-used}
 

@@ -3,7 +3,6 @@ use mathlib.Core.Path.{◌≡◌, sym, ap, ◌∙◌}
 use mathlib.Core.Bool.{true}
 use Prim.Native.Nat.{◌≤◌}
 use lib.ListN.{length}
-use borrow.Author.Tests.{not-true, not-false}
 use Rattle.rules.specs.Size.{longest_path}
 use Rattle.rules.specs.Octets.{Octets}
 use Rattle.rules.specs.Message.{concerns, reported}
@@ -14,7 +13,6 @@ use Rattle.events.proofs.ReportLaws.{reported-short}
 use Rattle.events.proofs.PutLaws.{message-told}
 use Rattle.events.proofs.DueLaws.{due-used, due-short, due_concerned, path-short, nothing_sent, message-sent}
 use Rattle.events.proofs.DueLaws.{past_count, past_records, past_watches, undue, message-due}
-use borrow.Author.Rules.{rules}
 use Rattle.events.proofs.message.message.Goals as goal
 use Rattle.events.proofs.message.message.Goals.{Else-not-due}
 

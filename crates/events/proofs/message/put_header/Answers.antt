@@ -1,6 +1,5 @@
 -- The four numbers stand one behind the other.
 use Rattle.events.proofs.PutLaws.{header_put}
-use borrow.Author.Rules.{rules}
 use Rattle.events.proofs.message.put_header.Goals as goal
 
 pub returns : goal.returns

@@ -2,7 +2,6 @@
 use mathlib.Core.List.{[]}
 use native.Mathlib.Omega.{arith}
 use Rattle.events.proofs.PutLaws.{string-behind, message-behind, message_put}
-use borrow.Author.Rules.{rules}
 use Rattle.events.proofs.message.put_message.Goals as goal
 
 pub put_string-end-requires : goal.put_string-end-requires

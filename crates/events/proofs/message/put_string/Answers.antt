@@ -1,6 +1,5 @@
 -- The text is copied, and the nul stands behind it.
 use Rattle.events.proofs.PutLaws.{string_put}
-use borrow.Author.Rules.{rules}
 use Rattle.events.proofs.message.put_string.Goals as goal
 
 pub returns : goal.returns

@@ -1,6 +1,5 @@
 -- The mask is the first two bytes of the record, so its bit for the watch is that of the number in them.
 use Rattle.events.proofs.RecordLaws.{mask-read}
-use borrow.Author.Rules.{rules}
 use Rattle.events.proofs.record.heard.Goals as goal
 
 pub returns : goal.returns

@@ -1,5 +1,4 @@
 -- A mask that is 0 has no bit, and then there is nothing to keep; with any other the record is kept.
-use borrow.Author.Rules.{rules}
 use Rattle.events.proofs.RecordLaws.{left_out, kept_so}
 use Rattle.events.proofs.record.keep.Goals as goal
 

@@ -1,7 +1,6 @@
 -- The path is as many bytes behind the fields as its length says, and these are all within the record.
 use native.Mathlib.Omega.{arith}
 use Rattle.events.proofs.RecordLaws.{path-read}
-use borrow.Author.Rules.{rules}
 use Rattle.events.proofs.record.path.Goals as goal
 
 pub returns : goal.returns

@@ -1,6 +1,5 @@
 -- The length is the nine high bits of the two bytes behind the mask.
 use Rattle.events.proofs.RecordLaws.{length-read}
-use borrow.Author.Rules.{rules}
 use Rattle.events.proofs.record.path_length.Goals as goal
 
 pub returns : goal.returns

@@ -2,7 +2,6 @@
 use mathlib.Core.Path.{ap, ◌∙◌}
 use native.Mathlib.Omega.{arith}
 use lib.ListN.{length-set}
-use borrow.Author.Rules.{rules}
 use Rattle.rules.specs.Octets.{paste}
 use Rattle.events.proofs.RecordLaws.{put_record}
 use Rattle.events.proofs.record.put.Goals as goal

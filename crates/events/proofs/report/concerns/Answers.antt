@@ -2,17 +2,14 @@
 use mathlib.Core.Path.{◌≡◌, ap, ◌∙◌}
 use mathlib.Core.Bool.{true, false}
 use mathlib.Core.List.{[], ◌∷◌}
-use borrow.Author.Tests.{not-true, not-false}
 use Rattle.rules.specs.Octets.{Octets, same, begins}
 use Rattle.rules.specs.Path.{is_below}
-use Rattle.rules.specs.Payload.{Place}
 use Rattle.rules.specs.Event.{place_text}
 use Rattle.rules.proofs.EntryLayouts.{PlaceFits}
 use Rattle.watches.specs.Watch.{watch_of}
 use Rattle.events.proofs.WatchLaws.{taken-watch, watch-fits}
 use Rattle.events.proofs.PlaceLaws.{told}
 use Rattle.events.proofs.ReportLaws.{concern_same, concern_event, concern_below, concern_above}
-use borrow.Author.Rules.{rules}
 use Rattle.events.proofs.report.concerns.Goals as goal
 use Rattle.events.proofs.report.concerns.Goals.{After-path-own, Else-not-begins, Else-same, Then-not-begins}
 

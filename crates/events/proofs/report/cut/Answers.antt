@@ -1,9 +1,7 @@
 -- The base and its slash are 15 bytes and the domain's digits, and the path has as many.
 use native.Mathlib.Omega.{arith}
-use borrow.Author.Tests.{not-true, not-false}
 use Rattle.rules.proofs.Decimals.{length-decimal_le}
 use Rattle.events.proofs.ReportLaws.{base-length, cut-whole, cut-base}
-use borrow.Author.Rules.{rules}
 use Rattle.events.proofs.report.cut.Goals as goal
 
 pub returns-then-not-relative : goal.returns-then-not-relative

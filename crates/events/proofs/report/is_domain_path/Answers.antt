@@ -1,7 +1,6 @@
 -- The text has a first byte, which is a slash, and a domain id behind it.
 use Rattle.rules.specs.Message.{is_number}
 use Rattle.events.proofs.ReportLaws.{domain_empty, domain_other, domain-told}
-use borrow.Author.Rules.{rules}
 use Rattle.events.proofs.report.is_domain_path.Goals as goal
 
 pub returns-then-p-eq0 : goal.returns-then-p-eq0

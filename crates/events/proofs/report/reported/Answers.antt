@@ -2,17 +2,15 @@
 use mathlib.Core.Path.{◌≡◌, refl, sym, ap, ◌∙◌}
 use mathlib.Core.Bool.{Bool, true, false}
 use mathlib.Core.List.{[], ◌∷◌}
-use borrow.Author.Tests.{not-true, not-false}
 use Rattle.rules.specs.Octets.{begins}
 use Rattle.rules.specs.Path.{is_below}
-use Rattle.rules.specs.Event.{Watch, place_text}
+use Rattle.rules.specs.Event.{place_text}
 use Rattle.rules.specs.Sound.{good_place}
 use Rattle.rules.proofs.EntryLayouts.{PlaceFits}
 use Rattle.watches.specs.Watch.{depth_meant, watch_of, TakenWatch}
 use Rattle.events.proofs.WatchLaws.{taken-watch, watch-fits, good-place}
 use Rattle.events.proofs.PlaceLaws.{told}
 use Rattle.events.proofs.ReportLaws.{cut-same, report_own, report_record, report_nearer, report_further, nearer-room, further_room}
-use borrow.Author.Rules.{rules}
 use Rattle.events.proofs.report.reported.Goals as goal
 use Rattle.events.proofs.report.reported.Goals.{After-is_below, After-path-own, Else-not-begins, Then-not-begins}
 

@@ -1,7 +1,6 @@
 -- No room for a header, a payload past the size and another length than the header says are told by the numbers of the rule.
 use mathlib.Core.Path.{sym}
 use Rattle.haabuvilk.proofs.CheckLaws.{frame_short, frame_overlong, frame_whole, frame_broken}
-use borrow.Author.Rules.{rules}
 use Rattle.haabuvilk.proofs.checks.frame.Goals as goal
 
 pub returns-then-n-lt-HEADER_SIZE : goal.returns-then-n-lt-HEADER_SIZE

@@ -1,13 +1,6 @@
 -- The copies before i are sound, so those from i on decide.
-use mathlib.Core.Path.{◌≡◌, refl, sym, ◌∙◌}
-use Prim.Native.Nat.{◌≤◌, ◌-◌}
+use mathlib.Core.Path.{refl, sym, ◌∙◌}
 use native.Mathlib.Omega.{arith}
-use lib.ListN.{drop}
-use borrow.Author.Tests.{not-true, not-false}
-use Rattle.rules.specs.Size.{most_transactions, table_size}
-use Rattle.rules.specs.Octets.{chunks}
-use Rattle.rules.specs.Layout.{transactions_of}
-use Rattle.transactions.specs.Checks.{sound_copies}
 use Rattle.domains.proofs.Tests.{and_first, and_rest}
 use Rattle.haabuvilk.proofs.CheckLaws.{copies_next, copies_over}
 use Rattle.haabuvilk.proofs.checks.sound_copies.Goals as goal

@@ -1,8 +1,6 @@
 -- Of a closed transaction nothing is asked; an open one's copy is its part of the copies.
 use mathlib.Core.Path.{sym, ◌∙◌}
-use borrow.Author.Tests.{not-true, not-false}
 use Rattle.haabuvilk.proofs.CheckLaws.{copy-closed, copy_open, copy-part}
-use borrow.Author.Rules.{rules}
 use Rattle.haabuvilk.proofs.checks.sound_copy.Goals as goal
 
 pub returns-then-not-is_open : goal.returns-then-not-is_open

@@ -1,14 +1,12 @@
 -- The nodes, the domains, the watches and transactions against the domains, and the copies against the transactions: all that is sound.
 use mathlib.Core.Path.{◌≡◌, sym, ◌∙◌}
 use mathlib.Core.Bool.{true}
-use borrow.Author.Tests.{not-true, not-false}
 use Rattle.rules.specs.Layout.{domains_of}
 use Rattle.rules.specs.Sound.{sound_table, sound_domains, sound_watches}
 use Rattle.rules.specs.Call.{Tables}
 use Rattle.replies.specs.Does.{tables}
 use Rattle.haabuvilk.proofs.FreshLaws.{Sized, tables-sized}
 use Rattle.haabuvilk.proofs.CheckLaws.{unsound-nodes, unsound-domains, unsound-watches, unsound_entries, copies-left}
-use borrow.Author.Rules.{rules}
 use Rattle.haabuvilk.proofs.checks.sound_tables.Goals as goal
 use Rattle.haabuvilk.proofs.checks.sound_tables.Goals.{Else-not-sound, Else-not-sound_domains, Else-not-sound_watches, Start}
 

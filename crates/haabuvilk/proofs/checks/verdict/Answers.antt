@@ -1,12 +1,10 @@
 -- Sizes, soundness, sender and frame are tested in the rule book's order, and each has its number.
 use mathlib.Core.Path.{◌≡◌, sym, ◌∙◌}
 use mathlib.Core.Bool.{true}
-use borrow.Author.Tests.{not-true, not-false}
-use Rattle.rules.specs.Call.{Tables, sized_tables, sound}
+use Rattle.rules.specs.Call.{sized_tables, sound}
 use Rattle.replies.specs.Does.{tables}
 use Rattle.haabuvilk.proofs.FreshLaws.{tables-sized}
 use Rattle.haabuvilk.proofs.CheckLaws.{unsized_tables, unsized_reply, unsized_events, unsound-tables, unknown-sender, frame_left}
-use borrow.Author.Rules.{rules}
 use Rattle.haabuvilk.proofs.checks.verdict.Goals as goal
 use Rattle.haabuvilk.proofs.checks.verdict.Goals.{Else-not-sized_tables, Else-not-sound_tables}
 
@@ -46,7 +44,7 @@ pub returns-then-not-known_sender : goal.returns-then-not-known_sender
 returns-then-not-known_sender c =
     let places = goal.at.returns-then-not-known_sender c in
     sym (unknown-sender _ _ _ _ _ (sized places.Else-not-sized_tables) c.if-reply-ne-REPLY_SIZE.false c.if-events-ne-EVENTS_SIZE.false
-        (sound-all places.Else-not-sound_tables)
+    (sound-all places.Else-not-sound_tables)
     (sym c.known_sender.ensures ∙ c.if-not-known_sender.true))
 
 pub returns : goal.returns
@@ -54,5 +52,5 @@ returns c =
     let places = goal.at.returns c in
     c.frame.ensures
     ∙ sym (frame_left _ _ _ _ _ (sized places.Else-not-sized_tables) c.if-reply-ne-REPLY_SIZE.false c.if-events-ne-EVENTS_SIZE.false
-        (sound-all places.Else-not-sound_tables)
+    (sound-all places.Else-not-sound_tables)
     (sym c.known_sender.ensures ∙ c.if-not-known_sender.false))

@@ -1,13 +1,11 @@
 -- A wrong size, an unsound table and a record with no message have their numbers and alter nothing; else the message is put.
 use mathlib.Core.Path.{◌≡◌, sym, ◌∙◌}
 use mathlib.Core.Bool.{true}
-use borrow.Author.Tests.{not-true, not-false}
 use Rattle.rules.specs.Layout.{domains_of}
 use Rattle.rules.specs.Sound.{sound_domains, sound_watches}
 use Rattle.rules.specs.Call.{call_number}
 use Rattle.rules.specs.Message.{sized_message}
 use Rattle.haabuvilk.proofs.EventLaws.{wrong_size_lem, unsound-domains, unsound-watches, lent-sized, answered}
-use borrow.Author.Rules.{rules}
 use Rattle.haabuvilk.proofs.event_message.haabuvilk_event_message.Goals as goal
 use Rattle.haabuvilk.proofs.event_message.haabuvilk_event_message.Goals.{Else-not-sized_message, Else-not-sound_domains, Else-not-sound_watches}
 
@@ -49,11 +47,11 @@ unfolding call_number
 returns-in-Message c =
     let places = goal.at.returns-in-Message c in
     answered _ _ _ _ (sized places.Else-not-sized_message) _ _ _ (domains-sound places.Else-not-sound_domains) _ _ _
-        (watches-sound places.Else-not-sound_watches) c.in-Message.is c.message.ensures
+    (watches-sound places.Else-not-sound_watches) c.in-Message.is c.message.ensures
 
 pub returns-in-Nothing : goal.returns-in-Nothing
 unfolding call_number
 returns-in-Nothing c =
     let places = goal.at.returns-in-Nothing c in
     answered _ _ _ _ (sized places.Else-not-sized_message) _ _ _ (domains-sound places.Else-not-sound_domains) _ _ _
-        (watches-sound places.Else-not-sound_watches) c.in-Nothing.is c.message.ensures
+    (watches-sound places.Else-not-sound_watches) c.in-Nothing.is c.message.ensures

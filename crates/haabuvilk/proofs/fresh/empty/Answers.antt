@@ -1,6 +1,5 @@
 -- As many zeros as the table is long are the whole table.
 use Rattle.haabuvilk.proofs.FreshLaws.{cleared}
-use borrow.Author.Rules.{rules}
 use Rattle.haabuvilk.proofs.fresh.empty.Goals as goal
 
 pub returns : goal.returns

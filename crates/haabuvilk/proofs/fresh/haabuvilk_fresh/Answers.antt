@@ -1,11 +1,9 @@
 -- Tables of the right sizes become the root alone and zeros, which are the fresh store; a wrong size alters nothing.
 use mathlib.Core.Path.{◌≡◌, sym, ◌∙◌}
 use mathlib.Core.Bool.{true}
-use borrow.Author.Tests.{not-true, not-false}
 use Rattle.rules.specs.Call.{Tables, sized_tables}
 use Rattle.replies.specs.Does.{tables}
 use Rattle.haabuvilk.proofs.FreshLaws.{tables-sized, fresh_refused, fresh_done}
-use borrow.Author.Rules.{rules}
 use Rattle.haabuvilk.proofs.fresh.haabuvilk_fresh.Goals as goal
 use Rattle.haabuvilk.proofs.fresh.haabuvilk_fresh.Goals.{Else-not-sized_tables}
 

@@ -1,6 +1,5 @@
 -- The mark of a used slot, one entry, and zeros are the root with no value and the permission `n0`.
 use Rattle.haabuvilk.proofs.FreshLaws.{root_put}
-use borrow.Author.Rules.{rules}
 use Rattle.haabuvilk.proofs.fresh.root_only.Goals as goal
 
 pub returns : goal.returns

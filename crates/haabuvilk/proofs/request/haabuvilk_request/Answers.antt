@@ -2,7 +2,7 @@
 use mathlib.Core.Path.{sym, ◌∙◌}
 use mathlib.Core.List.{[]}
 use native.Mathlib.Omega.{arith}
-use Rattle.rules.specs.Call.{Tables, world_of}
+use Rattle.rules.specs.Call.{world_of}
 use Rattle.replies.specs.Does.{tables}
 use Rattle.haabuvilk.proofs.RequestLaws.{Ready, ready, turned_away_lem, shown, answered, reply_held, records_fit}
 use borrow.Author.Rules.{rules}
@@ -14,7 +14,7 @@ returns-then-v-ne-TO_HANDLE c = turned_away_lem _ _ _ _ _ _ c.verdict-v.ensures 
 
 ready_for : (c : Else-v-ne-TO_HANDLE)
     → Ready (tables c.args.nodes.now c.args.copies.now c.args.watches.now c.args.transactions.now c.args.domains.now) c.args.sender c.args.reply.now
-        c.args.events.now c.args.message.now
+    c.args.events.now c.args.message.now
 ready_for c = ready _ _ _ _ _ (sym c.verdict-v.ensures ∙ c.if-v-ne-TO_HANDLE.false)
 
 pub number32-kind-requires : goal.number32-kind-requires

@@ -5,7 +5,6 @@ use native.Mathlib.Omega.{arith}
 use Rattle.rules.proofs.Decimals.{length-decimal_le}
 use Rattle.rules.specs.Octets.{text}
 use Rattle.handlers.proofs.AboutLaws.{front, base-told}
-use borrow.Author.Rules.{rules}
 use Rattle.handlers.proofs.about.domain_path.Goals as goal
 
 pub bounds-reply-at : goal.bounds-reply-at

@@ -1,7 +1,6 @@
 -- The letter that was put is that of whether the domain is known.
 use mathlib.Core.Path.{sym, ◌∙◌}
 use Rattle.handlers.proofs.AboutLaws.{told-introduced, told-unknown}
-use borrow.Author.Rules.{rules}
 use Rattle.handlers.proofs.about.is_introduced.Goals as goal
 
 pub returns-then-known : goal.returns-then-known

@@ -1,5 +1,4 @@
 -- The transactions are stale, and the records are those of the change's events for who heard them before or hears them after.
-use borrow.Author.Rules.{rules}
 use Rattle.handlers.proofs.asking.after_change.Goals as goal
 
 pub returns : goal.returns

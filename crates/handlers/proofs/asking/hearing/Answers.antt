@@ -1,5 +1,4 @@
 -- A request that changes a node would remove it only if it is RM.
-use borrow.Author.Rules.{rules}
 use Rattle.handlers.proofs.asking.hearing.Goals as goal
 
 pub returns-in-Directory : goal.returns-in-Directory

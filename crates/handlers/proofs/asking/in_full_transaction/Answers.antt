@@ -6,7 +6,6 @@ use Rattle.slots.proofs.Canonical.{sound_canonical}
 use Rattle.handlers.proofs.AskingLaws.{eight_still, eight_refused}
 use Rattle.payload.specs.Meaning.{ask_meant}
 use Rattle.handlers.proofs.Answers.{ready, wrote_makes, removed_makes}
-use borrow.Author.Rules.{rules}
 use Rattle.handlers.proofs.asking.in_full_transaction.Goals as goal
 
 pub copy-requires : goal.copy-requires

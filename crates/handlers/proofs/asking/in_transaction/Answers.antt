@@ -7,7 +7,6 @@ use Rattle.rules.specs.Answer.{answer}
 use Rattle.handlers.proofs.AskingLaws.{copy-part, full-handled, changing, nothing_handled, change-handled}
 use Rattle.payload.specs.Meaning.{ask_meant}
 use Rattle.handlers.proofs.Answers.{ready, wrote_makes, removed_makes}
-use borrow.Author.Rules.{rules}
 use Rattle.handlers.proofs.asking.in_transaction.Goals as goal
 
 pub in_full_transaction-requires : goal.in_full_transaction-requires

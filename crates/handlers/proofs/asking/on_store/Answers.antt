@@ -1,7 +1,6 @@
 -- The answer's table is left; who hears its change was asked before the answer and is asked after it, and the parents that it created were not there.
 use Rattle.handlers.proofs.PlainLaws.{telling, nothing_done, change-done}
 use Rattle.handlers.proofs.Answers.{ready, wrote_makes, removed_makes}
-use borrow.Author.Rules.{rules}
 use Rattle.handlers.proofs.asking.on_store.Goals as goal
 
 pub answer-a-requires : goal.answer-a-requires

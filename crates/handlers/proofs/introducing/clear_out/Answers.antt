@@ -4,7 +4,6 @@ use native.Mathlib.Omega.{arith}
 use Rattle.rules.proofs.Paste.{paste-whole}
 use Rattle.slots.proofs.Canonical.{sound_canonical}
 use Rattle.handlers.proofs.ReleaseLaws.{any_mine, removals_ready, domain_ready, released}
-use borrow.Author.Rules.{rules}
 use Rattle.handlers.proofs.introducing.clear_out.Goals as goal
 
 pub copy-requires : goal.copy-requires

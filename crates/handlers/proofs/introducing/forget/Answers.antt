@@ -1,7 +1,6 @@
 -- Each table is left without the domain's entries, and the transactions stale where a node was removed.
 use mathlib.Core.Path.{refl}
 use Rattle.handlers.proofs.ReleaseLaws.{ended-kept, forgotten-stale, forgotten_still}
-use borrow.Author.Rules.{rules}
 use Rattle.handlers.proofs.introducing.forget.Goals as goal
 
 pub stale_all-requires : goal.stale_all-requires

@@ -12,7 +12,6 @@ use Rattle.handlers.proofs.DomainLaws.{introduce_twice, introduce-full, introduc
 use Rattle.rules.specs.Layout.{record_bytes}
 use Rattle.domains.proofs.Laws.{length-domains_of}
 use Rattle.handlers.proofs.Alone.{domains-alone}
-use borrow.Author.Rules.{rules}
 use Rattle.handlers.proofs.introducing.introduce.Goals as goal
 
 pub returns-then-introduced : goal.returns-then-introduced

@@ -1,10 +1,8 @@
 -- A domain that is not introduced leaves every table; one that is leaves them as its clearing out does.
 use mathlib.Core.Path.{refl, sym, ◌∙◌}
-use borrow.Author.Tests.{not-true, not-false}
 use Rattle.handlers.proofs.Alone.{nodes-alone, watches-alone, transactions-alone, domains-alone}
 use Rattle.handlers.proofs.Ways.{refused_so, same_tables_lem}
 use Rattle.handlers.proofs.ReleaseLaws.{release-unknown, released-handled}
-use borrow.Author.Rules.{rules}
 use Rattle.handlers.proofs.introducing.release.Goals as goal
 
 pub returns-then-not-introduced : goal.returns-then-not-introduced

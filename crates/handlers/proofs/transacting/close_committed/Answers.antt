@@ -4,7 +4,6 @@ use Rattle.rules.specs.World.{staled}
 use Rattle.rules.specs.Layout.{Transactions, transactions_bytes}
 use Rattle.transactions.proofs.Written.{close_kept}
 use Rattle.handlers.proofs.EndLaws.{committed_still, committed_stale}
-use borrow.Author.Rules.{rules}
 use Rattle.handlers.proofs.transacting.close_committed.Goals as goal
 
 pub returns-then-changes-eq0 : goal.returns-then-changes-eq0

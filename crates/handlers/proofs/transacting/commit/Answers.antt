@@ -1,6 +1,5 @@
 -- The copy's bytes become the node table, and the records are those of its changes between the two.
 use Rattle.handlers.proofs.EndLaws.{committing_stores, copy-fits, commit_handled}
-use borrow.Author.Rules.{rules}
 use Rattle.handlers.proofs.transacting.commit.Goals as goal
 
 pub changes-n-requires : goal.changes-n-requires

@@ -5,11 +5,10 @@ use Rattle.handlers.proofs.Ways.{handled_as, refused_so, done_so, same_tables_le
 use Rattle.handlers.proofs.EndLaws.{it_holds, none_held, end-unknown, end_dropped, end-stale, end_commits}
 use Prim.Native.Nat.{◌-◌}
 use lib.ListN.{set}
-use borrow.Author.Tests.{not-true, not-false}
+use borrow.Author.Tests.{not-false}
 use mathlib.Core.Path.{refl, sym, ap, ◌∙◌}
 use Rattle.rules.specs.Layout.{Transactions, transactions_bytes}
 use Rattle.handlers.proofs.Alone.{nodes-alone, transactions-alone}
-use borrow.Author.Rules.{rules}
 use Rattle.handlers.proofs.transacting.end.Goals as goal
 
 pub returns-then-not-is_held : goal.returns-then-not-is_held

@@ -4,7 +4,6 @@ use Prim.Native.Nat.{ℕ}
 use mathlib.Core.Bool.{false}
 use mathlib.Core.Path.{sym, subst}
 use Rattle.handlers.proofs.EndLaws.{zero_held, past_held, held_or}
-use borrow.Author.Rules.{rules}
 use Rattle.handlers.proofs.transacting.is_held.Goals as goal
 
 pub returns-then-tx-eq0 : goal.returns-then-tx-eq0

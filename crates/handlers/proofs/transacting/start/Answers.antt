@@ -6,7 +6,6 @@ use Rattle.handlers.proofs.StartLaws.{three_transactions, start-full, start-done
 use Rattle.handlers.proofs.Ways.{refused_so, done_so, same_tables_lem}
 use mathlib.Core.Path.{refl}
 use Rattle.handlers.proofs.Alone.{copies-alone, transactions-alone}
-use borrow.Author.Rules.{rules}
 use Rattle.handlers.proofs.transacting.start.Goals as goal
 
 pub returns-then-k-ge-TRANSACTIONS : goal.returns-then-k-ge-TRANSACTIONS

@@ -7,7 +7,6 @@ use Rattle.rules.specs.World.{without_watches, without_transactions}
 use Rattle.rules.specs.Layout.{watches_bytes, transactions_bytes}
 use Rattle.handlers.proofs.WatchingLaws.{reset-done}
 use Rattle.handlers.proofs.Ways.{done_so, same_tables_lem}
-use borrow.Author.Rules.{rules}
 use Rattle.handlers.proofs.watching.reset.Goals as goal
 
 pub returns : goal.returns

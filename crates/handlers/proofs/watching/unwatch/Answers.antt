@@ -1,10 +1,8 @@
 -- The watch is dropped where there is one, and otherwise the table stays.
-use borrow.Author.Tests.{not-true, not-false}
 use Rattle.handlers.proofs.WatchingLaws.{unwatch-unknown, unwatch-done}
 use Rattle.handlers.proofs.Ways.{refused_so, done_so, same_tables_lem}
 use mathlib.Core.Path.{refl, sym, ◌∙◌}
 use Rattle.handlers.proofs.Alone.{watches-alone}
-use borrow.Author.Rules.{rules}
 use Rattle.handlers.proofs.watching.unwatch.Goals as goal
 
 pub returns-then-not-watched : goal.returns-then-not-watched

@@ -3,7 +3,6 @@ use Rattle.watches.specs.Watch.{watch_given}
 use lib.ListN.{length}
 use mathlib.Core.List.{List, flat_map}
 use mathlib.Core.Path.{refl, sym, ap, ◌∙◌}
-use borrow.Author.Tests.{not-true, not-false}
 use Rattle.rules.specs.World.{fresh_world}
 use Rattle.rules.specs.Event.{Record}
 use Rattle.rules.specs.Octets.{paste}
@@ -13,7 +12,6 @@ use Rattle.handlers.proofs.Ways.{refused_so, heard_so, same_tables_lem}
 use Rattle.handlers.proofs.WatchingLaws.{watch_twice, watch-long, watch-full, watch-done, watched-place, fit_watch, new_taken, first-same}
 use Rattle.rules.specs.Layout.{record_bytes}
 use Rattle.handlers.proofs.Alone.{watches-alone}
-use borrow.Author.Rules.{rules}
 use Rattle.handlers.proofs.watching.watch.Goals as goal
 
 pub returns-then-watched : goal.returns-then-watched

@@ -3,7 +3,7 @@ use mathlib.Core.Path.{sym, ◌∙◌}
 use Prim.Native.Nat.{◌-◌, ◌%◌}
 use native.Mathlib.Omega.{arith}
 use lib.Seq.{length-take-le}
-use Rattle.lookup.proofs.ChildrenLaws.{Gathered, gather_none, gather_skip, gather_put, gather_done, parent-used}
+use Rattle.lookup.proofs.ChildrenLaws.{gather_none, gather_skip, gather_put, gather_done, parent-used}
 use Rattle.lookup.proofs.children.children.Goals as goal
 
 pub loop-i-init : goal.loop-i-init

@@ -1,9 +1,5 @@
 -- A slot goes where its name belongs in the order, and slots are met from the last down, so the list is that of the children met so far.
-use mathlib.Core.Path.{sym, ◌∙◌}
-use Prim.Native.Nat.{◌-◌, ◌%◌}
-use native.Mathlib.Omega.{arith}
-use lib.Seq.{length-take-le}
-use Rattle.lookup.proofs.ChildrenLaws.{Gathered, gather_none, gather_skip, gather_put, gather_done, parent-used}
+use Rattle.lookup.proofs.ChildrenLaws.{Gathered}
 use Rattle.lookup.proofs.children.children.Given as goal
 
 abbrev pub invariant-loop-i : goal.invariant-loop-i

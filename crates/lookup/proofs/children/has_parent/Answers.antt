@@ -2,7 +2,6 @@
 use mathlib.Core.Path.{sym, ap, ◌∙◌}
 use Prim.Native.Nat.{ℕ}
 use lib.Dec.{eqb}
-use borrow.Author.Tests.{not-true, not-false}
 use Rattle.rules.specs.Layout.{table_of}
 use Rattle.slots.proofs.Canonical.{sound_canonical}
 use Rattle.lookup.proofs.ChildrenLaws.{unused_parent, used-parent}

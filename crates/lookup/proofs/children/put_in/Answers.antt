@@ -1,9 +1,7 @@
 -- Before each turn the slots from m on have moved up by one, and those before m are where they were.
 use mathlib.Core.Path.{◌≡◌, ◌∙◌}
-use Prim.Native.Nat.{◌+◌, ◌-◌, ◌≤◌}
 use native.Mathlib.Omega.{arith}
-use lib.ListN.{take, drop, length-set}
-use Rattle.rules.specs.Octets.{paste}
+use lib.ListN.{length-set}
 use Rattle.lookup.proofs.ChildrenLaws.{shift_none, shifted, shift_length, shift_done}
 use Rattle.lookup.proofs.children.put_in.Goals as goal
 

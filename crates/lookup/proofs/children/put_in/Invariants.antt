@@ -1,10 +1,8 @@
 -- Before each turn the slots from m on have moved up by one, and those before m are where they were.
-use mathlib.Core.Path.{◌≡◌, ◌∙◌}
+use mathlib.Core.Path.{◌≡◌}
 use Prim.Native.Nat.{◌+◌, ◌-◌, ◌≤◌}
-use native.Mathlib.Omega.{arith}
-use lib.ListN.{take, drop, length-set}
+use lib.ListN.{take, drop}
 use Rattle.rules.specs.Octets.{paste}
-use Rattle.lookup.proofs.ChildrenLaws.{shift_none, shifted, shift_length, shift_done}
 use Rattle.lookup.proofs.children.put_in.Given as goal
 
 abbrev pub invariant-loop-m : goal.invariant-loop-m

@@ -1,15 +1,10 @@
 -- After k turns the texts of the first k entries stand one behind the other; there are four at most and each is short, so there is room.
-use mathlib.Core.Path.{◌≡◌, ap, ◌∙◌}
+use mathlib.Core.Path.{◌≡◌}
 use Prim.Native.Nat.{suc, ◌≤◌, ◌-◌}
-use native.Mathlib.Omega.{arith}
-use borrow.Author.Rules.{rules}
 use lib.ListN.{length}
 use Rattle.rules.specs.Node.{node_at}
 use Rattle.rules.specs.Layout.{table_of}
-use Rattle.rules.proofs.Paste.{length-paste}
-use Rattle.slots.proofs.Canonical.{sound_canonical}
-use Rattle.lookup.proofs.RightsLaws.{count_is, few}
-use Rattle.lookup.proofs.ListingLaws.{Written, none_written, entry-fits, written-room, one_more, all-written}
+use Rattle.lookup.proofs.ListingLaws.{Written}
 use Rattle.lookup.proofs.listing.put_entries.Given as goal
 
 abbrev pub invariant-loop-k : goal.invariant-loop-k

@@ -3,7 +3,6 @@ use native.Mathlib.Omega.{arith}
 use mathlib.Core.Path.{◌∙◌}
 use lib.ListN.{length-set}
 use Rattle.lookup.proofs.ListingLaws.{entry-room, entry_next, entry_put}
-use borrow.Author.Rules.{rules}
 use Rattle.lookup.proofs.listing.put_entry.Goals as goal
 
 pub put_decimal-to-requires : goal.put_decimal-to-requires

@@ -1,7 +1,7 @@
 -- After k turns the first k names with their nuls stand one behind the other, and the rest of the list has the room that is left.
 use mathlib.Core.Path.{◌≡◌, sym, ap, ◌∙◌}
 use mathlib.Core.List.{◌++◌, flat_map}
-use Prim.Native.Nat.{ℕ, ◌+◌, ◌-◌, ◌≤◌}
+use Prim.Native.Nat.{ℕ, ◌+◌, ◌≤◌}
 use native.Mathlib.Omega.{arith}
 use borrow.Author.Rules.{rules}
 use native.Mathlib.Nat.{add-zero}

@@ -1,6 +1,6 @@
 -- A node that the domain owns is entered alone; of any other its children are walked in the order of names, one level less deep.
 use mathlib.Core.Path.{◌≡◌, refl, sym, ap, ◌∙◌}
-use Prim.Native.Nat.{ℕ, ◌<◌, ◌+◌, ◌*◌, ◌-◌, ◌%◌}
+use Prim.Native.Nat.{ℕ, ◌-◌, ◌%◌}
 use native.Mathlib.Omega.{arith}
 use borrow.Author.Rules.{rules}
 use mathlib.Core.List.{[], ◌∷◌}

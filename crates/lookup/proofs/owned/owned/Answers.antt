@@ -1,7 +1,6 @@
 -- The walk begins at the root; the levels are those of the deepest path, and the nodes no more than the slots.
 use mathlib.Core.Path.{◌∙◌}
 use native.Mathlib.Omega.{arith}
-use borrow.Author.Rules.{rules}
 use Rattle.rules.specs.Node.{owned_by}
 use Rattle.lookup.proofs.WalkLaws.{root-asked, owned_room, owned_done}
 use Rattle.lookup.proofs.owned.owned.Goals as goal

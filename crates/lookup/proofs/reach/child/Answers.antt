@@ -1,11 +1,8 @@
 -- No slot before i is the child, so those from i on decide.
-use mathlib.Core.Path.{◌≡◌, refl, sym, ◌∙◌}
-use Prim.Native.Nat.{◌≤◌, ◌-◌}
+use mathlib.Core.Path.{refl, sym, ◌∙◌}
 use native.Mathlib.Omega.{arith}
 use borrow.Author.Rules.{rules}
-use lib.ListN.{drop}
-use Rattle.rules.specs.Size.{slots}
-use Rattle.rules.specs.Node.{child, child_from}
+use Rattle.rules.specs.Node.{child}
 use Rattle.rules.specs.Layout.{table_of}
 use Rattle.rules.proofs.Slots.{length-table_of}
 use Rattle.lookup.proofs.ReachLaws.{child_here, child_further, child_over}

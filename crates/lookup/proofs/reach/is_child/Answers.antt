@@ -2,10 +2,8 @@
 use Rattle.rules.specs.Octets.{Octets, same}
 use Rattle.rules.specs.Layout.{table_of}
 use mathlib.Core.Path.{sym, ap, ◌∙◌}
-use borrow.Author.Tests.{not-true, not-false}
 use Rattle.slots.proofs.Canonical.{sound_canonical, name-short}
 use Rattle.lookup.proofs.ReachLaws.{unused_child, other_parent, same-parent}
-use borrow.Author.Rules.{rules}
 use Rattle.lookup.proofs.reach.is_child.Goals as goal
 
 pub used-requires : goal.used-requires

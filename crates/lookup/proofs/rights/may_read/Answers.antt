@@ -3,7 +3,6 @@ use mathlib.Core.Path.{ap}
 use Prim.Native.Nat.{◌%◌}
 use lib.Dec.{eqb}
 use Rattle.rules.specs.Rights.{Access, may_read}
-use borrow.Author.Rules.{rules}
 use Rattle.lookup.proofs.rights.may_read.Goals as goal
 
 pub returns : goal.returns

@@ -2,7 +2,6 @@
 use mathlib.Core.Path.{ap}
 use lib.Dec.{leb}
 use Rattle.rules.specs.Rights.{Access, may_write}
-use borrow.Author.Rules.{rules}
 use Rattle.lookup.proofs.rights.may_write.Goals as goal
 
 pub returns : goal.returns

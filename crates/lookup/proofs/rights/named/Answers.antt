@@ -1,14 +1,11 @@
 -- No later entry before k names the domain, so those from k on decide.
-use mathlib.Core.Path.{◌≡◌, refl, sym, ◌∙◌}
-use Prim.Native.Nat.{◌≤◌, ◌-◌, suc}
+use mathlib.Core.Path.{refl, sym, ◌∙◌}
 use native.Mathlib.Omega.{arith}
 use borrow.Author.Rules.{rules}
-use lib.ListN.{length}
 use Rattle.rules.specs.Node.{node_at}
-use Rattle.rules.specs.Rights.{named}
 use Rattle.rules.specs.Layout.{table_of}
 use Rattle.slots.proofs.Canonical.{sound_canonical}
-use Rattle.lookup.proofs.RightsLaws.{from, named_none, count_is, few, named_by, not_named_by}
+use Rattle.lookup.proofs.RightsLaws.{named_none, count_is, few, named_by, not_named_by}
 use Rattle.lookup.proofs.rights.named.Goals as goal
 
 pub entry_count-count-requires : goal.entry_count-count-requires

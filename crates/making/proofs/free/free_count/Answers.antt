@@ -1,14 +1,10 @@
 -- What is counted so far and the free slots from there on make the whole count.
-use mathlib.Core.Path.{sym, ◌∙◌, ◌≡◌}
-use Prim.Native.Nat.{◌<◌, ◌+◌, ◌-◌, ◌≤◌}
+use mathlib.Core.Path.{sym, ◌∙◌}
+use Prim.Native.Nat.{◌<◌}
 use native.Mathlib.Omega.{arith}
-use lib.ListN.{length, drop}
-use borrow.Author.Rules.{rules}
-use borrow.Author.Tests.{not-true, not-false}
+use lib.ListN.{length}
 use Rattle.rules.proofs.Slots.{length-table_of}
-use Rattle.rules.specs.Entries.{free_count}
 use Rattle.rules.specs.Layout.{table_of}
-use Rattle.rules.specs.Size.{slots}
 use Rattle.making.proofs.FreeSlots.{count_here, count_further, count_over}
 use Rattle.making.proofs.free.free_count.Goals as goal
 use Rattle.making.proofs.free.free_count.Goals.{then-not-used, else-not-used}

@@ -1,7 +1,6 @@
 -- A node is in a slot where the first bit of the slot is set.
 use mathlib.Core.Path.{refl, ◌∙◌}
 use lib.Dec.{lit≤}
-use borrow.Author.Rules.{rules}
 use Rattle.rules.specs.Size.{slot_size, slots}
 use Rattle.rules.specs.Layout.{table_of}
 use Rattle.rules.proofs.Slots.{length-table_of}

@@ -1,14 +1,8 @@
 -- The names before the one in turn are made; the rest is still to be, below the one that was made last.
-use mathlib.Core.Path.{◌∙◌, ◌≡◌, refl}
-use Prim.Native.Nat.{◌-◌}
+use mathlib.Core.Path.{◌∙◌, refl}
 use native.Mathlib.Omega.{arith}
-use lib.ListN.{length}
-use borrow.Author.Rules.{rules}
-use Rattle.rules.specs.Layout.{table_of}
-use Rattle.rules.specs.Node.{made}
 use Rattle.paths.proofs.PieceLaws.{end_low, end-high}
-use Rattle.slots.specs.Left.{left_at}
-use Rattle.making.proofs.MadeLaws.{ToMake, made_none, to_make, free_one, last_short, made_last, next_short, made_next}
+use Rattle.making.proofs.MadeLaws.{made_none, to_make, free_one, last_short, made_last, next_short, made_next}
 use Rattle.making.proofs.making.make.Goals as goal
 
 pub returns-then-path-at : goal.returns-then-path-at

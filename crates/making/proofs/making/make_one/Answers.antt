@@ -1,6 +1,5 @@
 -- Where a slot is free, the lowest free one is a slot.
 use native.Mathlib.Omega.{arith}
-use borrow.Author.Rules.{rules}
 use Rattle.rules.proofs.Fitting.{lowest-below}
 use Rattle.rules.proofs.Slots.{length-table_of}
 use Rattle.making.proofs.making.make_one.Goals as goal

@@ -1,7 +1,6 @@
 -- A free slot is read as the root, whose parent is slot 0.
 use mathlib.Core.Path.{sym, ◌∙◌}
 use native.Mathlib.Omega.{arith}
-use borrow.Author.Rules.{rules}
 use Rattle.making.proofs.WithinLaws.{free_parent}
 use Rattle.making.proofs.removing.above.Goals as goal
 

@@ -1,11 +1,6 @@
 -- A slot lies below another where it is met on the way up, which is as long as a path at most.
-use mathlib.Core.Path.{sym, ◌∙◌, ◌≡◌, refl}
-use Prim.Native.Nat.{◌≤◌, ◌<◌}
+use mathlib.Core.Path.{sym, ◌∙◌, refl}
 use native.Mathlib.Omega.{arith}
-use borrow.Author.Rules.{rules}
-use Rattle.rules.specs.Layout.{table_of}
-use Rattle.rules.specs.Node.{within}
-use Rattle.rules.specs.Size.{slots, deepest}
 use Rattle.making.proofs.WithinLaws.{within_here, within-root, within_up, within_end}
 use Rattle.making.proofs.removing.is_within.Goals as goal
 

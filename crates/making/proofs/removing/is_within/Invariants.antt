@@ -1,12 +1,9 @@
 -- A slot lies below another where it is met on the way up, which is as long as a path at most.
-use mathlib.Core.Path.{sym, ◌∙◌, ◌≡◌, refl}
+use mathlib.Core.Path.{◌≡◌}
 use Prim.Native.Nat.{◌≤◌, ◌<◌}
-use native.Mathlib.Omega.{arith}
-use borrow.Author.Rules.{rules}
 use Rattle.rules.specs.Layout.{table_of}
 use Rattle.rules.specs.Node.{within}
 use Rattle.rules.specs.Size.{slots, deepest}
-use Rattle.making.proofs.WithinLaws.{within_here, within-root, within_up, within_end}
 use Rattle.making.proofs.removing.is_within.Given as goal
 
 abbrev pub invariant-loop-k : goal.invariant-loop-k

@@ -1,14 +1,11 @@
 -- The marks before the one in turn are right.
 use mathlib.Core.Bool.{false}
-use mathlib.Core.Path.{◌≡◌, refl}
+use mathlib.Core.Path.{◌≡◌}
 use Prim.Native.Nat.{ℕ, ◌-◌, ◌≤◌, ◌<◌}
-use native.Mathlib.Omega.{arith}
-use lib.ListN.{length-set, length, get_or}
-use borrow.Author.Rules.{rules}
+use lib.ListN.{length, get_or}
 use Rattle.rules.specs.Layout.{table_of}
 use Rattle.rules.specs.Node.{within}
 use Rattle.rules.specs.Size.{slots, deepest}
-use Rattle.making.proofs.SweptLaws.{mark_more}
 use Rattle.making.proofs.removing.marked.Given as goal
 
 abbrev pub invariant-loop-j : goal.invariant-loop-j

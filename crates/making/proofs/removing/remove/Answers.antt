@@ -1,5 +1,4 @@
 -- The slot and all below it are marked, and the marked ones freed.
-use borrow.Author.Rules.{rules}
 use Rattle.making.proofs.SweptLaws.{swept-removed}
 use Rattle.making.proofs.removing.remove.Goals as goal
 

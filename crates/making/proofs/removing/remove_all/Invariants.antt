@@ -1,12 +1,10 @@
 -- The slots before the one in turn are removed; the rest of the list is still to be.
-use mathlib.Core.Path.{◌≡◌, refl, sym, ap, ◌∙◌}
-use Prim.Native.Nat.{ℕ, ◌-◌, ◌≤◌}
-use native.Mathlib.Omega.{arith}
+use mathlib.Core.Path.{◌≡◌}
+use Prim.Native.Nat.{◌-◌, ◌≤◌}
 use lib.ListN.{length, take}
-use lib.Seq.{get_or-take, length-take-le}
-use Rattle.rules.specs.Layout.{table_of, table_bytes}
-use Rattle.rules.specs.Node.{removed, without_all}
-use Rattle.making.proofs.SweptLaws.{ToRemove, to_remove, removed_next, removed-all}
+use Rattle.rules.specs.Layout.{table_of}
+use Rattle.rules.specs.Node.{without_all}
+use Rattle.making.proofs.SweptLaws.{ToRemove}
 use Rattle.making.proofs.removing.remove_all.Given as goal
 
 abbrev pub invariant-loop-k : goal.invariant-loop-k

@@ -1,12 +1,8 @@
 -- The marked slots before the one in turn are freed, the others as they were.
-use mathlib.Core.Path.{ap, ◌∙◌, ◌≡◌, refl}
-use Prim.Native.Nat.{◌<◌, ◌-◌, ◌≤◌}
+use mathlib.Core.Path.{◌∙◌, refl}
+use Prim.Native.Nat.{◌<◌}
 use native.Mathlib.Omega.{arith}
-use lib.ListN.{length, take}
-use borrow.Author.Rules.{rules}
-use Rattle.rules.specs.Layout.{table_of, table_bytes}
-use Rattle.rules.specs.Size.{slots}
-use Rattle.making.specs.Marks.{swept}
+use lib.ListN.{length}
 use Rattle.making.proofs.SweptLaws.{swept_canonical, swept_none, swept_here, swept_further, swept_all}
 use Rattle.making.proofs.removing.sweep.Goals as goal
 use Rattle.making.proofs.removing.sweep.Goals.{then-marks-j, else-marks-j}

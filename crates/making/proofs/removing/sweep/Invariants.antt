@@ -1,14 +1,10 @@
 -- The marked slots before the one in turn are freed, the others as they were.
-use mathlib.Core.Logic.{⊎_elim}
-use mathlib.Core.Path.{ap, ◌∙◌, ◌≡◌, refl}
-use Prim.Native.Nat.{◌<◌, ◌-◌, ◌≤◌}
-use native.Mathlib.Omega.{arith}
+use mathlib.Core.Path.{◌≡◌}
+use Prim.Native.Nat.{◌-◌, ◌≤◌}
 use lib.ListN.{length, take}
-use borrow.Author.Rules.{rules}
 use Rattle.rules.specs.Layout.{table_of, table_bytes}
 use Rattle.rules.specs.Size.{slots}
 use Rattle.making.specs.Marks.{swept}
-use Rattle.making.proofs.SweptLaws.{swept_canonical, swept_none, swept_here, swept_further, swept_all}
 use Rattle.making.proofs.removing.sweep.Given as goal
 
 abbrev pub invariant-loop-j : goal.invariant-loop-j

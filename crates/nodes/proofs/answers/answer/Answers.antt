@@ -3,7 +3,6 @@ use mathlib.Core.Path.{subst}
 use Rattle.payload.specs.Meaning.{AskSound}
 use Rattle.payload.specs.declared.answer.Ask.TheVariants.{Directory, Read, GetPerms, Mkdir, Rm, SetPerms}
 use Rattle.nodes.proofs.Outcomes.{answered_as, written_as}
-use borrow.Author.Rules.{rules}
 use Rattle.nodes.proofs.answers.answer.Goals as goal
 
 pub slice_bounds-write-count : goal.slice_bounds-write-count

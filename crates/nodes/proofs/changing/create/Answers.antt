@@ -7,12 +7,10 @@ use native.Mathlib.Omega.{arith}
 use Rattle.rules.specs.Path.{names_in}
 use Rattle.slots.specs.Left.{left_at}
 use Rattle.slots.proofs.Canonical.{sound_canonical}
-use borrow.Author.Tests.{not-true, not-false}
 use Rattle.nodes.proofs.Outcomes.{refused_so, changed_so}
 use Rattle.nodes.proofs.ChangingLaws.{created_denied, created-full, created-done}
 use Rattle.rules.proofs.Fitting.{roomy}
 use Rattle.nodes.proofs.RoomLaws.{left-short, some_left}
-use borrow.Author.Rules.{rules}
 use Rattle.nodes.proofs.changing.create.Goals as goal
 
 pub returns-then-not-may_write : goal.returns-then-not-may_write

@@ -1,9 +1,7 @@
 -- The value, the path and the free slots are tested in turn.
 use mathlib.Core.Path.{sym, ◌∙◌}
 use Rattle.slots.proofs.Canonical.{sound_canonical}
-use borrow.Author.Tests.{not-true, not-false}
 use Rattle.nodes.proofs.RoomLaws.{value-long, path_unfit, slots_decide}
-use borrow.Author.Rules.{rules}
 use Rattle.nodes.proofs.changing.has_room.Goals as goal
 
 pub returns-then-value-gt-LONGEST_VALUE : goal.returns-then-value-gt-LONGEST_VALUE

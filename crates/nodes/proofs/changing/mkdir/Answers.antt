@@ -3,7 +3,6 @@ use mathlib.Core.Path.{sym, ◌∙◌}
 use Rattle.slots.proofs.Canonical.{sound_canonical}
 use Rattle.nodes.proofs.Outcomes.{refused_so, okay_so}
 use Rattle.nodes.proofs.ChangingLaws.{mkdir-absent, mkdir-there}
-use borrow.Author.Rules.{rules}
 use Rattle.nodes.proofs.changing.mkdir.Goals as goal
 
 pub returns-then-at-path : goal.returns-then-at-path

@@ -1,9 +1,7 @@
 -- A name ends at each slash and at the end of the text.
-use mathlib.Core.Path.{◌≡◌}
 use native.Mathlib.Omega.{arith}
-use Prim.Native.Nat.{◌+◌, ◌-◌, ◌≤◌, ◌<◌}
-use lib.ListN.{length, drop}
-use Rattle.rules.specs.Path.{split}
+use Prim.Native.Nat.{◌<◌}
+use lib.ListN.{length}
 use Rattle.nodes.proofs.RoomLaws.{name_more, name-same, name_last, left-length}
 use Rattle.nodes.proofs.changing.names_left.Goals as goal
 use Rattle.nodes.proofs.changing.names_left.Goals.{then-path-i-eq47, else-path-i-eq47}

@@ -1,11 +1,8 @@
 -- A name ends at each slash and at the end of the text.
 use mathlib.Core.Path.{◌≡◌}
-use native.Mathlib.Omega.{arith}
-use mathlib.Core.Logic.{⊎_elim}
-use Prim.Native.Nat.{◌+◌, ◌-◌, ◌≤◌, ◌<◌}
+use Prim.Native.Nat.{◌+◌, ◌-◌, ◌≤◌}
 use lib.ListN.{length, drop}
 use Rattle.rules.specs.Path.{split}
-use Rattle.nodes.proofs.RoomLaws.{name_more, name-same, name_last, left-length}
 use Rattle.nodes.proofs.changing.names_left.Given as goal
 
 abbrev pub invariant-loop-i : goal.invariant-loop-i

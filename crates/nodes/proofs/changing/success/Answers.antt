@@ -1,6 +1,5 @@
 -- The reply is `okay`'s, and the effect the one given.
 use mathlib.Core.Path.{refl}
-use borrow.Author.Rules.{rules}
 use Rattle.nodes.proofs.changing.success.Goals as goal
 
 pub returns : goal.returns

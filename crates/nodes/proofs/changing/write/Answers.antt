@@ -1,10 +1,8 @@
 -- Where the path is there its value is put, if the domain may and the value is not too long; else what is left of it is made.
 use mathlib.Core.Path.{refl, sym, ◌∙◌}
 use Rattle.slots.proofs.Canonical.{sound_canonical}
-use borrow.Author.Tests.{not-true, not-false}
 use Rattle.nodes.proofs.Outcomes.{refused_so, changed_so}
 use Rattle.nodes.proofs.ChangingLaws.{write-absent, write_denied, write-long, write_done}
-use borrow.Author.Rules.{rules}
 use Rattle.nodes.proofs.changing.write.Goals as goal
 
 pub returns-then-at-path : goal.returns-then-at-path

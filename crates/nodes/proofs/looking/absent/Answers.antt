@@ -1,7 +1,6 @@
 -- The nearest ancestor that is there may be read, or not.
 use mathlib.Core.Path.{sym, ◌∙◌}
 use Rattle.nodes.proofs.Outcomes.{known-absent, hidden_absent}
-use borrow.Author.Rules.{rules}
 use Rattle.nodes.proofs.looking.absent.Goals as goal
 
 pub returns-then-may_read : goal.returns-then-may_read

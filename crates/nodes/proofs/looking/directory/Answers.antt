@@ -1,6 +1,5 @@
 -- The names of the children of the slot that is seen are put behind the header, if they are not too long.
 use Rattle.nodes.proofs.LookingLaws.{directory_gives, not_seen, seen-refused, seen, listed_big, listed_small}
-use borrow.Author.Rules.{rules}
 use Rattle.nodes.proofs.looking.directory.Goals as goal
 
 pub returns-then-long-gt-LONGEST_PAYLOAD : goal.returns-then-long-gt-LONGEST_PAYLOAD

@@ -6,7 +6,6 @@ use Rattle.rules.specs.Node.{node_at}
 use mathlib.Core.List.{◌∷◌, flat_map}
 use Rattle.rules.specs.Answer.{entry_text, permissions}
 use Rattle.nodes.proofs.LookingLaws.{get_perms_gives, asked-seen, not_seen, seen}
-use borrow.Author.Rules.{rules}
 use Rattle.nodes.proofs.looking.get_perms.Goals as goal
 
 pub put_entries-to-requires : goal.put_entries-to-requires

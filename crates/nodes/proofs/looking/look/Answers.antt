@@ -24,8 +24,7 @@ may_read-requires c = asked _ _ _ _ c.reach-reached.ensures c.requires.sound
 
 pub returns-then-may_read : goal.returns-then-may_read
 returns-then-may_read c =
-    let at = c.reach-reached.ensures in
-    (
+    let at = c.reach-reached.ensures in (
       asked _ _ _ _ at c.requires.sound,
       λ give. looked-there _ _ _ _ _ give (whole _ _ _ _ at c.if-reached-path.false) (sym c.may_read.ensures ∙ c.if-may_read.true),
     )

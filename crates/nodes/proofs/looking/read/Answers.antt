@@ -10,7 +10,6 @@ use Rattle.rules.specs.Octets.{Octets, paste}
 use Rattle.rules.proofs.Fitting.{node_at-fits, decoded_fits}
 use Rattle.slots.proofs.Canonical.{value-short}
 use Rattle.nodes.proofs.LookingLaws.{read_gives, asked-seen, not_seen, seen}
-use borrow.Author.Rules.{rules}
 use Rattle.nodes.proofs.looking.read.Goals as goal
 
 pub value-v-requires : goal.value-v-requires

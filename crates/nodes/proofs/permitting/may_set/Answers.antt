@@ -1,7 +1,6 @@
 -- The three tests of the rule book, in its order.
 use mathlib.Core.Path.{sym, ap, ◌∙◌}
 use Rattle.slots.proofs.Canonical.{sound_canonical}
-use borrow.Author.Tests.{not-true, not-false}
 use Rattle.rules.specs.Node.{Entry}
 use Rattle.lookup.proofs.RightsLaws.{owner_is}
 use Rattle.nodes.proofs.PermittingLaws.{set_denied, set-control, set-owner}

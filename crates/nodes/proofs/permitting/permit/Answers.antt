@@ -1,7 +1,6 @@
 -- The two arrays hold the entries that are meant.
 use Rattle.slots.proofs.Canonical.{sound_canonical}
 use Rattle.nodes.proofs.PermittingLaws.{given_entries, entries_put}
-use borrow.Author.Rules.{rules}
 use Rattle.nodes.proofs.permitting.permit.Goals as goal
 
 pub put_entries-requires : goal.put_entries-requires

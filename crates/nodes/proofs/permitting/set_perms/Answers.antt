@@ -2,11 +2,9 @@
 use mathlib.Core.Path.{refl, sym, ◌∙◌}
 use native.Mathlib.Omega.{arith}
 use Rattle.slots.proofs.Canonical.{sound_canonical}
-use borrow.Author.Tests.{not-true, not-false}
 use Rattle.nodes.proofs.Outcomes.{refused_so, changed_so}
 use Rattle.nodes.proofs.ChangingLaws.{perms_absent, perms_denied, perms_many, perms_done}
 use Rattle.payload.proofs.Kept.{length-others}
-use borrow.Author.Rules.{rules}
 use Rattle.nodes.proofs.permitting.set_perms.Goals as goal
 
 pub returns-then-reached-path : goal.returns-then-reached-path
@@ -23,7 +21,7 @@ returns-then-not-may_set c =
 pub returns-then-entries-gt-MOST_ENTRIES : goal.returns-then-entries-gt-MOST_ENTRIES
 returns-then-entries-gt-MOST_ENTRIES c =
     refused_so c.args.domain _ c.args.t.now (sound_canonical _ c.requires.0.standing.sound) _ c.args.reply.now _ _
-        c.refusal-then-entries-gt-MOST_ENTRIES.ensures
+    c.refusal-then-entries-gt-MOST_ENTRIES.ensures
     (perms_many _ _ _ _ _ c.reach-reached.ensures c.if-reached-path.false _ _
     (sym (c.may_set.ensures _ _ refl) ∙ c.if-not-may_set.false)
     (omega (arith, length-others c.args.entries c.requires.1.some-entry, c.if-entries-gt-MOST_ENTRIES.true)))

@@ -3,7 +3,6 @@ use mathlib.Core.Path.{sym, ◌∙◌}
 use Rattle.slots.proofs.Canonical.{sound_canonical}
 use Rattle.nodes.proofs.Outcomes.{refused_so, okay_so}
 use Rattle.nodes.proofs.ChangingLaws.{rm_far, rm_near}
-use borrow.Author.Rules.{rules}
 use Rattle.nodes.proofs.removing.remove_absent.Goals as goal
 
 pub returns-then-names_left-gt1 : goal.returns-then-names_left-gt1

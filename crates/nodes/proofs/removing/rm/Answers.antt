@@ -1,10 +1,8 @@
 -- A path that is there is removed if the domain may write it; an absent one is answered by its own function.
 use mathlib.Core.Path.{refl, sym, ◌∙◌}
 use Rattle.slots.proofs.Canonical.{sound_canonical}
-use borrow.Author.Tests.{not-true, not-false}
 use Rattle.nodes.proofs.Outcomes.{refused_so, changed_so}
 use Rattle.nodes.proofs.ChangingLaws.{rm_denied, rm-done}
-use borrow.Author.Rules.{rules}
 use Rattle.nodes.proofs.removing.rm.Goals as goal
 
 pub returns-then-not-may_write : goal.returns-then-not-may_write

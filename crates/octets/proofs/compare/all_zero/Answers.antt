@@ -1,11 +1,6 @@
 -- The or of bytes is 0 where each of them is; after i turns the first i bytes are gathered so.
-use mathlib.Core.Path.{◌≡◌, refl}
-use mathlib.Core.Bool.{◌&&◌}
-use Prim.Native.Nat.{◌≤◌, ◌-◌}
+use mathlib.Core.Path.{refl}
 use native.Mathlib.Omega.{arith}
-use lib.Dec.{eqb}
-use lib.ListN.{length, drop}
-use Rattle.rules.specs.Octets.{all_zero}
 use Rattle.octets.proofs.Gather.{zero_turn, zero-end}
 use Rattle.octets.proofs.compare.all_zero.Goals as goal
 

@@ -2,7 +2,6 @@
 use mathlib.Core.Path.{sym, ◌∙◌}
 use lib.Seq.{length-take-le}
 use Rattle.rules.proofs.Compare.{begins-same, begins-short}
-use borrow.Author.Rules.{rules}
 use Rattle.octets.proofs.compare.begins.Goals as goal
 
 pub returns-then-b-n : goal.returns-then-b-n

@@ -1,10 +1,8 @@
 -- The bytes before i agree, so those from i on decide; a text that ends first comes first.
-use mathlib.Core.Path.{◌≡◌, refl, sym, ◌∙◌}
+use mathlib.Core.Path.{◌≡◌}
 use Prim.Native.Nat.{◌≤◌, ◌-◌}
-use native.Mathlib.Omega.{arith}
 use lib.ListN.{length, drop}
 use Rattle.rules.specs.Octets.{less}
-use Rattle.rules.proofs.Compare.{less_next, less_here, less-ended, less_over}
 use Rattle.octets.proofs.compare.less.Given as goal
 
 abbrev pub invariant-loop-i : goal.invariant-loop-i

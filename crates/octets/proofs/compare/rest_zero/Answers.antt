@@ -3,8 +3,6 @@ use mathlib.Core.Path.{sym, ap, ◌∙◌}
 use Prim.Native.Nat.{◌/◌}
 use native.Mathlib.Omega.{arith}
 use lib.ListN.{drop}
-use borrow.Author.Tests.{not-true, not-false}
-use borrow.Author.Rules.{rules}
 use Rattle.rules.specs.Octets.{all_zero}
 use Rattle.octets.proofs.Padding.{behind, late_fault, first_decides, piece}
 use Rattle.octets.proofs.compare.rest_zero.Goals as goal

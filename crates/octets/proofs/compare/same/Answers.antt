@@ -1,11 +1,6 @@
 -- The xor of two bytes is 0 where they agree, and the or of the xors is 0 where all of them do; texts of two lengths differ.
-use mathlib.Core.Path.{◌≡◌, refl, sym}
-use mathlib.Core.Bool.{◌&&◌}
-use Prim.Native.Nat.{◌≤◌, ◌-◌}
+use mathlib.Core.Path.{refl, sym}
 use native.Mathlib.Omega.{arith}
-use lib.Dec.{eqb}
-use lib.ListN.{length, drop}
-use Rattle.rules.specs.Octets.{same}
 use Rattle.rules.proofs.Compare.{same_length}
 use Rattle.octets.proofs.Gather.{same_turn, same_end}
 use Rattle.octets.proofs.compare.same.Goals as goal

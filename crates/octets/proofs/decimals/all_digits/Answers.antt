@@ -1,10 +1,7 @@
 -- The bytes before i are digits, so those from i on decide.
 use Rattle.rules.proofs.Decimals.{low_digit, high_digit}
-use mathlib.Core.Path.{◌≡◌, refl, sym, ◌∙◌}
-use Prim.Native.Nat.{◌≤◌, ◌-◌}
+use mathlib.Core.Path.{refl, sym, ◌∙◌}
 use native.Mathlib.Omega.{arith}
-use lib.ListN.{length, drop}
-use Rattle.rules.specs.Octets.{all_digits}
 use Rattle.octets.proofs.Digits.{no_digit, one_digit, digits_end}
 use Rattle.octets.proofs.decimals.all_digits.Goals as goal
 

@@ -1,11 +1,8 @@
 -- The bytes before i are digits, so those from i on decide.
-use Rattle.rules.proofs.Decimals.{low_digit, high_digit}
-use mathlib.Core.Path.{◌≡◌, refl, sym, ◌∙◌}
+use mathlib.Core.Path.{◌≡◌}
 use Prim.Native.Nat.{◌≤◌, ◌-◌}
-use native.Mathlib.Omega.{arith}
 use lib.ListN.{length, drop}
 use Rattle.rules.specs.Octets.{all_digits}
-use Rattle.octets.proofs.Digits.{no_digit, one_digit, digits_end}
 use Rattle.octets.proofs.decimals.all_digits.Given as goal
 
 abbrev pub invariant-loop-i : goal.invariant-loop-i

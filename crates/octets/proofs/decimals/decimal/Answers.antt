@@ -5,12 +5,10 @@ use Prim.Native.Nat.{◌+◌, ◌*◌, ◌-◌, ◌≤◌}
 use native.Mathlib.Omega.{arith}
 use lib.ListN.{length, get_or, take}
 use lib.Seq.{length-take-le}
-use borrow.Author.Tests.{not-true, not-false}
 use Rattle.rules.specs.Octets.{plain_form, value_from}
 use Rattle.rules.proofs.Decimals.{plain_digits, plain-long, digits_take}
 use Rattle.octets.proofs.Digits.{plain_last}
 use Rattle.octets.proofs.Ranges.{malformed, large, valued}
-use borrow.Author.Rules.{rules}
 use Rattle.octets.proofs.decimals.decimal.Goals as goal
 use Rattle.octets.proofs.decimals.decimal.Goals.{Else-not-plain_form}
 

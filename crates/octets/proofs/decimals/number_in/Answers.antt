@@ -1,7 +1,6 @@
 -- A decimal that is malformed or too large is no number of any range within 64 bits; of any other the range decides.
 use mathlib.Core.Path.{sym, ◌∙◌}
 use Rattle.octets.proofs.Ranges.{told}
-use borrow.Author.Rules.{rules}
 use Rattle.octets.proofs.decimals.number_in.Goals as goal
 
 pub returns-in-Value : goal.returns-in-Value

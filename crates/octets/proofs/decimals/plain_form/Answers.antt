@@ -2,7 +2,6 @@
 use mathlib.Core.Path.{sym, ◌∙◌}
 use native.Mathlib.Omega.{arith}
 use Rattle.rules.proofs.Decimals.{plain_empty, plain-zero, plain_other}
-use borrow.Author.Rules.{rules}
 use Rattle.octets.proofs.decimals.plain_form.Goals as goal
 
 pub returns-then-len-eq0 : goal.returns-then-len-eq0

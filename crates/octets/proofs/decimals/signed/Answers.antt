@@ -7,7 +7,6 @@ use Rattle.rules.specs.Octets.{signed}
 use Rattle.octets.specs.Numbers.{meant}
 use Rattle.octets.specs.declared.Number.{Number}
 use Rattle.octets.proofs.Ranges.{negated, signed_nothing, signed_plus, signed-told, minus_bounds}
-use borrow.Author.Rules.{rules}
 use Rattle.octets.proofs.decimals.signed.Goals as goal
 use Rattle.octets.proofs.decimals.signed.Goals.{After-number_in-2, In-Is}
 

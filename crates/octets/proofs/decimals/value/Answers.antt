@@ -1,9 +1,8 @@
 -- After i turns n is the value of the first i digits, which is below 10 ^ i and so within 64 bits.
-use mathlib.Core.Path.{◌≡◌, refl, ◌∙◌}
-use Prim.Native.Nat.{◌≤◌, ◌<◌, ◌-◌, ◌^◌}
+use mathlib.Core.Path.{refl, ◌∙◌}
+use Prim.Native.Nat.{◌≤◌, ◌<◌, ◌^◌}
 use native.Mathlib.Omega.{arith}
-use lib.ListN.{length, get_or, drop}
-use Rattle.rules.specs.Octets.{value_from}
+use lib.ListN.{get_or}
 use Rattle.rules.proofs.Decimals.{value_next, ten_more}
 use Rattle.octets.proofs.Digits.{read_digit, value-end}
 use Rattle.octets.proofs.decimals.value.Goals as goal

@@ -1,6 +1,5 @@
 -- A field of eight bytes is one of four, 2 ^ 32 times, and the four behind it, both of them below 2 ^ 32.
 use native.Mathlib.Omega.{arith}
-use borrow.Author.Rules.{rules}
 use Rattle.octets.proofs.Bytes.{read_bound, field_eight}
 use Rattle.octets.proofs.numbers.eight.Goals as goal
 

@@ -1,7 +1,6 @@
 -- The bytes are below 256, so the sum of their places is the field and fits 64 bits.
 use Prim.Native.Nat.{◌+◌}
 use native.Mathlib.Omega.{arith}
-use borrow.Author.Rules.{rules}
 use Rattle.octets.proofs.Bytes.{bytes-known, field_four}
 use Rattle.octets.proofs.numbers.four.Goals as goal
 

@@ -4,7 +4,6 @@ use Prim.Native.Nat.{◌<◌, ◌+◌}
 use native.Mathlib.Omega.{arith}
 use lib.ListN.{get_or}
 use Rattle.rules.specs.Octets.{little_endian}
-use borrow.Author.Rules.{rules}
 use Rattle.octets.proofs.numbers.number32.Goals as goal
 use Rattle.octets.proofs.numbers.number32.Goals.{After-shared_slice_known-4-1}
 

@@ -3,7 +3,6 @@ use native.Mathlib.Omega.{arith}
 use lib.ListN.{length-set}
 use Rattle.rules.specs.Octets.{four_bytes}
 use Rattle.rules.proofs.Paste.{paste_four}
-use borrow.Author.Rules.{rules}
 use Rattle.octets.proofs.numbers.put_number32.Goals as goal
 
 pub bounds-into-at-2 : goal.bounds-into-at-2

@@ -1,7 +1,6 @@
 -- The bytes are below 256, so the sum of their places is the field and fits 32 bits.
 use Prim.Native.Nat.{◌+◌}
 use native.Mathlib.Omega.{arith}
-use borrow.Author.Rules.{rules}
 use Rattle.rules.proofs.Fields.{field_three}
 use Rattle.octets.proofs.Bytes.{bytes-known}
 use Rattle.octets.proofs.numbers.three.Goals as goal

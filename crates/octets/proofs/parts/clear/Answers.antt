@@ -1,9 +1,7 @@
 -- After i turns the first i of the zeros are in place.
-use mathlib.Core.Path.{◌≡◌, refl, sym}
-use Prim.Native.Nat.{◌≤◌, ◌-◌}
+use mathlib.Core.Path.{refl, sym}
 use native.Mathlib.Omega.{arith}
-use lib.ListN.{length, take, replicate, length-replicate, length-set}
-use Rattle.rules.specs.Octets.{paste}
+use lib.ListN.{length-replicate, length-set}
 use Rattle.rules.proofs.Paste.{paste_nil, paste-zero, paste_all}
 use Rattle.octets.proofs.parts.clear.Goals as goal
 

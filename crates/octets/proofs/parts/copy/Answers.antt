@@ -1,9 +1,7 @@
 -- After i turns the first i bytes of the text are in place.
-use mathlib.Core.Path.{◌≡◌, refl, sym}
-use Prim.Native.Nat.{◌≤◌, ◌-◌}
+use mathlib.Core.Path.{refl, sym}
 use native.Mathlib.Omega.{arith}
-use lib.ListN.{length, take, length-set}
-use Rattle.rules.specs.Octets.{paste}
+use lib.ListN.{length-set}
 use Rattle.rules.proofs.Paste.{paste_nil, paste_next, paste_all}
 use Rattle.octets.proofs.parts.copy.Goals as goal
 

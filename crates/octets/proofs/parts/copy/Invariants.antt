@@ -1,10 +1,8 @@
 -- After i turns the first i bytes of the text are in place.
-use mathlib.Core.Path.{◌≡◌, refl, sym}
+use mathlib.Core.Path.{◌≡◌}
 use Prim.Native.Nat.{◌≤◌, ◌-◌}
-use native.Mathlib.Omega.{arith}
-use lib.ListN.{length, take, length-set}
+use lib.ListN.{length, take}
 use Rattle.rules.specs.Octets.{paste}
-use Rattle.rules.proofs.Paste.{paste_nil, paste_next, paste_all}
 use Rattle.octets.proofs.parts.copy.Given as goal
 
 abbrev pub invariant-loop-i : goal.invariant-loop-i

@@ -1,7 +1,6 @@
 -- The zeros behind the text and the text before them are the padded text.
 use mathlib.Core.Path.{sym, ap, ◌∙◌}
 use native.Mathlib.Omega.{arith}
-use borrow.Author.Rules.{rules}
 use Rattle.rules.specs.Octets.{padded, paste}
 use Rattle.rules.proofs.Paste.{paste_append}
 use Rattle.octets.proofs.parts.put_text.Goals as goal

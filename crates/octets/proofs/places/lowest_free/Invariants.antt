@@ -1,7 +1,6 @@
 -- A place whose first byte is below 128 is free, and those before it are not.
 use Prim.Native.Nat.{◌-◌}
-use native.Mathlib.Omega.{arith}
-use Rattle.octets.proofs.PlaceLaws.{place-begins, Searched, searched_none, searched_more, found_free, none_free}
+use Rattle.octets.proofs.PlaceLaws.{Searched}
 use Rattle.octets.proofs.places.lowest_free.Given as goal
 
 abbrev pub invariant-loop-i : goal.invariant-loop-i

@@ -1,10 +1,6 @@
 -- A number of two digits or more has one digit more than its tenth.
-use mathlib.Core.Path.{◌≡◌}
-use Prim.Native.Nat.{◌+◌, ◌-◌, ◌^◌, ◌≤◌, ◌<◌}
 use native.Mathlib.Omega.{arith}
-use lib.ListN.{length}
-use Rattle.rules.specs.Octets.{decimal}
-use Rattle.rules.proofs.Decimals.{digit_count, length-decimal}
+use Rattle.rules.proofs.Decimals.{length-decimal}
 use Rattle.octets.proofs.Digits.{count_turn, count-end}
 use Rattle.octets.proofs.written.digits.Goals as goal
 

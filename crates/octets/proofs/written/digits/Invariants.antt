@@ -1,11 +1,9 @@
 -- A number of two digits or more has one digit more than its tenth.
 use mathlib.Core.Path.{◌≡◌}
 use Prim.Native.Nat.{◌+◌, ◌-◌, ◌^◌, ◌≤◌, ◌<◌}
-use native.Mathlib.Omega.{arith}
 use lib.ListN.{length}
 use Rattle.rules.specs.Octets.{decimal}
-use Rattle.rules.proofs.Decimals.{digit_count, length-decimal}
-use Rattle.octets.proofs.Digits.{count_turn, count-end}
+use Rattle.rules.proofs.Decimals.{digit_count}
 use Rattle.octets.proofs.written.digits.Given as goal
 
 abbrev pub invariant-loop-left : goal.invariant-loop-left

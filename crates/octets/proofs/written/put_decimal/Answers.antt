@@ -1,11 +1,9 @@
 -- Before each turn the digits from i on are in place, and the i digits before them are those of what is left.
-use mathlib.Core.Path.{◌≡◌, refl, ap}
-use mathlib.Core.List.{◌++◌}
-use Prim.Native.Nat.{ℕ, ◌+◌, ◌≤◌}
+use mathlib.Core.Path.{refl, ap}
+use Prim.Native.Nat.{ℕ, ◌+◌}
 use native.Mathlib.Omega.{arith}
-use lib.ListN.{length, drop, length-set}
-use Rattle.rules.specs.Octets.{decimal, paste}
-use Rattle.rules.proofs.Decimals.{last_digits, length-decimal_le}
+use lib.ListN.{length-set}
+use Rattle.rules.proofs.Decimals.{length-decimal_le}
 use Rattle.octets.proofs.Digits.{write-start, write_turn, write-end}
 use Rattle.octets.proofs.written.put_decimal.Goals as goal
 

@@ -1,9 +1,7 @@
 -- The state so far and what is left of the text decide.
-use mathlib.Core.Path.{◌≡◌, refl, ◌∙◌}
-use Prim.Native.Nat.{◌<◌, ◌≤◌, ◌-◌}
+use mathlib.Core.Path.{refl, ◌∙◌}
 use native.Mathlib.Omega.{arith}
-use lib.ListN.{length, drop, get_or}
-use Rattle.paths.specs.Machine.{run}
+use lib.ListN.{get_or}
 use Rattle.paths.proofs.ConstantTables.{classes, classes_small, steps, next_right}
 use Rattle.paths.proofs.MachineLaws.{verdict_right, step_small, run_next}
 use Rattle.paths.proofs.form.form.Goals as goal

@@ -1,11 +1,8 @@
 -- The state so far and what is left of the text decide.
-use mathlib.Core.Path.{◌≡◌, refl, ◌∙◌}
+use mathlib.Core.Path.{◌≡◌}
 use Prim.Native.Nat.{◌<◌, ◌≤◌, ◌-◌}
-use native.Mathlib.Omega.{arith}
 use lib.ListN.{length, drop}
 use Rattle.paths.specs.Machine.{run}
-use Rattle.paths.proofs.ConstantTables.{classes, classes_small, steps, next_right}
-use Rattle.paths.proofs.MachineLaws.{verdict_right, step_small, run_next}
 use Rattle.paths.proofs.form.form.Given as goal
 
 abbrev pub invariant-loop-i : goal.invariant-loop-i

@@ -1,6 +1,5 @@
 -- There are two event names.
 use mathlib.Core.Path.{sym, ◌∙◌}
-use borrow.Author.Rules.{rules}
 use Rattle.rules.specs.Octets.{text}
 use Rattle.rules.specs.Path.{introduce_name, release_name}
 use Rattle.paths.proofs.VerdictLaws.{event-first, event-second}

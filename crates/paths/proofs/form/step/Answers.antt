@@ -1,5 +1,4 @@
 -- Each entry is the machine's step of its row and column.
-use borrow.Author.Rules.{rules}
 use Rattle.paths.proofs.ConstantTables.{steps, steps-right}
 use Rattle.paths.proofs.form.step.Goals as goal
 

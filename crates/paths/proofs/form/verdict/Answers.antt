@@ -2,7 +2,6 @@
 use mathlib.Core.Path.{sym, ◌∙◌}
 use mathlib.Core.Logic.{inl, inr}
 use native.Mathlib.Omega.{arith}
-use borrow.Author.Rules.{rules}
 use Rattle.paths.proofs.VerdictLaws.{verdict_rest, absolute-within, absolute-beyond, relative-within, relative-beyond, marked-event, marked_other}
 use Rattle.paths.proofs.form.verdict.Goals as goal
 

@@ -3,7 +3,6 @@ use mathlib.Core.Path.{◌∙◌}
 use Prim.Native.Nat.{◌≤◌}
 use native.Mathlib.Omega.{arith}
 use lib.ListN.{length-set}
-use borrow.Author.Rules.{rules}
 use Rattle.rules.specs.Octets.{text}
 use Rattle.rules.proofs.Decimals.{length-decimal_le}
 use Rattle.paths.proofs.FullLaws.{front, full_put}

@@ -2,7 +2,7 @@
 use Prim.Native.Nat.{◌<◌}
 use native.Mathlib.Omega.{arith}
 use lib.ListN.{length}
-use Rattle.paths.proofs.AboveLaws.{Passed, passed_none, passed_inside, passed_next, passed_all}
+use Rattle.paths.proofs.AboveLaws.{passed_none, passed_inside, passed_next, passed_all}
 use Rattle.paths.proofs.names.above.Goals as goal
 use Rattle.paths.proofs.names.above.Goals.{In-loop-i}
 

@@ -1,9 +1,6 @@
 -- A full path other than the root has a slash before each name; those passed and those to come are counted.
-use mathlib.Core.Path.{◌≡◌}
-use Prim.Native.Nat.{◌+◌, ◌≤◌, ◌-◌}
 use native.Mathlib.Omega.{arith}
-use lib.ListN.{length, drop}
-use Rattle.paths.proofs.PieceLaws.{slashes, slash_here, no_slash_here, slashes_over, depth-root, depth_slashes}
+use Rattle.paths.proofs.PieceLaws.{slash_here, no_slash_here, slashes_over, depth-root, depth_slashes}
 use Rattle.paths.proofs.names.depth.Goals as goal
 use Rattle.paths.proofs.names.depth.Goals.{then-s-i-eq47, else-s-i-eq47}
 

@@ -1,10 +1,8 @@
 -- A full path other than the root has a slash before each name; those passed and those to come are counted.
 use mathlib.Core.Path.{◌≡◌}
-use mathlib.Core.Logic.{⊎_elim}
 use Prim.Native.Nat.{◌+◌, ◌≤◌, ◌-◌}
-use native.Mathlib.Omega.{arith}
 use lib.ListN.{length, drop}
-use Rattle.paths.proofs.PieceLaws.{slashes, slash_here, no_slash_here, slashes_over, depth-root, depth_slashes}
+use Rattle.paths.proofs.PieceLaws.{slashes}
 use Rattle.paths.proofs.names.depth.Given as goal
 
 abbrev pub invariant-loop-i : goal.invariant-loop-i

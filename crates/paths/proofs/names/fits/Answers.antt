@@ -1,6 +1,5 @@
 -- The two tests are those of the sizes: depth and names.
 use mathlib.Core.Path.{◌∙◌}
-use borrow.Author.Rules.{rules}
 use Rattle.paths.proofs.PieceLaws.{fits-deep, fits-short}
 use Rattle.paths.proofs.names.fits.Goals as goal
 

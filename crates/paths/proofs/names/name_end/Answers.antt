@@ -1,9 +1,6 @@
 -- There is no slash from the beginning to i, so the name ends where the text from i on has its first.
-use mathlib.Core.Path.{◌≡◌, refl, sym, ◌∙◌}
-use Prim.Native.Nat.{◌≤◌, ◌-◌}
+use mathlib.Core.Path.{refl, sym, ◌∙◌}
 use native.Mathlib.Omega.{arith}
-use lib.ListN.{length}
-use Rattle.paths.specs.Names.{name_end}
 use Rattle.paths.proofs.PieceLaws.{end_here, end_further, end_over}
 use Rattle.paths.proofs.names.name_end.Goals as goal
 

@@ -1,10 +1,8 @@
 -- There is no slash from the beginning to i, so the name ends where the text from i on has its first.
-use mathlib.Core.Path.{◌≡◌, refl, sym, ◌∙◌}
+use mathlib.Core.Path.{◌≡◌}
 use Prim.Native.Nat.{◌≤◌, ◌-◌}
-use native.Mathlib.Omega.{arith}
 use lib.ListN.{length}
 use Rattle.paths.specs.Names.{name_end}
-use Rattle.paths.proofs.PieceLaws.{end_here, end_further, end_over}
 use Rattle.paths.proofs.names.name_end.Given as goal
 
 abbrev pub invariant-loop-i : goal.invariant-loop-i

@@ -1,9 +1,8 @@
 -- The names passed are short, so those to come decide.
-use mathlib.Core.Path.{◌≡◌, sym, ◌∙◌}
-use Prim.Native.Nat.{◌+◌, ◌≤◌, ◌-◌}
+use mathlib.Core.Path.{sym, ◌∙◌}
+use Prim.Native.Nat.{◌≤◌}
 use native.Mathlib.Omega.{arith}
-use lib.ListN.{length, drop}
-use Rattle.rules.specs.Path.{names_in, short_names, split}
+use lib.ListN.{length}
 use Rattle.paths.proofs.PieceLaws.{end_low, end-high, short-long, short_further, short-full, short_over}
 use Rattle.paths.proofs.names.short_names.Goals as goal
 use Rattle.paths.proofs.names.short_names.Goals.{After-name_end-end}

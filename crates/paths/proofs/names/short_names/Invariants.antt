@@ -1,10 +1,8 @@
 -- The names passed are short, so those to come decide.
-use mathlib.Core.Path.{◌≡◌, sym, ◌∙◌}
+use mathlib.Core.Path.{◌≡◌}
 use Prim.Native.Nat.{◌+◌, ◌≤◌, ◌-◌}
-use native.Mathlib.Omega.{arith}
 use lib.ListN.{length, drop}
 use Rattle.rules.specs.Path.{names_in, short_names, split}
-use Rattle.paths.proofs.PieceLaws.{end_low, end-high, short-long, short_further, short-full, short_over}
 use Rattle.paths.proofs.names.short_names.Given as goal
 
 abbrev pub invariant-loop-at : goal.invariant-loop-at

@@ -2,7 +2,6 @@
 use mathlib.Core.Path.{sym, ◌∙◌}
 use native.Mathlib.Omega.{arith}
 use Rattle.paths.proofs.RelationLaws.{levels-root, levels-same, longer, rest-full, levels-reach, levels_not}
-use borrow.Author.Rules.{rules}
 use Rattle.paths.proofs.relation.beyond.Goals as goal
 
 pub returns-then-same : goal.returns-then-same

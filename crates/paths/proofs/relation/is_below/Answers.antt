@@ -1,6 +1,5 @@
 -- All but the root lie below the root; below any other lies what goes on with a slash behind its text.
 use mathlib.Core.Path.{sym, ◌∙◌}
-use borrow.Author.Rules.{rules}
 use Rattle.paths.proofs.RelationLaws.{below-short, below_root, below_other}
 use Rattle.paths.proofs.relation.is_below.Goals as goal
 

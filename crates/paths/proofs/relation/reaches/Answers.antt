@@ -1,6 +1,5 @@
 -- The text and a slash begin the other if the text does and the byte behind it is a slash.
 use mathlib.Core.Path.{◌∙◌}
-use borrow.Author.Rules.{rules}
 use Rattle.paths.proofs.RelationLaws.{reach-short, reach_other, reach_slash}
 use Rattle.paths.proofs.relation.reaches.Goals as goal
 

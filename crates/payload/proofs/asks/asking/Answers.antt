@@ -1,8 +1,6 @@
 -- The root is asked only what it is open to; any other path is asked everything.
 use mathlib.Core.Path.{sym, ◌∙◌}
-use borrow.Author.Tests.{not-true, not-false}
 use Rattle.payload.specs.Answers.{asking_of}
-use borrow.Author.Rules.{rules}
 use Rattle.payload.proofs.asks.asking.Goals as goal
 
 pub returns-then-not-on_root : goal.returns-then-not-on_root

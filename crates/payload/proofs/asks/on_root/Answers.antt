@@ -4,7 +4,6 @@ use Rattle.rules.specs.Payload.{on_root}
 use Rattle.payload.specs.Meaning.{ask_meant}
 use Rattle.payload.specs.declared.answer.Ask.{Ask}
 use Rattle.payload.proofs.AskLaws.{open_else}
-use borrow.Author.Rules.{rules}
 use Rattle.payload.proofs.asks.on_root.Goals as goal
 
 pub returns-in-Rm : goal.returns-in-Rm

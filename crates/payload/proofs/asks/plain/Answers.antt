@@ -1,11 +1,8 @@
 -- The payload is one string, and that a path; anything else is malformed.
 use mathlib.Core.Path.{sym, ◌∙◌}
-use mathlib.Core.List.{[], ◌∷◌}
-use types.Run.{miss}
 use native.Mathlib.Omega.{arith}
 use Rattle.payload.proofs.PartsLaws.{OneString, one_told}
 use Rattle.payload.proofs.AskLaws.{plain_other, plain_not, plain_means}
-use borrow.Author.Rules.{rules}
 use Rattle.payload.proofs.asks.plain.Goals as goal
 use Rattle.payload.proofs.asks.plain.Goals.{In-One}
 

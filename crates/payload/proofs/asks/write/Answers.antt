@@ -1,13 +1,10 @@
 -- The first string is the path, if it is one, and the rest the value.
 use mathlib.Core.Path.{◌≡◌, ap, sym, ◌∙◌}
-use mathlib.Core.List.{[], ◌∷◌}
-use types.Run.{miss}
 use native.Mathlib.Omega.{arith}
 use Rattle.payload.specs.Cursor.{taken_at}
 use Rattle.payload.specs.declared.cursor.Taken.TheVariants.{String}
 use Rattle.payload.proofs.CursorLaws.{string-told, first-told, nothing_told}
 use Rattle.payload.proofs.AskLaws.{write_other, write_not, write_means}
-use borrow.Author.Rules.{rules}
 use Rattle.payload.proofs.asks.write.Goals as goal
 use Rattle.payload.proofs.asks.write.Goals.{In-String}
 

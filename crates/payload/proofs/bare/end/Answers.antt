@@ -1,7 +1,6 @@
 -- The two payloads are `T` and `F`, each with its nul.
 use mathlib.Core.Path.{sym, ◌∙◌}
 use Rattle.payload.proofs.DomainLaws.{end_commit, end-drop, end_not}
-use borrow.Author.Rules.{rules}
 use Rattle.payload.proofs.bare.end.Goals as goal
 
 pub returns-then-same : goal.returns-then-same

@@ -1,7 +1,6 @@
 -- The payload is a nul alone.
 use mathlib.Core.Path.{sym, ◌∙◌}
 use Rattle.payload.proofs.DomainLaws.{reset_means, reset_not}
-use borrow.Author.Rules.{rules}
 use Rattle.payload.proofs.bare.reset.Goals as goal
 
 pub returns-then-same : goal.returns-then-same

@@ -1,7 +1,6 @@
 -- There is no transaction in a transaction, and the payload is a nul alone.
 use mathlib.Core.Path.{sym, ◌∙◌}
 use Rattle.payload.proofs.DomainLaws.{start-inside, start_means, start_not}
-use borrow.Author.Rules.{rules}
 use Rattle.payload.proofs.bare.start.Goals as goal
 
 pub returns-then-tx-ne0 : goal.returns-then-tx-ne0

@@ -1,7 +1,5 @@
 -- The payload is three strings, each a number within its range: a domain, a page and a channel.
 use mathlib.Core.Path.{◌≡◌, ap, sym, ◌∙◌}
-use mathlib.Core.List.{[], ◌∷◌}
-use types.Run.{miss}
 use Prim.Native.Nat.{◌+◌, ◌-◌, ◌^◌}
 use native.Mathlib.Omega.{arith}
 use lib.ListN.{take}
@@ -15,7 +13,6 @@ use Rattle.payload.specs.Answers.{small_meant}
 use Rattle.payload.specs.declared.answer.Small.{Small}
 use Rattle.payload.proofs.PartsLaws.{ThreeStrings, three_told}
 use Rattle.payload.proofs.DomainLaws.{introduce_other, introduce_no_domain, introduce_no_page, introduce_no_channel, introduce_means}
-use borrow.Author.Rules.{rules}
 use Rattle.payload.proofs.domain.introduce.Goals as goal
 use Rattle.payload.proofs.domain.introduce.Goals.{After-signed, After-small, After-small-2, In-Three}
 

@@ -1,7 +1,5 @@
 -- The payload is one string, and that a domain id within the type's range.
 use mathlib.Core.Path.{◌≡◌, ap, sym, ◌∙◌}
-use mathlib.Core.List.{[], ◌∷◌}
-use types.Run.{miss}
 use Prim.Native.Nat.{ℕ}
 use native.Mathlib.Omega.{arith}
 use lib.ListN.{take}
@@ -12,7 +10,6 @@ use Rattle.payload.specs.Answers.{small_meant, low_of}
 use Rattle.payload.specs.declared.answer.Small.{Small}
 use Rattle.payload.proofs.PartsLaws.{OneString, one_told}
 use Rattle.payload.proofs.DomainLaws.{domain_other, domain_not, domain_means}
-use borrow.Author.Rules.{rules}
 use Rattle.payload.proofs.domain.of_domain.Goals as goal
 use Rattle.payload.proofs.domain.of_domain.Goals.{After-small, In-One}
 

@@ -4,7 +4,6 @@ use mathlib.Core.Logic.{inl, inr}
 use mathlib.Core.Option.{none}
 use Rattle.payload.specs.Answers.{small_meant}
 use Rattle.payload.proofs.EntryLaws.{entry_empty, entry-told}
-use borrow.Author.Rules.{rules}
 use Rattle.payload.proofs.entries.permission.Goals as goal
 
 pub returns-then-len-eq0 : goal.returns-then-len-eq0

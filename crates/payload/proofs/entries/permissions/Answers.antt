@@ -1,12 +1,7 @@
 -- The entries of the strings passed, and those of the strings to come, are the entries of all.
 use Rattle.payload.specs.Answers.{permission_meant}
-use mathlib.Core.Path.{◌≡◌, ap, sym, ◌∙◌}
-use Prim.Native.Nat.{◌≤◌, ◌-◌}
+use mathlib.Core.Path.{ap, sym, ◌∙◌}
 use native.Mathlib.Omega.{arith}
-use borrow.Author.Rules.{rules}
-use lib.ListN.{length, drop}
-use Rattle.rules.specs.Payload.{strings}
-use Rattle.payload.specs.Answers.{no_entries, added_to, entries_in}
 use Rattle.payload.proofs.CursorLaws.{Told, string-told}
 use Rattle.payload.proofs.EntryLaws.{with_count, entries_end, entries_left, entries_not, entries_more}
 use Rattle.payload.proofs.entries.permissions.Goals as goal

@@ -1,14 +1,9 @@
 -- The entries of the strings passed, and those of the strings to come, are the entries of all.
-use Rattle.payload.specs.Answers.{permission_meant}
-use mathlib.Core.Path.{◌≡◌, ap, sym, ◌∙◌}
+use mathlib.Core.Path.{◌≡◌}
 use Prim.Native.Nat.{◌≤◌, ◌-◌}
-use native.Mathlib.Omega.{arith}
-use borrow.Author.Rules.{rules}
 use lib.ListN.{length, drop}
 use Rattle.rules.specs.Payload.{strings}
 use Rattle.payload.specs.Answers.{no_entries, added_to, entries_in}
-use Rattle.payload.proofs.CursorLaws.{Told, string-told}
-use Rattle.payload.proofs.EntryLaws.{with_count, entries_end, entries_left, entries_not, entries_more}
 use Rattle.payload.proofs.entries.permissions.Given as goal
 
 abbrev pub invariant-loop-start : goal.invariant-loop-start

@@ -1,13 +1,10 @@
 -- The first string is the path, if it is one, and the others are entries, if they are.
 use mathlib.Core.Path.{◌≡◌, ap, sym, ◌∙◌}
-use mathlib.Core.List.{[], ◌∷◌}
-use types.Run.{miss}
 use native.Mathlib.Omega.{arith}
 use Rattle.payload.specs.Cursor.{taken_at}
 use Rattle.payload.specs.declared.cursor.Taken.TheVariants.{String}
 use Rattle.payload.proofs.CursorLaws.{string-told, nothing_told}
 use Rattle.payload.proofs.SettingLaws.{setting_other, setting_not, setting_unnamed, setting_means}
-use borrow.Author.Rules.{rules}
 use Rattle.payload.proofs.entries.set_perms.Goals as goal
 use Rattle.payload.proofs.entries.set_perms.Goals.{In-String}
 

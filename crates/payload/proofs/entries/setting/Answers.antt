@@ -2,7 +2,6 @@
 use mathlib.Core.Path.{sym, ◌∙◌}
 use borrow.Author.Tests.{eq-eqb, ne_eqb}
 use Rattle.payload.specs.Answers.{setting_of}
-use borrow.Author.Rules.{rules}
 use Rattle.payload.proofs.entries.setting.Goals as goal
 
 pub returns-then-entries-eq0 : goal.returns-then-entries-eq0

@@ -1,7 +1,6 @@
 -- The first four have places of their own; every other is only counted.
 use mathlib.Core.Path.{sym}
 use Rattle.payload.proofs.EntryLaws.{with_at, with_more}
-use borrow.Author.Rules.{rules}
 use Rattle.payload.proofs.entries.with.Goals as goal
 
 pub returns-in-0 : goal.returns-in-0

@@ -1,7 +1,6 @@
 -- The rule has a limit for an event's name alone, and that is the depth 1.
 use mathlib.Core.Path.{sym}
 use Rattle.payload.specs.Answers.{depth_fits}
-use borrow.Author.Rules.{rules}
 use Rattle.payload.proofs.given.depth_fits.Goals as goal
 
 pub returns-in-Absolute : goal.returns-in-Absolute

@@ -1,7 +1,6 @@
 -- The root is the absolute path of one byte.
 use mathlib.Core.Path.{sym}
 use Rattle.payload.specs.Answers.{is_root}
-use borrow.Author.Rules.{rules}
 use Rattle.payload.proofs.given.is_root.Goals as goal
 
 pub returns-in-Absolute : goal.returns-in-Absolute

@@ -2,7 +2,6 @@
 use mathlib.Core.Path.{ap, sym, ◌∙◌}
 use lib.Seq.{length-take-le}
 use Rattle.payload.specs.Answers.{named_of}
-use borrow.Author.Rules.{rules}
 use Rattle.payload.proofs.given.named.Goals as goal
 
 pub slice_bounds-form-end : goal.slice_bounds-form-end

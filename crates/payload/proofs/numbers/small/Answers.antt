@@ -5,7 +5,6 @@ use Rattle.rules.proofs.Decimals.{range_bounds}
 use Rattle.octets.specs.Numbers.{meant}
 use Rattle.octets.specs.declared.Number.{Number}
 use mathlib.Core.Path.{◌≡◌, ap, sym, ◌∙◌}
-use borrow.Author.Rules.{rules}
 use Rattle.payload.proofs.numbers.small.Goals as goal
 use Rattle.payload.proofs.numbers.small.Goals.{After-number_in}
 

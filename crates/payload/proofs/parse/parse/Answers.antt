@@ -3,7 +3,6 @@ use mathlib.Core.Path.{refl}
 use Rattle.rules.specs.Payload.{parse}
 use Rattle.payload.specs.Answers.{ask_of, low_of, about_of}
 use Rattle.payload.proofs.ParseLaws.{parsed, parsed_kept, plain_parsed, domain_parsed, unknown_parsed}
-use borrow.Author.Rules.{rules}
 use Rattle.payload.proofs.parse.parse.Goals as goal
 
 pub returns-in-1 : goal.returns-in-1

@@ -6,7 +6,6 @@ use Rattle.payload.specs.Cursor.{taken_at}
 use Rattle.payload.specs.declared.cursor.Taken.{Taken}
 use Rattle.payload.proofs.CursorLaws.{string-told}
 use Rattle.payload.proofs.PartsLaws.{one_left, one_end, one_more}
-use borrow.Author.Rules.{rules}
 use Rattle.payload.proofs.parts.after_one.Goals as goal
 use Rattle.payload.proofs.parts.after_one.Goals.{After-next}
 

@@ -4,7 +4,6 @@ use Prim.Native.Nat.{◌+◌}
 use Rattle.payload.specs.Cursor.{taken_at}
 use Rattle.payload.specs.declared.cursor.Taken.{Taken}
 use Rattle.payload.proofs.PartsLaws.{two_left, two_end, three_left, three_more, three_end}
-use borrow.Author.Rules.{rules}
 use Rattle.payload.proofs.parts.after_two.Goals as goal
 use Rattle.payload.proofs.parts.after_two.Goals.{After-next}
 

@@ -4,7 +4,6 @@ use Rattle.payload.specs.Cursor.{taken_at}
 use Rattle.payload.specs.declared.cursor.Taken.{Taken}
 use Rattle.payload.proofs.CursorLaws.{string-told}
 use Rattle.payload.proofs.PartsLaws.{none_left, none_end, none_more}
-use borrow.Author.Rules.{rules}
 use Rattle.payload.proofs.parts.apart.Goals as goal
 use Rattle.payload.proofs.parts.apart.Goals.{After-next}
 

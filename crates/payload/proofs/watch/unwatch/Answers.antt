@@ -1,11 +1,8 @@
 -- The payload is two strings, of which the first is a path or an event's name.
 use mathlib.Core.Path.{sym, ◌∙◌}
-use mathlib.Core.List.{[], ◌∷◌}
-use types.Run.{miss}
 use native.Mathlib.Omega.{arith}
 use Rattle.payload.proofs.PartsLaws.{TwoStrings, two_told}
 use Rattle.payload.proofs.WatchLaws.{unwatch_other, unwatch_not, unwatch_means}
-use borrow.Author.Rules.{rules}
 use Rattle.payload.proofs.watch.unwatch.Goals as goal
 use Rattle.payload.proofs.watch.unwatch.Goals.{In-Two}
 

@@ -2,7 +2,6 @@
 use mathlib.Core.Path.{sym, ◌∙◌}
 use Rattle.payload.proofs.PartsLaws.{two_told, three_told}
 use Rattle.payload.proofs.WatchLaws.{watch-strings, watch_one, watch_other}
-use borrow.Author.Rules.{rules}
 use Rattle.payload.proofs.watch.watch.Goals as goal
 
 pub watch_all-requires : goal.watch_all-requires

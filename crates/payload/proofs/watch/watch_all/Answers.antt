@@ -1,7 +1,6 @@
 -- The first string is a path or an event's name, and with no depth given there is none to test.
 use mathlib.Core.Path.{sym, ◌∙◌}
 use Rattle.payload.proofs.WatchLaws.{watch-all_not, watch-all_means}
-use borrow.Author.Rules.{rules}
 use Rattle.payload.proofs.watch.watch_all.Goals as goal
 
 pub returns-in_default : goal.returns-in_default

@@ -8,7 +8,6 @@ use Rattle.payload.specs.Strings.{part}
 use Rattle.payload.specs.Answers.{small_meant}
 use Rattle.payload.specs.declared.answer.Small.{Small}
 use Rattle.payload.proofs.WatchLaws.{watch_to_not, watch_no_depth, watch_to_means, watch_unfit}
-use borrow.Author.Rules.{rules}
 use Rattle.payload.proofs.watch.watch_to.Goals as goal
 use Rattle.payload.proofs.watch.watch_to.Goals.{After-small}
 

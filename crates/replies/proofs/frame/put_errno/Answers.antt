@@ -4,7 +4,6 @@ use Rattle.rules.specs.Answer.{errno_text}
 use Rattle.rules.specs.Octets.{text}
 use mathlib.Core.Path.{refl}
 use Rattle.replies.proofs.FrameLaws.{errno_put}
-use borrow.Author.Rules.{rules}
 use Rattle.replies.proofs.frame.put_errno.Goals as goal
 
 pub returns-in-Invalid : goal.returns-in-Invalid

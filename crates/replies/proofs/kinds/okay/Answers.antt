@@ -2,7 +2,6 @@
 use Rattle.rules.specs.Octets.{text}
 use Rattle.rules.specs.Answer.{OK}
 use mathlib.Core.Path.{refl}
-use borrow.Author.Rules.{rules}
 use Rattle.replies.proofs.kinds.okay.Goals as goal
 
 pub returns : goal.returns

@@ -1,10 +1,8 @@
 -- Any other domain is refused; the control domain's request is the handler's.
 use mathlib.Core.Path.{refl, sym, ◌∙◌}
-use borrow.Author.Tests.{not-true, not-false}
 use Rattle.handlers.proofs.Alone.{nodes-alone, watches-alone, transactions-alone, domains-alone}
 use Rattle.handlers.proofs.Ways.{handled_as, refused_so, same_tables_lem}
 use Rattle.requests.proofs.HandleLaws.{control_denied, control_allowed}
-use borrow.Author.Rules.{rules}
 use Rattle.requests.proofs.control.release_by.Goals as goal
 
 pub returns-then-not-is_control : goal.returns-then-not-is_control

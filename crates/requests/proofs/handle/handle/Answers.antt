@@ -6,7 +6,6 @@ use Rattle.payload.specs.Meaning.{meant}
 use Rattle.handlers.proofs.Ways.{handled_as, same_tables_lem}
 use Rattle.requests.proofs.HandleLaws.{sender-low, committable, watches-left, domains-left, parsed_outcome, asks_no_node, sound_as, read_as}
 use Rattle.requests.proofs.HandleLaws.{handled_so}
-use borrow.Author.Rules.{rules}
 use Rattle.requests.proofs.handle.handle.Goals as goal
 
 pub node_request-requires : goal.node_request-requires
@@ -20,12 +19,11 @@ node_request-requires c =
     )
 
 pub other_request-requires : goal.other_request-requires
-other_request-requires c =
-    (
-      c.requires,
-      c.parse-r.ensures.sound,
-      asks_no_node c.parse-r.result c.in_default.not-Ask,
-    )
+other_request-requires c = (
+  c.requires,
+  c.parse-r.ensures.sound,
+  asks_no_node c.parse-r.result c.in_default.not-Ask,
+)
 
 pub returns-in-Ask : goal.returns-in-Ask
 unfolding meant outcome_of W.handle W.left W.to

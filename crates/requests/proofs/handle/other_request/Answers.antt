@@ -7,7 +7,6 @@ use Rattle.handlers.proofs.Ways.{refused_so, done_so, same_tables_lem}
 use Rattle.requests.proofs.HandleLaws.{connection_low, nodes_canonical, domains-kept, watches-kept, transactions-kept, committable, releasable}
 use Rattle.requests.proofs.HandleLaws.{nodes-left, copies-left, watches-left, transactions-left, domains-left, all_left, is_unknown, sound_as}
 use Rattle.requests.proofs.HandleLaws.{read_as, handled_so}
-use borrow.Author.Rules.{rules}
 use Rattle.requests.proofs.handle.other_request.Goals as goal
 
 pub watch_place-requires : goal.watch_place-requires
@@ -155,6 +154,6 @@ unfolding meant outcome_of W.handle W.left W.to
 returns-in_default c =
     let no = c.in_default in
     let kind =
-        is_unknown c.args.r c.requires.2 no.not-Invalid no.not-Watch no.not-Unwatch no.not-Start no.not-End no.not-Introduce no.not-Release
-        no.not-DomainPath no.not-IsIntroduced no.not-Reset in
+    is_unknown c.args.r c.requires.2 no.not-Invalid no.not-Watch no.not-Unwatch no.not-Start no.not-End no.not-Introduce no.not-Release
+    no.not-DomainPath no.not-IsIntroduced no.not-Reset in
     λ w l e. refused_so w _ _ _ _ _ _ (read_as kind w _ _ _ _) c.with_events-in_default.ensures (all_left _ _ _ _ _ c.requires.0 w l)

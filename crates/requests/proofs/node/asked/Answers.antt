@@ -5,7 +5,6 @@ use Rattle.handlers.proofs.EndLaws.{it_holds, none_held}
 use Rattle.handlers.proofs.Ways.{refused_so, same_tables_lem}
 use Rattle.requests.proofs.HandleLaws.{handled_so}
 use Rattle.requests.proofs.NodeLaws.{asked-plain, asked_nowhere, asked-inside}
-use borrow.Author.Rules.{rules}
 use Rattle.requests.proofs.node.asked.Goals as goal
 
 pub returns-then-tx-eq0 : goal.returns-then-tx-eq0

@@ -3,7 +3,6 @@ use mathlib.Core.Path.{sym}
 use Rattle.handlers.proofs.Ways.{handled_as}
 use Rattle.requests.proofs.PlaceLaws.{path-long, absolute-names}
 use Rattle.requests.proofs.NodeLaws.{asking_of_lem, asked-names}
-use borrow.Author.Rules.{rules}
 use Rattle.requests.proofs.node.node_request.Goals as goal
 
 pub slice_bounds-asked-end : goal.slice_bounds-asked-end

@@ -2,7 +2,6 @@
 use Rattle.handlers.proofs.Ways.{handled_as}
 use Rattle.requests.proofs.PlaceLaws.{put_within, put_long, put_front}
 use Rattle.requests.proofs.NodeLaws.{asking_of_lem, asked-names}
-use borrow.Author.Rules.{rules}
 use Rattle.requests.proofs.node.relative_request.Goals as goal
 
 pub slice_bounds-text-end : goal.slice_bounds-text-end

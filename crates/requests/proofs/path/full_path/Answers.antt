@@ -3,7 +3,6 @@ use mathlib.Core.Path.{sym}
 use lib.ListN.{length-take}
 use native.Mathlib.Omega.{arith}
 use Rattle.requests.proofs.PlaceLaws.{path-long, absolute_put, relative_put, special-root, malformed-root}
-use borrow.Author.Rules.{rules}
 use Rattle.requests.proofs.path.full_path.Goals as goal
 
 pub slice_bounds-copy-end : goal.slice_bounds-copy-end

@@ -5,7 +5,6 @@ use mathlib.Core.Option.{some}
 use mathlib.Core.Path.{◌≡◌, sym, ap, subst, ◌∙◌}
 use Rattle.domains.specs.Entry.{entry_or}
 use Rattle.payload.specs.Meaning.{DepthSound, depth_meant}
-use borrow.Author.Rules.{rules}
 use Rattle.requests.proofs.place.depth_of.Goals as goal
 
 pub returns-in-Given : goal.returns-in-Given

@@ -1,7 +1,6 @@
 -- The name of an event, and no control domain.
 use mathlib.Core.Path.{ap}
 use mathlib.Core.Bool.{not}
-use borrow.Author.Rules.{rules}
 use Rattle.requests.proofs.place.is_foreign.Goals as goal
 
 pub returns-then-special : goal.returns-then-special

@@ -1,7 +1,6 @@
 -- The form says it.
 use mathlib.Core.Path.{sym, ap}
 use Rattle.requests.specs.Place.{is_special}
-use borrow.Author.Rules.{rules}
 use Rattle.requests.proofs.place.is_special.Goals as goal
 
 pub returns-in-Special : goal.returns-in-Special

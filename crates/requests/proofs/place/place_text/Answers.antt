@@ -5,7 +5,6 @@ use native.Mathlib.Omega.{arith}
 use Rattle.rules.specs.Octets.{Octets}
 use Rattle.octets.specs.Numbers.{Put}
 use Rattle.requests.proofs.PlaceLaws.{path-long, special_put, place-path}
-use borrow.Author.Rules.{rules}
 use Rattle.requests.proofs.place.place_text.Goals as goal
 
 pub slice_bounds-copy-end : goal.slice_bounds-copy-end

@@ -8,7 +8,6 @@ use Rattle.rules.specs.World.{watching}
 use Rattle.handlers.proofs.Alone.{watches-alone}
 use Rattle.handlers.proofs.Ways.{handled_as, refused_so, same_tables_lem}
 use Rattle.requests.proofs.PlaceLaws.{put_within, put_long, put_front, stands_so, foreign_place, own-place}
-use borrow.Author.Rules.{rules}
 use Rattle.requests.proofs.place.watch_place.Goals as goal
 
 pub returns-then-is_foreign : goal.returns-then-is_foreign

@@ -1,7 +1,6 @@
 -- An entry is 18 bits, and the three bytes from twice its place on hold them all, the later an entry the lower.
 use native.Mathlib.Omega.{arith}
 use Rattle.slots.proofs.Reading.{entry_read}
-use borrow.Author.Rules.{rules}
 use Rattle.slots.proofs.fields.entry_at.Goals as goal
 
 pub returns-then-k-eq0 : goal.returns-then-k-eq0

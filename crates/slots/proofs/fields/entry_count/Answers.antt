@@ -1,7 +1,6 @@
 -- The count is the three low bits of the fields, and so of their third byte.
 use Rattle.octets.proofs.Bytes.{bytes-known}
 use Rattle.slots.proofs.Reading.{entry-count_byte}
-use borrow.Author.Rules.{rules}
 use Rattle.slots.proofs.fields.entry_count.Goals as goal
 
 pub returns : goal.returns

@@ -1,6 +1,5 @@
 -- The name is as many bytes of its field as its length says, and that length is within the field.
 use Rattle.slots.proofs.Reading.{name-part}
-use borrow.Author.Rules.{rules}
 use Rattle.slots.proofs.fields.name.Goals as goal
 
 pub returns : goal.returns

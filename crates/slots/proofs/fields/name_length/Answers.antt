@@ -4,7 +4,6 @@ use Rattle.rules.specs.Size.{slot_size}
 use Rattle.octets.proofs.Bytes.{bytes-known}
 use Rattle.slots.proofs.Reading.{name-length_byte}
 use native.Mathlib.Omega.{arith}
-use borrow.Author.Rules.{rules}
 use Rattle.slots.proofs.fields.name_length.Goals as goal
 
 pub overflow_cast-result : goal.overflow_cast-result

@@ -1,7 +1,6 @@
 -- The mark of a used slot is the highest bit of its first byte.
 use Rattle.octets.proofs.Bytes.{bytes-known}
 use Rattle.slots.proofs.Reading.{used_byte}
-use borrow.Author.Rules.{rules}
 use Rattle.slots.proofs.fields.used.Goals as goal
 
 pub returns : goal.returns

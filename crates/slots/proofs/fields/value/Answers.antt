@@ -1,6 +1,5 @@
 -- The value is as many bytes of its field as its length says, and that length is within the field.
 use Rattle.slots.proofs.Reading.{value-part}
-use borrow.Author.Rules.{rules}
 use Rattle.slots.proofs.fields.value.Goals as goal
 
 pub returns : goal.returns

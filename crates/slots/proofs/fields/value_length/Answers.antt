@@ -4,7 +4,6 @@ use Rattle.rules.specs.Size.{slot_size}
 use Rattle.octets.proofs.Bytes.{bytes-known}
 use Rattle.slots.proofs.Reading.{value-length-bytes}
 use native.Mathlib.Omega.{arith}
-use borrow.Author.Rules.{rules}
 use Rattle.slots.proofs.fields.value_length.Goals as goal
 
 pub overflow_cast-low : goal.overflow_cast-low

@@ -1,5 +1,4 @@
 -- The bytes of a free slot are zeros, and the other slots keep theirs.
-use borrow.Author.Rules.{rules}
 use Rattle.slots.proofs.Put.{free_put}
 use Rattle.slots.proofs.writing.clear_slot.Goals as goal
 

@@ -1,6 +1,5 @@
 -- A canonical slot holds the entries that it means, and 0 past their count.
 use native.Mathlib.Omega.{arith}
-use borrow.Author.Rules.{rules}
 use Rattle.slots.proofs.Numbers.{entry_small, stored_at, stored_past}
 use Rattle.slots.proofs.writing.entry_number.Goals as goal
 

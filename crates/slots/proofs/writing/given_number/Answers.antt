@@ -1,6 +1,5 @@
 -- The entries that are given are the first `count` of the arrays, each within its 18 bits; past them there is none.
 use native.Mathlib.Omega.{arith}
-use borrow.Author.Rules.{rules}
 use Rattle.slots.proofs.Numbers.{given_at_lem, given_past}
 use Rattle.slots.proofs.writing.given_number.Goals as goal
 

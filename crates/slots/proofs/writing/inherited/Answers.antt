@@ -1,7 +1,6 @@
 -- The control domain leaves the number; any other domain stands in the place of the owner's.
 use mathlib.Core.Path.{sym, ◌∙◌}
 use native.Mathlib.Omega.{arith}
-use borrow.Author.Rules.{rules}
 use Rattle.slots.proofs.writing.inherited.Goals as goal
 
 pub returns-then-is_control : goal.returns-then-is_control

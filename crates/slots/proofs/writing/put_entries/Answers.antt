@@ -1,6 +1,5 @@
 -- The entries and the fields with their count are written, and the name and the value stay, so the slot means the node with other entries.
 use native.Mathlib.Omega.{arith}
-use borrow.Author.Rules.{rules}
 use Rattle.slots.proofs.Numbers.{owner-fits, others_fit, others_many}
 use Rattle.slots.proofs.Put.{name_small, value_small, entries_put}
 use Rattle.slots.proofs.writing.put_entries.Goals as goal

@@ -1,7 +1,6 @@
 -- Each field is within its bits, so the three stores are the bytes of the packed number.
 use native.Mathlib.Omega.{arith}
 use lib.ListN.{length-set}
-use borrow.Author.Rules.{rules}
 use Rattle.slots.proofs.Put.{fields_put}
 use Rattle.slots.proofs.writing.put_fields.Goals as goal
 

@@ -1,7 +1,6 @@
 -- Each entry is within 18 bits, so the nine stores are the bytes of the packed number.
 use native.Mathlib.Omega.{arith}
 use lib.ListN.{length-set}
-use borrow.Author.Rules.{rules}
 use Rattle.slots.proofs.Put.{four_put}
 use Rattle.slots.proofs.writing.put_four.Goals as goal
 

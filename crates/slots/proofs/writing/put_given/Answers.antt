@@ -1,6 +1,5 @@
 -- The four numbers are those of the entries that are given, and 0 for those that are not.
 use native.Mathlib.Omega.{arith}
-use borrow.Author.Rules.{rules}
 use Rattle.slots.proofs.Numbers.{entries_at, others_many}
 use Rattle.slots.proofs.writing.put_given.Goals as goal
 

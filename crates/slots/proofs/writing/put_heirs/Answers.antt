@@ -1,6 +1,5 @@
 -- An heir has its parent's entries, but for the owner's domain, which is `inherited`'s.
 use Prim.Native.Nat.{◌+◌, ◌*◌}
-use borrow.Author.Rules.{rules}
 use Rattle.rules.specs.Size.{slot_size, fields_size}
 use Rattle.rules.proofs.Fitting.{decoded_fits, node_at-fits}
 use Rattle.rules.specs.Layout.{table_of}

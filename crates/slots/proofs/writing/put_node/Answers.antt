@@ -1,6 +1,5 @@
 -- Entries, name, value and fields are all the bytes of the slot, and they are those of the new node.
 use native.Mathlib.Omega.{arith}
-use borrow.Author.Rules.{rules}
 use Rattle.slots.proofs.Put.{count_small, new_put}
 use Rattle.slots.proofs.writing.put_node.Goals as goal
 

@@ -1,6 +1,5 @@
 -- The value and the fields with its length are written, and the name and the entries stay, so the slot means the node with another value.
 use native.Mathlib.Omega.{arith}
-use borrow.Author.Rules.{rules}
 use Rattle.slots.proofs.Put.{name_small, count_small, value_put}
 use Rattle.slots.proofs.writing.put_value.Goals as goal
 

@@ -2,8 +2,6 @@
 use mathlib.Core.Path.{◌≡◌, sym, ap, ◌∙◌}
 use native.Mathlib.Nat.{pos_of_ne-zero}
 use native.Mathlib.Omega.{arith}
-use borrow.Author.Rules.{rules}
-use borrow.Author.Tests.{not-true, not-false}
 use lib.ListN.{length, length-set}
 use Rattle.rules.specs.Size.{longest_name, longest_path, deepest}
 use Rattle.soundness.proofs.WalkLaws.{walked_root, walked_none, walked_unused, walked_far, walked_near, walked_lost, walked_count, walked_bare}

@@ -1,14 +1,10 @@
 -- The slots before i reach the root in time, and what is known of them is the length of their ways.
-use mathlib.Core.Path.{◌≡◌, refl, sym, ◌∙◌}
-use mathlib.Core.Logic.{⊎_elim}
+use mathlib.Core.Path.{◌≡◌}
 use Prim.Native.Nat.{◌≤◌, ◌-◌}
-use native.Mathlib.Omega.{arith}
-use borrow.Author.Rules.{rules}
 use Rattle.rules.specs.Size.{slots}
 use Rattle.soundness.specs.Parts.{every}
 use Rattle.soundness.specs.Walks.{chained}
-use Rattle.soundness.proofs.TableLaws.{every_further, every_stop, every-ended, lost_chained, root-chained, root_level, root-count}
-use Rattle.soundness.proofs.TableLaws.{unused_chained, Levels, levels-set, levels-lent, none_levelled}
+use Rattle.soundness.proofs.TableLaws.{Levels}
 use Rattle.soundness.proofs.chain.all_chained.Given as goal
 
 abbrev pub invariant-loop-i : goal.invariant-loop-i

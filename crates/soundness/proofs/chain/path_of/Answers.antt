@@ -2,7 +2,6 @@
 use native.Mathlib.Nat.{pos_of_ne-zero}
 use native.Mathlib.Omega.{arith}
 use Rattle.soundness.proofs.PathTexts.{nothing_lent, used-below, used_reaches, root_put, never_lost, path_put}
-use borrow.Author.Rules.{rules}
 use Rattle.soundness.proofs.chain.path_of.Goals as goal
 
 pub returns-then-i-eq0 : goal.returns-then-i-eq0

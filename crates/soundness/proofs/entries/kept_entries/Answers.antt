@@ -2,12 +2,10 @@
 use mathlib.Core.Path.{refl, sym, ◌∙◌}
 use Prim.Native.Nat.{◌+◌, ◌*◌}
 use native.Mathlib.Omega.{arith}
-use borrow.Author.Tests.{not-true, not-false}
 use Rattle.rules.specs.Size.{slot_size, fields_size}
 use Rattle.octets.proofs.Bytes.{bytes-known}
 use Rattle.soundness.proofs.Tests.{stop, pass}
 use Rattle.soundness.proofs.SlotLaws.{sizes_of, entries_by}
-use borrow.Author.Rules.{rules}
 use Rattle.soundness.proofs.entries.kept_entries.Goals as goal
 
 pub returns-then-count-eq1 : goal.returns-then-count-eq1

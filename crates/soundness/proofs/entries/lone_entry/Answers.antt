@@ -6,7 +6,6 @@ use borrow.Author.Tests.{eq-eqb, ne_eqb}
 use Rattle.octets.proofs.Bytes.{bytes-known}
 use Rattle.soundness.proofs.Tests.{stop, pass}
 use Rattle.soundness.proofs.LoneEntry.{entry-high, entry_bits_lem, entry-rest}
-use borrow.Author.Rules.{rules}
 use Rattle.soundness.proofs.entries.lone_entry.Goals as goal
 
 pub overflow_cast-first : goal.overflow_cast-first

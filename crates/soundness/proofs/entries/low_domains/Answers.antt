@@ -3,7 +3,6 @@ use Rattle.soundness.proofs.Tests.{stop, pass}
 use Rattle.soundness.specs.Parts.{low_domains}
 use borrow.Author.Tests.{lt-leb, le-leb}
 use mathlib.Core.Path.{refl}
-use borrow.Author.Rules.{rules}
 use Rattle.soundness.proofs.entries.low_domains.Goals as goal
 
 pub returns-then-first-rest-gt-LAST_DOMAIN : goal.returns-then-first-rest-gt-LAST_DOMAIN

@@ -5,7 +5,6 @@ use native.Mathlib.Omega.{arith}
 use lib.Dec.{eqb}
 use Rattle.octets.proofs.Bytes.{bytes-known}
 use Rattle.soundness.proofs.TwoEntries.{two_first, two_second, two_bits, two_rest}
-use borrow.Author.Rules.{rules}
 use Rattle.soundness.proofs.entries.two_entries.Goals as goal
 
 pub overflow_cast-first : goal.overflow_cast-first

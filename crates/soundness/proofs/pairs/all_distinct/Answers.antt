@@ -1,13 +1,9 @@
 -- Of two siblings with one name the later finds the earlier's key among those met, so no pair that is passed over has one name.
-use Rattle.rules.specs.Size.{slots}
 use Rattle.slots.specs.Slot.{slot_at}
 use Rattle.soundness.proofs.KeyLaws.{key_used}
-use mathlib.Core.Path.{◌≡◌, refl, sym, ◌∙◌}
-use mathlib.Core.Bool.{true}
-use mathlib.Core.Logic.{⊎_elim}
-use Prim.Native.Nat.{◌≤◌, ◌-◌}
+use mathlib.Core.Path.{refl, sym, ◌∙◌}
 use native.Mathlib.Omega.{arith}
-use Rattle.soundness.proofs.PairLaws.{row_whole, Taken, taken_next, met_key, Keyed, Apart, Row, keyed_next, apart_next, row_differ, row_names}
+use Rattle.soundness.proofs.PairLaws.{row_whole, taken_next, met_key, keyed_next, apart_next, row_differ, row_names}
 use Rattle.soundness.proofs.PairLaws.{row_new, all_apart, pair_found}
 use Rattle.soundness.proofs.pairs.all_distinct.Goals as goal
 use Rattle.soundness.proofs.pairs.all_distinct.Goals.{then-keys-j+else-same_names, else-keys-j, then-may_clash+else-loop-j-test, else-may_clash}

@@ -1,14 +1,9 @@
 -- Of two siblings with one name the later finds the earlier's key among those met, so no pair that is passed over has one name.
 use Rattle.rules.specs.Size.{slots}
-use Rattle.slots.specs.Slot.{slot_at}
-use Rattle.soundness.proofs.KeyLaws.{key_used}
-use mathlib.Core.Path.{◌≡◌, refl, sym, ◌∙◌}
+use mathlib.Core.Path.{◌≡◌}
 use mathlib.Core.Bool.{true}
-use mathlib.Core.Logic.{⊎_elim}
 use Prim.Native.Nat.{◌≤◌, ◌-◌}
-use native.Mathlib.Omega.{arith}
-use Rattle.soundness.proofs.PairLaws.{row_whole, Taken, taken_next, met_key, Keyed, Apart, Row, keyed_next, apart_next, row_differ, row_names}
-use Rattle.soundness.proofs.PairLaws.{row_new, all_apart, pair_found}
+use Rattle.soundness.proofs.PairLaws.{Taken, Keyed, Apart, Row}
 use Rattle.soundness.proofs.pairs.all_distinct.Given as goal
 
 abbrev pub invariant-loop-j : goal.invariant-loop-j

@@ -3,7 +3,6 @@ use Prim.Native.Nat.{◌-◌}
 use native.Mathlib.Omega.{arith}
 use lib.ListN.{length}
 use Rattle.soundness.proofs.KeyLaws.{digest_small, digest_large, digest_bound, digest_none}
-use borrow.Author.Rules.{rules}
 use Rattle.soundness.proofs.pairs.digest.Goals as goal
 
 pub returns-then-n-eq0 : goal.returns-then-n-eq0

@@ -1,11 +1,6 @@
 -- What is found so far, and the keys that are left, decide.
-use mathlib.Core.Path.{◌≡◌, refl}
-use mathlib.Core.Bool.{◌||◌}
-use Prim.Native.Nat.{◌≤◌, ◌-◌}
+use mathlib.Core.Path.{refl}
 use native.Mathlib.Omega.{arith}
-use lib.ListN.{drop}
-use Rattle.rules.specs.Size.{slots}
-use Rattle.soundness.specs.Keys.{has_key}
 use Rattle.soundness.proofs.KeyLaws.{has_key_turn, has_key_end}
 use Rattle.soundness.proofs.pairs.has_key.Goals as goal
 

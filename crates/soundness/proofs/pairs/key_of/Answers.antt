@@ -2,10 +2,8 @@
 use mathlib.Core.Path.{sym, ◌∙◌, ap}
 use native.Mathlib.Omega.{arith}
 use lib.ListN.{length}
-use borrow.Author.Tests.{not-true, not-false}
 use Rattle.soundness.proofs.WalkLaws.{name-short}
 use Rattle.soundness.proofs.KeyLaws.{key_none, key_some}
-use borrow.Author.Rules.{rules}
 use Rattle.soundness.proofs.pairs.key_of.Goals as goal
 
 pub returns-then-not-used : goal.returns-then-not-used

@@ -1,7 +1,6 @@
 -- A free slot's key is 0 and clashes with none; a key whose place was not taken was not met.
 use mathlib.Core.Path.{ap}
 use mathlib.Core.Bool.{not}
-use borrow.Author.Rules.{rules}
 use borrow.Author.Tests.{eq-eqb, ne_eqb}
 use Rattle.soundness.specs.Keys.{may_clash}
 use Rattle.soundness.proofs.Tests.{stop, pass}

@@ -3,7 +3,6 @@ use mathlib.Core.Path.{refl}
 use native.Mathlib.Nat.{mod-lt}
 use native.Mathlib.Omega.{arith}
 use Rattle.soundness.specs.Keys.{place_of}
-use borrow.Author.Rules.{rules}
 use Rattle.soundness.proofs.pairs.place_of.Goals as goal
 
 pub returns : goal.returns

@@ -1,7 +1,6 @@
 -- The bytes of the names are compared.
 use mathlib.Core.Path.{ap₂, ◌∙◌}
 use Rattle.rules.specs.Octets.{same}
-use borrow.Author.Rules.{rules}
 use Rattle.soundness.proofs.pairs.same_names.Goals as goal
 
 pub name-a-requires : goal.name-a-requires

@@ -2,7 +2,6 @@
 use native.Mathlib.Omega.{arith}
 use Rattle.soundness.proofs.SlotLaws.{sizes_of}
 use Rattle.soundness.proofs.KeptNames.{other_kept, root-named, root_kept}
-use borrow.Author.Rules.{rules}
 use Rattle.soundness.proofs.slot.good_name.Goals as goal
 
 pub kept_name-requires : goal.kept_name-requires

@@ -2,7 +2,6 @@
 use mathlib.Core.Path.{sym, ◌∙◌}
 use Rattle.octets.proofs.Bytes.{bytes-known}
 use Rattle.soundness.proofs.SlotLaws.{unused_root, unused_other}
-use borrow.Author.Rules.{rules}
 use Rattle.soundness.proofs.slot.good_slot.Goals as goal
 
 pub good_used-requires : goal.good_used-requires

@@ -1,10 +1,8 @@
 -- Lengths, entries, value and name, each with what is behind it, are all the bytes of the slot.
 use mathlib.Core.Path.{sym, ◌∙◌}
-use borrow.Author.Tests.{not-true, not-false}
 use Rattle.octets.proofs.Bytes.{bytes-known}
 use Rattle.soundness.proofs.Tests.{stop, pass}
 use Rattle.soundness.proofs.SlotLaws.{unsized, within_sizes}
-use borrow.Author.Rules.{rules}
 use Rattle.soundness.proofs.slot.good_used.Goals as goal
 
 pub returns-then-not-within : goal.returns-then-not-within

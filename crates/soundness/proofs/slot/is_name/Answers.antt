@@ -1,10 +1,6 @@
 -- The bytes before i are a name's, so those from i on decide; an empty text is no name.
-use mathlib.Core.Path.{◌≡◌, refl}
-use Prim.Native.Nat.{◌≤◌, ◌-◌}
+use mathlib.Core.Path.{refl}
 use native.Mathlib.Omega.{arith}
-use lib.ListN.{length, drop}
-use borrow.Author.Tests.{not-true, not-false}
-use Rattle.rules.specs.Path.{all_bytes}
 use Rattle.soundness.proofs.NameLaws.{name_further, name-refused, name-ended}
 use Rattle.soundness.proofs.slot.is_name.Goals as goal
 
@@ -19,11 +15,10 @@ returns-then-not-name_byte c =
     name-refused _ c.loop-i.i c.loop-i.invariant.1 c.loop-i-test.true c.name_byte.ensures c.if-not-name_byte.true
 
 pub loop-i-preserved : goal.loop-i-preserved
-loop-i-preserved c =
-    (
-      omega arith,
-      name_further _ c.loop-i.i c.loop-i.invariant.1 c.loop-i-test.true c.name_byte.ensures c.if-not-name_byte.false,
-    )
+loop-i-preserved c = (
+  omega arith,
+  name_further _ c.loop-i.i c.loop-i.invariant.1 c.loop-i-test.true c.name_byte.ensures c.if-not-name_byte.false,
+)
 
 pub returns : goal.returns
 returns c = name-ended _ c.loop-i.i c.loop-i.invariant.1 c.loop-i-test.false

@@ -1,11 +1,8 @@
 -- The bytes before i are a name's, so those from i on decide; an empty text is no name.
-use mathlib.Core.Path.{◌≡◌, refl}
+use mathlib.Core.Path.{◌≡◌}
 use Prim.Native.Nat.{◌≤◌, ◌-◌}
-use native.Mathlib.Omega.{arith}
 use lib.ListN.{length, drop}
-use borrow.Author.Tests.{not-true, not-false}
 use Rattle.rules.specs.Path.{all_bytes}
-use Rattle.soundness.proofs.NameLaws.{name_further, name-refused, name-ended}
 use Rattle.soundness.proofs.slot.is_name.Given as goal
 
 abbrev pub invariant-loop-i : goal.invariant-loop-i

@@ -1,8 +1,6 @@
 -- The name and what stands behind it are the whole field; one in its first half is `short_name`'s.
 use mathlib.Core.Path.{sym, ◌∙◌}
-use borrow.Author.Tests.{not-true, not-false}
 use Rattle.soundness.proofs.KeptNames.{long_fault, long-name}
-use borrow.Author.Rules.{rules}
 use Rattle.soundness.proofs.slot.kept_name.Goals as goal
 
 pub returns-then-not-all_zero : goal.returns-then-not-all_zero

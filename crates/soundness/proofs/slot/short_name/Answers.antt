@@ -1,8 +1,6 @@
 -- Small letters with zeros behind them are a name with zeros behind it; of any other text the bytes and what is behind them decide.
 use mathlib.Core.Path.{sym, ◌∙◌}
-use borrow.Author.Tests.{not-true, not-false}
 use Rattle.soundness.proofs.KeptNames.{no_name, second_fault, small_name, first_fault, short-name}
-use borrow.Author.Rules.{rules}
 use Rattle.soundness.proofs.slot.short_name.Goals as goal
 
 pub returns-then-n-eq0 : goal.returns-then-n-eq0

@@ -1,12 +1,9 @@
 -- Each byte is held against its own last; those gathered so far, and those from i on, decide.
-use mathlib.Core.Path.{◌≡◌, refl}
+use mathlib.Core.Path.{◌≡◌}
 use mathlib.Core.Bool.{◌&&◌}
 use Prim.Native.Nat.{◌+◌, ◌-◌, ◌≤◌}
-use native.Mathlib.Nat.{add-zero, add_assoc}
-use native.Mathlib.Omega.{arith}
 use lib.ListN.{length, drop}
 use Rattle.soundness.specs.Parts.{small_letters}
-use Rattle.soundness.proofs.KeptNames.{letters_turn, letters_end}
 use Rattle.soundness.proofs.slot.small_letters.Given as goal
 
 abbrev pub invariant-loop-i : goal.invariant-loop-i

@@ -7,7 +7,6 @@ use Rattle.soundness.specs.Parts.{sized}
 use borrow.Author.Tests.{le-leb}
 use native.Mathlib.Omega.{arith}
 use mathlib.Core.Path.{sym, ap, ◌∙◌}
-use borrow.Author.Rules.{rules}
 use Rattle.soundness.proofs.slot.within.Goals as goal
 
 pub returns-then-name_length-gt-LONGEST_NAME : goal.returns-then-name_length-gt-LONGEST_NAME

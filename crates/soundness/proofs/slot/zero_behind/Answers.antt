@@ -7,7 +7,6 @@ use Rattle.rules.specs.Size.{slot_size, value_at, longest_value}
 use Rattle.rules.specs.Octets.{all_zero}
 use Rattle.soundness.specs.Parts.{zero_behind}
 use Rattle.soundness.proofs.SlotLaws.{sizes_of}
-use borrow.Author.Rules.{rules}
 use Rattle.soundness.proofs.slot.zero_behind.Goals as goal
 
 pub rest_zero-requires : goal.rest_zero-requires

@@ -1,11 +1,8 @@
 -- The slots before i are good, so those from i on decide.
-use mathlib.Core.Path.{◌≡◌, refl, sym, ◌∙◌}
-use Prim.Native.Nat.{◌≤◌, ◌-◌}
+use mathlib.Core.Path.{refl, sym, ◌∙◌}
 use native.Mathlib.Omega.{arith}
-use borrow.Author.Tests.{not-true, not-false}
 use Rattle.rules.specs.Size.{slots}
 use Rattle.soundness.specs.Parts.{good_slot}
-use Rattle.soundness.specs.Parts.{every}
 use Rattle.soundness.proofs.TableLaws.{every_further, every_stop, every-ended}
 use Rattle.soundness.proofs.table.all_good.Goals as goal
 

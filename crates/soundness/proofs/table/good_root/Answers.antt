@@ -1,7 +1,6 @@
 -- The two tests are those of the root: its parent and its owner.
 use mathlib.Core.Path.{◌∙◌}
 use Rattle.soundness.proofs.TableLaws.{root-parent, root-owner}
-use borrow.Author.Rules.{rules}
 use Rattle.soundness.proofs.table.good_root.Goals as goal
 
 pub returns-then-parent-ne0 : goal.returns-then-parent-ne0

@@ -1,10 +1,8 @@
 -- Good slots have names within the size, which the walks and the pairs need; the tests together are the rule book's.
 use mathlib.Core.Path.{sym, ◌∙◌}
-use borrow.Author.Tests.{not-true, not-false}
 use Rattle.octets.proofs.Bytes.{bytes-known}
 use Rattle.soundness.proofs.Tests.{stop, pass}
 use Rattle.soundness.proofs.TableLaws.{sound-parts, good-short, root-used, wrong-length}
-use borrow.Author.Rules.{rules}
 use Rattle.soundness.proofs.table.sound.Goals as goal
 
 pub returns-then-t-ne-TABLE_SIZE : goal.returns-then-t-ne-TABLE_SIZE

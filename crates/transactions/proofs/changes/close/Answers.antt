@@ -1,7 +1,6 @@
 -- A closed place is zero.
 use mathlib.Core.Path.{◌∙◌}
 use native.Mathlib.Omega.{arith}
-use borrow.Author.Rules.{rules}
 use Rattle.transactions.proofs.Written.{closed}
 use Rattle.transactions.proofs.changes.close.Goals as goal
 

@@ -1,7 +1,6 @@
 -- A place that the connection holds is cleared, another stays as it is.
 use mathlib.Core.Path.{sym, ◌∙◌}
 use native.Mathlib.Omega.{arith}
-use borrow.Author.Rules.{rules}
 use Rattle.transactions.specs.Transaction.{held_by}
 use Rattle.transactions.proofs.Written.{freed_transaction, left_transaction}
 use Rattle.transactions.proofs.changes.close_held.Goals as goal

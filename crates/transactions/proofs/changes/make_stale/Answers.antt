@@ -1,7 +1,6 @@
 -- An open transaction keeps its changes and its holder; a closed place stays as it is.
 use mathlib.Core.Path.{sym, ◌∙◌}
 use native.Mathlib.Omega.{arith}
-use borrow.Author.Rules.{rules}
 use Rattle.transactions.proofs.Written.{put_stale, left-stale}
 use Rattle.transactions.proofs.changes.make_stale.Goals as goal
 

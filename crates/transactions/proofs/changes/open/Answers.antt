@@ -3,7 +3,6 @@ use mathlib.Core.Path.{ap, ◌∙◌}
 use Prim.Native.Nat.{◌+◌, ◌*◌, ◌/◌, ◌%◌}
 use native.Mathlib.Omega.{arith}
 use lib.ListN.{set, length-set}
-use borrow.Author.Rules.{rules}
 use Rattle.rules.specs.Size.{transaction_size}
 use Rattle.rules.specs.Octets.{Octets}
 use Rattle.transactions.proofs.Written.{put_open}

@@ -3,7 +3,6 @@ use mathlib.Core.Path.{ap, ◌∙◌}
 use Prim.Native.Nat.{◌+◌, ◌*◌, ◌/◌, ◌%◌}
 use native.Mathlib.Omega.{arith}
 use lib.ListN.{length, set, length-set}
-use borrow.Author.Rules.{rules}
 use Rattle.rules.specs.Octets.{Octets}
 use Rattle.transactions.proofs.ChangeAdded.{put_two, mark_small}
 use Rattle.transactions.proofs.changes.put_change.Goals as goal

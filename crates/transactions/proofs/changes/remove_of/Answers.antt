@@ -1,13 +1,9 @@
 -- The places before the one in turn are done, the others as they were.
-use mathlib.Core.Path.{◌≡◌, refl}
-use Prim.Native.Nat.{◌-◌}
+use mathlib.Core.Path.{refl}
 use native.Mathlib.Omega.{arith}
-use Rattle.rules.specs.Size.{most_transactions}
 use Rattle.rules.specs.Layout.{transactions_of}
 use Rattle.rules.specs.World.{without_transactions}
-use Rattle.domains.specs.Entry.{dropped_if}
-use Rattle.transactions.specs.Transaction.{held_by, KeptTransactions}
-use Rattle.domains.proofs.Search.{swept_before}
+use Rattle.transactions.specs.Transaction.{held_by}
 use Rattle.transactions.proofs.Written.{swept_transaction, swept-transactions}
 use Rattle.transactions.proofs.changes.remove_of.Goals as goal
 

@@ -1,11 +1,7 @@
 -- The places before the one in turn are done, the others as they were.
-use mathlib.Core.Path.{◌≡◌, refl}
-use Prim.Native.Nat.{◌-◌}
+use mathlib.Core.Path.{refl}
 use native.Mathlib.Omega.{arith}
-use Rattle.rules.specs.Size.{most_transactions}
 use Rattle.rules.specs.Layout.{transactions_of}
-use Rattle.transactions.specs.Transaction.{stale_of, KeptTransactions}
-use Rattle.domains.proofs.Search.{swept_before}
 use Rattle.transactions.proofs.Written.{swept-stale, swept_stales}
 use Rattle.transactions.proofs.changes.stale_all.Goals as goal
 

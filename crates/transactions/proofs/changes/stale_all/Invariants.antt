@@ -1,12 +1,10 @@
 -- The places before the one in turn are done, the others as they were.
-use mathlib.Core.Path.{◌≡◌, refl}
+use mathlib.Core.Path.{◌≡◌}
 use Prim.Native.Nat.{◌-◌}
-use native.Mathlib.Omega.{arith}
 use Rattle.rules.specs.Size.{most_transactions}
 use Rattle.rules.specs.Layout.{transactions_of}
 use Rattle.transactions.specs.Transaction.{stale_of, KeptTransactions}
 use Rattle.domains.proofs.Search.{swept_before}
-use Rattle.transactions.proofs.Written.{swept-stale, swept_stales}
 use Rattle.transactions.proofs.changes.stale_all.Given as goal
 
 abbrev pub invariant-loop-i : goal.invariant-loop-i

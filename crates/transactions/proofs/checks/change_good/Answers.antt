@@ -1,6 +1,5 @@
 -- The path that was read fits, and the change that was read is that of the table.
 use mathlib.Core.Path.{sym, ap, ◌∙◌}
-use borrow.Author.Tests.{not-true, not-false}
 use Rattle.rules.specs.Sound.{good_change}
 use Rattle.transactions.proofs.ChangeLaws.{change-fits}
 use Rattle.transactions.proofs.Good.{path-full, change_unfit, given_is}

@@ -1,8 +1,6 @@
 -- A change is its fields and its full path, and zero behind that.
 use mathlib.Core.Path.{sym, ◌∙◌}
 use native.Mathlib.Omega.{arith}
-use borrow.Author.Tests.{not-true, not-false}
-use borrow.Author.Rules.{rules}
 use Rattle.transactions.proofs.ChangesKept.{change-marked, change_over, change_unfull, change-rest}
 use Rattle.transactions.proofs.checks.change_kept.Goals as goal
 

@@ -1,10 +1,6 @@
 -- Changes are good where each is.
 use mathlib.Core.Path.{refl, sym}
-use Prim.Native.Nat.{◌-◌}
-use native.Mathlib.Omega.{arith}
-use Rattle.rules.specs.Sound.{good_changes}
-use Rattle.domains.proofs.Turns.{Checked, check_failed, check_passed, check_ended}
-use Rattle.transactions.specs.Transaction.{transaction_of}
+use Rattle.domains.proofs.Turns.{check_failed, check_passed, check_ended}
 use Rattle.transactions.proofs.Good.{changes_check}
 use Rattle.transactions.proofs.checks.changes_good.Goals as goal
 

@@ -1,14 +1,11 @@
 -- The changes are their bytes one after the other, so these are those of what they mean where each change's are.
-use mathlib.Core.Path.{refl, sym, ap, ◌∙◌}
 use Prim.Native.Nat.{◌-◌, ◌*◌}
-use native.Mathlib.Omega.{arith}
 use lib.ListN.{take, drop}
 use Rattle.rules.specs.Size.{change_size}
 use Rattle.rules.specs.Layout.{change_bytes, change_in}
 use Rattle.domains.proofs.Turns.{Checked, every}
-use Rattle.domains.proofs.Rows.{part_length, rows_kept, rows_failed, rows_passed, rows_ended}
-use Rattle.transactions.specs.Checks.{change_kept, changes_kept}
-use Rattle.transactions.proofs.ChangesKept.{change-long, change_row}
+use Rattle.domains.proofs.Rows.{rows_kept}
+use Rattle.transactions.proofs.ChangesKept.{change-long}
 use Rattle.transactions.proofs.checks.changes_kept.Given as goal
 
 abbrev pub invariant-loop-j : goal.invariant-loop-j

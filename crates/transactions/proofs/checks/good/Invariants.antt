@@ -1,13 +1,9 @@
 -- What is asked of the table is asked of each place.
-use mathlib.Core.Path.{refl}
 use Prim.Native.Nat.{◌-◌}
-use native.Mathlib.Omega.{arith}
 use Rattle.rules.specs.Size.{most_transactions}
 use Rattle.rules.specs.Layout.{domains_of, transactions_of}
-use Rattle.domains.proofs.Turns.{Checked, check_failed, check_passed, check_ended}
+use Rattle.domains.proofs.Turns.{Checked}
 use Rattle.transactions.specs.Checks.{all_open_good}
-use Rattle.transactions.proofs.Laws.{length-transactions_of}
-use Rattle.transactions.proofs.Good.{entries_check}
 use Rattle.transactions.proofs.checks.good.Given as goal
 
 abbrev pub invariant-loop-i : goal.invariant-loop-i

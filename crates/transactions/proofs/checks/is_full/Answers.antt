@@ -1,6 +1,5 @@
 -- A text is a full path where its form is absolute.
 use mathlib.Core.Path.{sym, ◌∙◌}
-use borrow.Author.Rules.{rules}
 use Rattle.paths.proofs.FormLaws.{form-absolute, form-special, form-relative, form-malformed}
 use Rattle.transactions.proofs.ChangesKept.{full_by_lem}
 use Rattle.transactions.proofs.checks.is_full.Goals as goal

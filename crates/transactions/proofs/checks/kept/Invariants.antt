@@ -1,12 +1,9 @@
 -- The table is the bytes of its places, so they are those of what they mean where each place's are.
-use mathlib.Core.Path.{refl}
 use Prim.Native.Nat.{◌-◌}
-use native.Mathlib.Omega.{arith}
 use Rattle.rules.specs.Size.{most_transactions, transaction_size}
-use Rattle.rules.specs.Layout.{transaction_bytes, transaction_in, transactions_bytes, transactions_of}
-use Rattle.domains.specs.Kept.{kept_at}
+use Rattle.rules.specs.Layout.{transaction_bytes, transaction_in}
 use Rattle.domains.proofs.Turns.{Checked, every}
-use Rattle.domains.proofs.Rows.{rows_kept, rows_failed, rows_passed, rows_ended}
+use Rattle.domains.proofs.Rows.{rows_kept}
 use Rattle.transactions.proofs.Laws.{transaction_wide}
 use Rattle.transactions.proofs.checks.kept.Given as goal
 

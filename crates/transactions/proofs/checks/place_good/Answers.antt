@@ -1,6 +1,5 @@
 -- The tests are those of an open transaction, in its order.
 use mathlib.Core.Path.{sym, ap, ◌∙◌}
-use borrow.Author.Tests.{not-true, not-false}
 use Rattle.rules.specs.Domain.{Connection, domain_of}
 use Rattle.rules.specs.Layout.{domains_of}
 use Rattle.rules.specs.Sound.{known}

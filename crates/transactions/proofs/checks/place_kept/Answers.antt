@@ -1,8 +1,6 @@
 -- A closed place is zero; an open one is its fields and its changes, and zero behind these.
 use mathlib.Core.Path.{sym, ◌∙◌}
 use native.Mathlib.Omega.{arith}
-use borrow.Author.Tests.{not-true, not-false}
-use borrow.Author.Rules.{rules}
 use Rattle.octets.proofs.Bytes.{bytes-known}
 use Rattle.domains.proofs.Tests.{and_first, and_rest}
 use Rattle.transactions.proofs.Kept.{free_same, kept-marked, kept_many, kept-parts}

@@ -1,7 +1,6 @@
 -- The tests are those of sound entries, in their order.
 use mathlib.Core.Path.{sym, ◌∙◌}
-use borrow.Author.Tests.{eq-eqb, ne_eqb, not-true, not-false}
-use borrow.Author.Rules.{rules}
+use borrow.Author.Tests.{eq-eqb, ne_eqb}
 use Rattle.transactions.specs.Checks.{sound_entries}
 use Rattle.transactions.proofs.Good.{kept_of}
 use Rattle.transactions.proofs.checks.sound_entries.Goals as goal

@@ -1,6 +1,5 @@
 -- The last four bits of the first byte say how many.
 use native.Mathlib.Omega.{arith}
-use borrow.Author.Rules.{rules}
 use Rattle.transactions.proofs.Laws.{changes-read, open_fits}
 use Rattle.transactions.proofs.places.changes.Goals as goal
 

@@ -1,7 +1,6 @@
 -- A closed place has no transaction; an open one has its holder's.
 use mathlib.Core.Path.{sym, ap, ◌∙◌}
 use lib.Dec.{eqb}
-use borrow.Author.Tests.{not-true, not-false}
 use Rattle.rules.specs.Layout.{opened}
 use Rattle.transactions.specs.Transaction.{held_by}
 use Rattle.domains.proofs.Search.{passes_free, passes-taken}

@@ -1,6 +1,5 @@
 -- The holder is the number of the second and third byte.
 use native.Mathlib.Omega.{arith}
-use borrow.Author.Rules.{rules}
 use Rattle.transactions.proofs.Laws.{holder-read}
 use Rattle.transactions.proofs.places.holder.Goals as goal
 

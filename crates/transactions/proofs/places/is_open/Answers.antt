@@ -1,5 +1,4 @@
 -- The first bit of the place says it.
-use borrow.Author.Rules.{rules}
 use Rattle.octets.proofs.Bytes.{bytes-known}
 use Rattle.transactions.proofs.Laws.{used_byte}
 use Rattle.transactions.proofs.places.is_open.Goals as goal

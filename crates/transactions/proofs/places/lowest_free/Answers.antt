@@ -1,7 +1,6 @@
 -- A transaction is open where the first bit of its place is set.
 use mathlib.Core.Path.{refl, ◌∙◌}
 use lib.Dec.{lit≤}
-use borrow.Author.Rules.{rules}
 use Rattle.rules.specs.Size.{transaction_size, most_transactions}
 use Rattle.rules.specs.Layout.{transactions_of}
 use Rattle.octets.proofs.Bytes.{bytes-known}

@@ -1,6 +1,5 @@
 -- Three bits of the change's first byte, before the last, say it.
 use native.Mathlib.Omega.{arith}
-use borrow.Author.Rules.{rules}
 use Rattle.transactions.proofs.ChangeLaws.{place-within, parents-read}
 use Rattle.transactions.proofs.places.parents.Goals as goal
 

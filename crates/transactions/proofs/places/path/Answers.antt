@@ -1,6 +1,5 @@
 -- The path stands behind the change's fields, as long as they say.
 use native.Mathlib.Omega.{arith}
-use borrow.Author.Rules.{rules}
 use Rattle.transactions.proofs.ChangeLaws.{place-within, length-read, path-read, change-fits}
 use Rattle.transactions.proofs.places.path.Goals as goal
 

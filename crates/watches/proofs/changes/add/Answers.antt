@@ -2,7 +2,6 @@
 use mathlib.Core.Path.{ap, ◌∙◌}
 use Prim.Native.Nat.{◌+◌, ◌*◌}
 use native.Mathlib.Omega.{arith}
-use borrow.Author.Rules.{rules}
 use Rattle.rules.specs.Size.{watch_fields_size, watch_size}
 use Rattle.rules.specs.Octets.{paste}
 use Rattle.watches.proofs.Written.{put_watch}

@@ -1,7 +1,6 @@
 -- A place that has a watch of the connection is cleared, another stays as it is.
 use mathlib.Core.Path.{sym, ◌∙◌}
 use native.Mathlib.Omega.{arith}
-use borrow.Author.Rules.{rules}
 use Rattle.watches.specs.Watch.{owned_by}
 use Rattle.watches.proofs.Written.{freed_watch, left-watch}
 use Rattle.watches.proofs.changes.free_owned.Goals as goal

@@ -1,7 +1,6 @@
 -- A place that has the twin is cleared, another stays as it is.
 use mathlib.Core.Path.{sym, ◌∙◌}
 use native.Mathlib.Omega.{arith}
-use borrow.Author.Rules.{rules}
 use Rattle.rules.specs.Sound.{twin}
 use Rattle.watches.proofs.Written.{freed_watch, left-watch}
 use Rattle.watches.proofs.changes.free_twin.Goals as goal

@@ -1,6 +1,5 @@
 -- The first three bits by the two things that they say.
 use mathlib.Core.Path.{ap}
-use borrow.Author.Rules.{rules}
 use Rattle.domains.specs.Entry.{taken}
 use Rattle.watches.specs.Watch.{depth_meant}
 use Rattle.watches.proofs.Written.{marks_are}

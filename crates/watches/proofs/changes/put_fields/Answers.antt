@@ -1,7 +1,6 @@
 -- Six stores in a row put six bytes in.
 use native.Mathlib.Omega.{arith}
 use lib.ListN.{length-set}
-use borrow.Author.Rules.{rules}
 use Rattle.watches.proofs.Written.{paste_six}
 use Rattle.watches.proofs.changes.put_fields.Goals as goal
 

@@ -1,13 +1,9 @@
 -- The places before the one in turn are done, the others as they were.
-use mathlib.Core.Path.{◌≡◌, refl}
-use Prim.Native.Nat.{◌-◌}
+use mathlib.Core.Path.{refl}
 use native.Mathlib.Omega.{arith}
-use Rattle.rules.specs.Size.{most_watches}
 use Rattle.rules.specs.Layout.{watches_of}
 use Rattle.rules.specs.World.{without_watches}
-use Rattle.domains.specs.Entry.{dropped_if}
-use Rattle.watches.specs.Watch.{owned_by, KeptWatches}
-use Rattle.domains.proofs.Search.{swept_before}
+use Rattle.watches.specs.Watch.{owned_by}
 use Rattle.watches.proofs.Written.{swept-watch, swept-watches}
 use Rattle.watches.proofs.changes.remove_of.Goals as goal
 

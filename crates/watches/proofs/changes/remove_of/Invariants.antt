@@ -1,14 +1,11 @@
 -- The places before the one in turn are done, the others as they were.
-use mathlib.Core.Path.{◌≡◌, refl}
+use mathlib.Core.Path.{◌≡◌}
 use Prim.Native.Nat.{◌-◌}
-use native.Mathlib.Omega.{arith}
 use Rattle.rules.specs.Size.{most_watches}
 use Rattle.rules.specs.Layout.{watches_of}
-use Rattle.rules.specs.World.{without_watches}
 use Rattle.domains.specs.Entry.{dropped_if}
 use Rattle.watches.specs.Watch.{owned_by, KeptWatches}
 use Rattle.domains.proofs.Search.{swept_before}
-use Rattle.watches.proofs.Written.{swept-watch, swept-watches}
 use Rattle.watches.proofs.changes.remove_of.Given as goal
 
 abbrev pub invariant-loop-i : goal.invariant-loop-i

@@ -1,7 +1,6 @@
 -- A path lies below a base where the base's text and a slash begin it.
 use mathlib.Core.Path.{sym, ap, ◌∙◌}
 use lib.Seq.{length-take-le}
-use borrow.Author.Rules.{rules}
 use Rattle.rules.specs.Octets.{Octets, begins}
 use Rattle.watches.proofs.Good.{put_within, put_base, base-below}
 use Rattle.watches.proofs.checks.below_base.Goals as goal

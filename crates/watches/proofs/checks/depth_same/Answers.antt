@@ -1,7 +1,6 @@
 -- A depth is given, or its byte is asked.
 use mathlib.Core.Path.{sym}
 use borrow.Author.Tests.{eq-eqb, ne_eqb}
-use borrow.Author.Rules.{rules}
 use Rattle.watches.specs.Checks.{depth_same}
 use Rattle.watches.proofs.checks.depth_same.Goals as goal
 

@@ -1,7 +1,6 @@
 -- The tests are those of the fields, in their order.
 use mathlib.Core.Path.{sym, ◌∙◌}
 use borrow.Author.Tests.{eq-eqb, ne_eqb, le-leb, lt-leb}
-use borrow.Author.Rules.{rules}
 use Rattle.watches.specs.Checks.{fields_same}
 use Rattle.watches.proofs.checks.fields_same.Goals as goal
 

@@ -1,11 +1,8 @@
 -- What is asked of the table is asked of each place, with those after it.
 use mathlib.Core.Path.{refl}
-use Prim.Native.Nat.{◌-◌}
-use native.Mathlib.Omega.{arith}
 use Rattle.rules.specs.Size.{most_watches}
 use Rattle.rules.specs.Layout.{domains_of, watches_of}
-use Rattle.rules.specs.Sound.{good_watches}
-use Rattle.domains.proofs.Turns.{Checked, check_failed, check_passed, check_ended}
+use Rattle.domains.proofs.Turns.{check_failed, check_passed, check_ended}
 use Rattle.watches.proofs.Bytes.{length-watches_of}
 use Rattle.watches.proofs.Good.{good_check}
 use Rattle.watches.proofs.checks.good.Goals as goal

@@ -1,7 +1,5 @@
 -- A path by its names, an event's name by its owner and depth.
 use mathlib.Core.Path.{sym, ap, ◌∙◌}
-use borrow.Author.Tests.{not-true, not-false}
-use borrow.Author.Rules.{rules}
 use Rattle.rules.specs.Domain.{Domain, is_control}
 use Rattle.rules.specs.Path.{base, beyond, names_in}
 use Rattle.rules.specs.Sound.{event_depth, strictly_below}

@@ -1,12 +1,9 @@
 -- The table is the bytes of its places, so they are those of what they mean where each place's are.
 use mathlib.Core.Path.{refl}
-use Prim.Native.Nat.{◌-◌}
-use native.Mathlib.Omega.{arith}
 use Rattle.rules.specs.Size.{most_watches, watch_size}
 use Rattle.rules.specs.Layout.{watch_bytes, watch_in, watches_bytes, watches_of}
 use Rattle.domains.specs.Kept.{kept_at}
-use Rattle.domains.proofs.Turns.{Checked, every}
-use Rattle.domains.proofs.Rows.{rows_kept, rows_failed, rows_passed, rows_ended}
+use Rattle.domains.proofs.Rows.{rows_failed, rows_passed, rows_ended}
 use Rattle.watches.proofs.Bytes.{watch-wide}
 use Rattle.watches.proofs.checks.kept.Goals as goal
 

@@ -1,12 +1,8 @@
 -- There is no nul where each byte is another.
-use mathlib.Core.Path.{refl}
 use Prim.Native.Nat.{◌-◌}
-use native.Mathlib.Omega.{arith}
 use lib.ListN.{length}
-use borrow.Author.Tests.{eq-eqb, ne_eqb}
 use Rattle.rules.specs.Sound.{no_nul}
-use Rattle.domains.proofs.Turns.{Checked, check_failed, check_passed, check_ended}
-use Rattle.watches.proofs.Good.{nul_check}
+use Rattle.domains.proofs.Turns.{Checked}
 use Rattle.watches.proofs.checks.no_nul.Given as goal
 
 abbrev pub invariant-loop-i : goal.invariant-loop-i

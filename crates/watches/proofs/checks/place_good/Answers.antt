@@ -2,8 +2,6 @@
 use mathlib.Core.Path.{◌≡◌, sym, ap, ◌∙◌}
 use mathlib.Core.Bool.{not}
 use native.Mathlib.Omega.{arith}
-use borrow.Author.Tests.{not-true, not-false}
-use borrow.Author.Rules.{rules}
 use Rattle.rules.specs.Domain.{Connection, domain_of}
 use Rattle.rules.specs.Layout.{domains_of}
 use Rattle.rules.specs.Sound.{known, no_nul, good_place}

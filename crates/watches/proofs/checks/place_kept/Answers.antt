@@ -3,8 +3,6 @@ use mathlib.Core.Path.{◌≡◌, sym, ◌∙◌}
 use mathlib.Core.Bool.{◌&&◌}
 use Prim.Native.Nat.{◌+◌, ◌*◌}
 use native.Mathlib.Omega.{arith}
-use borrow.Author.Tests.{not-true, not-false}
-use borrow.Author.Rules.{rules}
 use Rattle.rules.specs.Size.{most_watches, watch_size, watch_fields_size, token_at, longest_path, longest_token}
 use Rattle.rules.specs.Layout.{watch_bytes, watch_in}
 use Rattle.octets.specs.Two.{Bytes}

@@ -1,6 +1,5 @@
 -- A full path means itself, an event's name itself where it is not relative, and nothing else but the empty text means a place.
 use mathlib.Core.Path.{sym, ◌∙◌}
-use borrow.Author.Rules.{rules}
 use Rattle.paths.proofs.FormLaws.{form-absolute, form-special, form-relative, form-malformed}
 use Rattle.watches.proofs.Kept.{same_full, same-special, same_empty, same_other, place-malformed, place-relative, relative-long}
 use Rattle.watches.proofs.checks.place_same.Goals as goal

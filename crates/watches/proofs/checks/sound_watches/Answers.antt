@@ -1,7 +1,6 @@
 -- The tests are those of sound watches, in their order.
 use mathlib.Core.Path.{sym, ◌∙◌}
-use borrow.Author.Tests.{eq-eqb, ne_eqb, not-true, not-false}
-use borrow.Author.Rules.{rules}
+use borrow.Author.Tests.{eq-eqb, ne_eqb}
 use Rattle.rules.specs.Sound.{sound_watches}
 use Rattle.watches.proofs.Written.{kept_of}
 use Rattle.watches.proofs.checks.sound_watches.Goals as goal

@@ -1,7 +1,6 @@
 -- A bit says whether a depth was given, and the second byte is the depth.
 use mathlib.Core.Path.{sym, ◌∙◌}
 use borrow.Author.Tests.{eq-eqb, ne_eqb}
-use borrow.Author.Rules.{rules}
 use Rattle.octets.proofs.Bytes.{bytes-known}
 use Rattle.watches.proofs.Laws.{depth-read}
 use Rattle.watches.proofs.places.depth.Goals as goal

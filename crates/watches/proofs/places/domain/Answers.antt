@@ -1,6 +1,5 @@
 -- The domain of the owner as it was read.
 use mathlib.Core.Path.{ap, ◌∙◌}
-use borrow.Author.Rules.{rules}
 use Rattle.rules.specs.Domain.{domain_of}
 use Rattle.watches.proofs.places.domain.Goals as goal
 

@@ -1,7 +1,5 @@
 -- A watch of the connection is the twin where path and token are the same.
 use mathlib.Core.Path.{sym, ap, ◌∙◌}
-use borrow.Author.Tests.{not-true, not-false}
-use borrow.Author.Rules.{rules}
 use Rattle.rules.specs.Octets.{same}
 use Rattle.watches.proofs.Laws.{owned_taken, twin_other, twin-path, twin-token}
 use Rattle.watches.proofs.places.is_twin.Goals as goal

@@ -1,7 +1,6 @@
 -- A watch is in a place where the first bit of the place is set.
 use mathlib.Core.Path.{refl, ◌∙◌}
 use lib.Dec.{lit≤}
-use borrow.Author.Rules.{rules}
 use Rattle.rules.specs.Size.{watch_size, most_watches}
 use Rattle.rules.specs.Layout.{watches_of}
 use Rattle.octets.proofs.Bytes.{bytes-known}

@@ -1,7 +1,6 @@
 -- A free place has no watch; a taken one has its owner's.
 use mathlib.Core.Path.{sym, ap, ◌∙◌}
 use lib.Dec.{eqb}
-use borrow.Author.Tests.{not-true, not-false}
 use Rattle.watches.specs.Watch.{owned_by, nobody}
 use Rattle.domains.proofs.Search.{passes_free, passes-taken}
 use Rattle.watches.proofs.places.owned.Goals as goal

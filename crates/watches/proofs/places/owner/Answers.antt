@@ -1,6 +1,5 @@
 -- The owner is the number of the third and fourth byte.
 use native.Mathlib.Omega.{arith}
-use borrow.Author.Rules.{rules}
 use Rattle.watches.proofs.Laws.{owner-read}
 use Rattle.watches.proofs.places.owner.Goals as goal
 

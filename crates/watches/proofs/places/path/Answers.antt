@@ -1,6 +1,5 @@
 -- The path stands behind the fields, as long as they say.
 use native.Mathlib.Omega.{arith}
-use borrow.Author.Rules.{rules}
 use Rattle.octets.proofs.Bytes.{bytes-known}
 use Rattle.watches.proofs.Laws.{path-length-within, path-part}
 use Rattle.watches.proofs.places.path.Goals as goal

@@ -1,5 +1,4 @@
 -- The path's length has the first nine bits of the fifth and sixth byte.
-use borrow.Author.Rules.{rules}
 use Rattle.watches.proofs.Laws.{lengths_two}
 use Rattle.watches.proofs.places.path_length.Goals as goal
 

@@ -1,6 +1,5 @@
 -- The token stands behind the path's field, as long as the fields say.
 use native.Mathlib.Omega.{arith}
-use borrow.Author.Rules.{rules}
 use Rattle.octets.proofs.Bytes.{bytes-known}
 use Rattle.watches.proofs.Laws.{token-length-within, token-part}
 use Rattle.watches.proofs.places.token.Goals as goal

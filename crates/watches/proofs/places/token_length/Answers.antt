@@ -1,5 +1,4 @@
 -- The token's length has the last six bits of the sixth byte.
-use borrow.Author.Rules.{rules}
 use Rattle.watches.proofs.Laws.{lengths_two}
 use Rattle.watches.proofs.places.token_length.Goals as goal
 

@@ -1,5 +1,4 @@
 -- The first bit of the place says it.
-use borrow.Author.Rules.{rules}
 use Rattle.octets.proofs.Bytes.{bytes-known}
 use Rattle.watches.proofs.Laws.{used_byte}
 use Rattle.watches.proofs.places.used.Goals as goal

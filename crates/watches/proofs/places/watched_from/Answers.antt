@@ -1,8 +1,5 @@
 -- The first place that has the twin is found, if one from there on has it.
-use mathlib.Core.Path.{◌≡◌, refl}
-use Prim.Native.Nat.{◌-◌}
-use native.Mathlib.Omega.{arith}
-use lib.ListN.{drop}
+use mathlib.Core.Path.{refl}
 use Rattle.rules.specs.Size.{most_watches}
 use Rattle.rules.specs.Layout.{watches_of}
 use Rattle.rules.specs.Sound.{watched}

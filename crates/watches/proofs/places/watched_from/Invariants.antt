@@ -1,13 +1,10 @@
 -- The first place that has the twin is found, if one from there on has it.
-use mathlib.Core.Path.{◌≡◌, refl}
+use mathlib.Core.Path.{◌≡◌}
 use Prim.Native.Nat.{◌-◌}
-use native.Mathlib.Omega.{arith}
 use lib.ListN.{drop}
 use Rattle.rules.specs.Size.{most_watches}
 use Rattle.rules.specs.Layout.{watches_of}
 use Rattle.rules.specs.Sound.{watched}
-use Rattle.domains.proofs.Search.{found, passed_by, not_found}
-use Rattle.watches.proofs.Bytes.{length-watches_of}
 use Rattle.watches.proofs.places.watched_from.Given as goal
 
 abbrev pub invariant-loop-i : goal.invariant-loop-i

@@ -1,12 +1,9 @@
 -- There is no nul from the cursor to i, so the string ends at the first from i on, or there is none.
-use mathlib.Core.Path.{◌≡◌, refl, sym, ◌∙◌}
+use mathlib.Core.Path.{◌≡◌}
 use Prim.Native.Nat.{◌-◌}
-use native.Mathlib.Omega.{arith}
 use lib.ListN.{length, drop}
-use borrow.Author.Tests.{lt-ltb, le-ltb}
 use Rattle.rules.specs.Payload.{first_string}
 use Rattle.payload.specs.Cursor.{found, taken_at}
-use Rattle.payload.proofs.CursorLaws.{found_here, found_further, found_over}
 use Rattle.payload.proofs.cursor.Cursor.next.Given as goal
 
 abbrev pub invariant-loop-i : goal.invariant-loop-i
