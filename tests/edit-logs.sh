@@ -19,7 +19,7 @@ for crate in ${*:-$(sh tests/order.sh)}; do
         *': refused, as it must be (only because a proof file names '*) why='refused for its shape: its proof names what the edited code has not' ;;
         *': refused, as it must be (only by a limit '*) why='refused for a limit, and not at a fact' ;;
         *': refused, as it must be'*) why='refused with no error' ;;
-        *) why='NOT REFUSED' ;;
+        *) why='no refusal' ;;
         esac
         if [ -z "$why" ]; then
             refused=$((refused + 1))
