@@ -1,6 +1,7 @@
 #!/bin/sh
 # The proved library, target/staticlib/libhaabuvilk.a: proved and written, unless it is there and of the crates as they are now.
-# With --after-ci, where rt ci has just passed in this checkout: over the libraries that it left there, so that they are not proved once more.
+# With --after-ci, where rt ci has just passed in a checkout that had nothing of rt's before: over the libraries that it left there, so that they
+# are not proved once more.
 set -eu
 cd "$(dirname "$0")/.."
 archive=target/staticlib/libhaabuvilk.a
@@ -18,7 +19,7 @@ sources() {
     } | sha256sum
 }
 
-# Whether the libraries below are those that rt ci made: rt's other commands leave a stamp beside theirs, and rt ci puts those back.
+# Whether the libraries below are there, as rt ci leaves them: rt's other commands put a stamp beside theirs.
 are_of_ci() {
     for crate in $crates; do
         [ "$crate" != haabuvilk_c ] || continue

@@ -6,6 +6,8 @@ cd "$(dirname "$0")/.."
 unset HAABUVILK_LIB
 said=$(mktemp -d)
 trap 'rm -rf "$said"' EXIT
+# What rt ci builds stays in the checkout only where nothing lies there that it has to put back.
+was_there=$(find crates .git -maxdepth 2 \( -path 'crates/*/out' -o -path .git/rt-aside \) 2> /dev/null || true)
 { rt ci 2>&1 || touch "$said/failed"; } | tee "$said/ci" | sed -u '$d'
 verdict=$(tail -n 1 "$said/ci")
 if [ -e "$said/failed" ]; then
@@ -20,6 +22,6 @@ printf '%s\n' "$verdict" | grep -qx '[0-9]* passed, 0 failed' || { echo "gate: n
 sh tests/edit-logs.sh "$said/ci"
 sh tests/review-sheet.sh
 sh tests/rule-edits.sh
-sh host/archive.sh --after-ci
+if [ "$was_there" ]; then sh host/archive.sh; else sh host/archive.sh --after-ci; fi
 sh tests/run.sh
 echo "$verdict"
