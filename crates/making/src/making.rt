@@ -29,10 +29,10 @@ fn make_one(t: &mut [u8], parent: usize, name: &[u8], value: &[u8], domain: u32)
 
 // Makes the names of a full path's text from `at` on, where a name begins, below a slot: parents first, each in the lowest free slot, the value in the last.
 pub fn make(t: &mut [u8], slot: usize, path: &[u8], at: usize, domain: u32, value: &[u8])
-    requires fact_1 { (slot < slots) × Canonical t.old × (is_used (slot_at t.old slot) ≡ true) }
-    requires fact_2 { short_names (left_at path.now at) ≡ true }
-    requires fact_3 { length (left_at path.now at) ≤ free_count (table_of t.old) }
-    requires fact_4 { (length value.now ≤ longest_value) × (domain < 65536) }
+    requires used { (slot < slots) × Canonical t.old × (is_used (slot_at t.old slot) ≡ true) }
+    requires short { short_names (left_at path.now at) ≡ true }
+    requires room { length (left_at path.now at) ≤ free_count (table_of t.old) }
+    requires sizes { (length value.now ≤ longest_value) × (domain < 65536) }
     ensures { t.new ≡ table_bytes (made (left_at path.now at) slot domain value.now (table_of t.old)) }
 {
     let mut parent = slot;

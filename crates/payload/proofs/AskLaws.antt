@@ -25,6 +25,7 @@ use Rattle.payload.specs.Parts.{parts_of}
 use Rattle.payload.specs.Meaning.{names_from, names_at, ask_meant, meant, PathSound, AskSound, Means, Sound}
 use Rattle.payload.specs.Answers.{named_of, is_root, ask_of, AskIs, asking_of}
 use Rattle.payload.specs.declared.answer.Path.{Path}
+use Rattle.payload.specs.declared.answer.Entries.{Entries}
 use Rattle.payload.specs.declared.answer.Named.TheVariants.{At, Not}
 use Rattle.payload.specs.declared.answer.Ask.{Ask}
 use Rattle.payload.specs.declared.answer.Ask.TheVariants as ask
@@ -129,19 +130,16 @@ sound_at s e p k h f =
 
 -- ── what is asked of a path ──
 
--- the kinds of ask that the root refuses to no one
-abbrev open_kinds : List ℕ
-open_kinds = 0 ∷ 1 ∷ 2 ∷ 3 ∷ 4 ∷ []
-
-pub open_else : (s : Octets) (a : Ask) → OneOf open_kinds (tag_of the_type a) → on_root (ask_meant s a) ≡ true
+-- the root refuses to no one but RM and SET_PERMS
+pub open_else : (s : Octets) (a : Ask) → (a ≡ ask.Rm → ⊥) → ((es : Entries) → a ≡ ask.SetPerms es → ⊥) → on_root (ask_meant s a) ≡ true
 unfolding on_root
-open_else s ask.Directory h = refl
-open_else s ask.Read h = refl
-open_else s ask.GetPerms h = refl
-open_else s (ask.Write from) h = refl
-open_else s ask.Mkdir h = refl
-open_else s ask.Rm h = absurd (miss open_kinds 5 tt h)
-open_else s (ask.SetPerms es) h = absurd (miss open_kinds 6 tt h)
+open_else s ask.Directory f g = refl
+open_else s ask.Read f g = refl
+open_else s ask.GetPerms f g = refl
+open_else s (ask.Write from) f g = refl
+open_else s ask.Mkdir f g = refl
+open_else s ask.Rm f g = absurd (f refl)
+open_else s (ask.SetPerms es) f g = absurd (g es refl)
 
 module _ (s : Octets) (e : ℕ) (p : Path) (k : e < length s) (h : named_of e (form_of (given (take e s))) ≡ At p) where
   told : IsNamed s e p

@@ -36,7 +36,7 @@ pub change-n-requires : goal.change-n-requires
 change-n-requires c =
     let h = there (goal.at.change-n-requires c).In-loop-j in
     let text = c.path-changed.ensures in
-    let new = c.parents_new.ensures in
+    let new = c.parents-new.ensures in
     let room = entered_room _ _ _ _ _ _ _ _ c.loop-j.invariant.2 (omega arith) in
     let below = change-parents _ _ _ h _ new in
     let over = change_above _ _ _ h _ text c.requires.2 _ new in
@@ -46,7 +46,7 @@ pub loop-j-preserved : goal.loop-j-preserved
 loop-j-preserved c =
     let inv = c.loop-j.invariant in
     let h = there (goal.at.loop-j-preserved c).In-loop-j in
-    let new = c.parents_new.ensures in
+    let new = c.parents-new.ensures in
     let this = change-given _ _ _ h _ c.path-changed.ensures _ _ c.removed-gone.ensures new in
     let few = given-few _ _ _ _ _ _ deepest (change-parents _ _ _ h _ new) in
     (inv.0, inv.1, entered_next _ _ _ _ _ _ _ _ inv.2 h.there (omega arith) no_change _ this few _ _ c.change-n.ensures)

@@ -24,24 +24,17 @@ pub returns-then-same : goal.returns-then-same
 returns-then-same c =
     concern_same _ _ (told (same _) c.same.ensures c.path-own.ensures c.if-same.true)
 
--- the watch's place and its text
-abbrev place : After-path-own → Place
-place c = (watch_of c.args.watches.now c.args.k).place
-
-abbrev own : After-path-own → Octets
-own c = place_text (place c)
-
-fits : (c : After-path-own) → PlaceFits (place c)
+fits : (c : After-path-own) → PlaceFits (watch_of c.args.watches.now c.args.k).place
 fits c = (watch-fits c.args.watches.now c.args.k c.requires).place
 
-differs : (c : Else-same) → same c.args.p.now (own c.before.before) ≡ false
+differs : (c : Else-same) → same c.args.p.now (place_text (watch_of c.args.watches.now c.args.k).place) ≡ false
 differs c = told (same _) c.same.ensures c.path-own.ensures c.if-same.false
 
-unslashed : (c : Then-not-begins) → begins (47 ∷ []) (own c.before.before.before.before.before.before) ≡ false
+unslashed : (c : Then-not-begins) → begins (47 ∷ []) (place_text (watch_of c.args.watches.now c.args.k).place) ≡ false
 unslashed c =
     told (begins (47 ∷ [])) c.begins.ensures c.path-own.ensures c.if-not-begins.true
 
-slashed : (c : Else-not-begins) → begins (47 ∷ []) (own c.before.before.before.before.before.before) ≡ true
+slashed : (c : Else-not-begins) → begins (47 ∷ []) (place_text (watch_of c.args.watches.now c.args.k).place) ≡ true
 slashed c =
     told (begins (47 ∷ [])) c.begins.ensures c.path-own.ensures c.if-not-begins.false
 

@@ -20,23 +20,20 @@ pub path-own-requires : goal.path-own-requires
 path-own-requires c =
     taken-watch c.args.watches.now c.args.k c.requires.0
 
-abbrev watch : After-path-own → Watch
-watch c = watch_of c.args.watches.now c.args.k
-
 used : (c : After-path-own) → TakenWatch c.args.watches.now c.args.k
 used c = taken-watch c.args.watches.now c.args.k c.requires.0
 
-fits : (c : After-path-own) → PlaceFits (watch c).place
+fits : (c : After-path-own) → PlaceFits (watch_of c.args.watches.now c.args.k).place
 fits c = (watch-fits c.args.watches.now c.args.k c.requires.0).place
 
-good : (c : After-path-own) → good_place (watch c).owner (watch c).depth (watch c).place ≡ true
+good : (c : After-path-own) → good_place (watch_of c.args.watches.now c.args.k).owner (watch_of c.args.watches.now c.args.k).depth (watch_of c.args.watches.now c.args.k).place ≡ true
 good c = good-place c.args.watches.now c.args.k c.requires.0
 
-unslashed : (c : Then-not-begins) → begins (47 ∷ []) (place_text (watch c.before.before.before.before).place) ≡ false
+unslashed : (c : Then-not-begins) → begins (47 ∷ []) (place_text (watch_of c.args.watches.now c.args.k).place) ≡ false
 unslashed c =
     told (begins (47 ∷ [])) c.begins.ensures c.path-own.ensures c.if-not-begins.true
 
-slashed : (c : Else-not-begins) → begins (47 ∷ []) (place_text (watch c.before.before.before.before).place) ≡ true
+slashed : (c : Else-not-begins) → begins (47 ∷ []) (place_text (watch_of c.args.watches.now c.args.k).place) ≡ true
 slashed c =
     told (begins (47 ∷ [])) c.begins.ensures c.path-own.ensures c.if-not-begins.false
 
@@ -60,12 +57,12 @@ domain-d-requires c = used (goal.at.domain-d-requires c).After-path-own
 
 -- whether the record's path is above the watch's own
 above : (c : After-is_below) (b : Bool) → c.is_below.result ≡ b
-    → is_below c.args.p.now (place_text (watch c.before.before.before.before.before.before.before).place) ≡ b
+    → is_below c.args.p.now (place_text (watch_of c.args.watches.now c.args.k).place) ≡ b
 above c b e = told (is_below c.args.p.now) c.is_below.ensures c.path-own.ensures e
 
 pub cut-requires : goal.cut-requires
 cut-requires c =
-    nearer-room (watch (goal.at.cut-requires c).After-path-own) (good (goal.at.cut-requires c).After-path-own) c.relative-r.ensures c.domain-d.ensures c.path-own.ensures
+    nearer-room (watch_of c.args.watches.now c.args.k) (good (goal.at.cut-requires c).After-path-own) c.relative-r.ensures c.domain-d.ensures c.path-own.ensures
 
 pub returns-then-is_below : goal.returns-then-is_below
 returns-then-is_below c =
@@ -75,7 +72,7 @@ returns-then-is_below c =
 
 pub cut-requires-2 : goal.cut-requires-2
 cut-requires-2 c =
-    further_room (watch (goal.at.cut-requires-2 c).After-path-own) (good (goal.at.cut-requires-2 c).After-path-own) c.relative-r.ensures c.domain-d.ensures _ c.requires.1
+    further_room (watch_of c.args.watches.now c.args.k) (good (goal.at.cut-requires-2 c).After-path-own) c.relative-r.ensures c.domain-d.ensures _ c.requires.1
     (above (goal.at.cut-requires-2 c).After-is_below false c.if-is_below.false)
 
 pub returns : goal.returns

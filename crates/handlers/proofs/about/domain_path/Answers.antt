@@ -21,10 +21,10 @@ overflow_add-result c =
 pub shape_of-reply : goal.shape_of-reply
 shape_of-reply c =
     let put = c.put_decimal-at in
-    length-set put.new.0 _ _ ∙ (put.auto.0 ∙ c.copy.auto.into)
+    length-set put.new.into _ _ ∙ (put.auto.into ∙ c.copy.auto.into)
 
 pub returns : goal.returns
 unfolding front text
 returns c =
     base-told c.args.domain _ _ _ _ c.requires c.copy.ensures c.put_decimal-at.ensures
-    (bounds-reply-at c)
+    (omega (arith, length-decimal_le c.args.domain))

@@ -14,7 +14,7 @@ copy-requires c =
 pub remove_all-requires : goal.remove_all-requires
 remove_all-requires c =
     let found = c.owned-n in
-    (sound_canonical c.args.nodes.now c.requires.0.sound, omega (arith, found.ensures.few, found.auto.1.1.0))
+    (sound_canonical c.args.nodes.now c.requires.0.sound, omega (arith, found.ensures.few, found.auto.out))
 
 pub removals-count-requires : goal.removals-count-requires
 removals-count-requires c =
@@ -22,7 +22,7 @@ removals-count-requires c =
     let kept = c.copy.ensures in
     let pre = c.requires in
     let before = kept ∙ paste-whole _ _ (sound_canonical c.args.nodes.now pre.0.sound).whole in
-    removals_ready _ _ _ _ _ pre.0 _ pre.1 _ found.auto.1.1.0 _ found.ensures _ c.remove_all.ensures _ _ _ _
+    removals_ready _ _ _ _ _ pre.0 _ pre.1 _ found.auto.out _ found.ensures _ c.remove_all.ensures _ _ _ _
     c.forget.ensures _ before
 
 pub of_domain-requires : goal.of_domain-requires
@@ -31,7 +31,7 @@ of_domain-requires c =
     let kept = c.copy.ensures in
     let pre = c.requires in
     let before = kept ∙ paste-whole _ _ (sound_canonical c.args.nodes.now pre.0.sound).whole in
-    let r = domain_ready _ _ _ _ _ pre.0 _ pre.1 _ found.auto.1.1.0 _ found.ensures _ c.remove_all.ensures _ _ _ _
+    let r = domain_ready _ _ _ _ _ pre.0 _ pre.1 _ found.auto.out _ found.ensures _ c.remove_all.ensures _ _ _ _
     c.forget.ensures _ before _ _ c.removals-count.ensures in
     (pre.2, r.0, r.1)
 
@@ -41,6 +41,6 @@ returns c =
     let kept = c.copy.ensures in
     let pre = c.requires in
     let before = kept ∙ paste-whole _ _ (sound_canonical c.args.nodes.now pre.0.sound).whole in
-    let any = any_mine _ _ _ _ _ pre.0 _ pre.1 _ found.auto.1.1.0 _ found.ensures in
-    released _ _ _ _ _ pre.0 _ pre.1 _ found.auto.1.1.0 _ found.ensures _ c.remove_all.ensures _ _ _ _
+    let any = any_mine _ _ _ _ _ pre.0 _ pre.1 _ found.auto.out _ found.ensures in
+    released _ _ _ _ _ pre.0 _ pre.1 _ found.auto.out _ found.ensures _ c.remove_all.ensures _ _ _ _
     c.forget.ensures _ before _ _ c.removals-count.ensures any _ _ c.of_domain.ensures

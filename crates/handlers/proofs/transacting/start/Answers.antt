@@ -32,7 +32,7 @@ returns c =
     let below = c.if-k-ge-TRANSACTIONS.false in
     λ w l events. done_so w _ _ _ events _ _ _ _ _
     (start-done w _ _ l.transactions (three_transactions _) _ c.lowest_free-k.ensures below) c.with_events-2.ensures
-    (id_told _ _ _ _ pre.4 c.put_decimal-end.ensures (bounds-reply-end (goal.at.returns c).After-slice_known-6-1))
+    (id_told _ _ _ _ pre.4 c.put_decimal-end.ensures (omega (arith, length-decimal_le (c.lowest_free-k.result + 1))))
     (same_tables_lem refl (copied w _ _ _ _ pre.1 pre.0 l.nodes l.copies below
     c.copy.ensures)
     refl c.«open».ensures refl)

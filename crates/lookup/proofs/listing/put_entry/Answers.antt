@@ -14,7 +14,7 @@ bounds-into-to c =
     let args = c.args in
     let l = c.letter in
     let d = c.put_decimal-to in
-    (entry_next args.into.now args.at args.access args.domain l.result l.ensures c.requires.1 c.requires.2 d.new.0 d.result
+    (entry_next args.into.now args.at args.access args.domain l.result l.ensures c.requires.1 c.requires.2 d.new.into d.result
     d.ensures).1
 
 pub overflow_add-result : goal.overflow_add-result
@@ -25,7 +25,7 @@ overflow_add-result c =
     omega (
       arith,
       entry_next args.into.now args.at args.access args.domain l.result l.ensures c.requires.1 c.requires.2
-          d.new.0 d.result d.ensures,
+          d.new.into d.result d.ensures,
     )
 
 pub shape_of-into : goal.shape_of-into
@@ -33,13 +33,13 @@ shape_of-into c =
     let args = c.args in
     let l = c.letter in
     let d = c.put_decimal-to in
-    length-set d.new.0 d.result 0 ∙ entry-room args.into.now args.at args.access args.domain l.result l.ensures
-    c.requires.1 c.requires.2 d.new.0 d.result d.ensures
+    length-set d.new.into d.result 0 ∙ entry-room args.into.now args.at args.access args.domain l.result l.ensures
+    c.requires.1 c.requires.2 d.new.into d.result d.ensures
 
 pub returns : goal.returns
 returns c =
     let args = c.args in
     let l = c.letter in
     let d = c.put_decimal-to in
-    entry_put args.into.now args.at args.access args.domain l.result l.ensures c.requires.1 c.requires.2 d.new.0 d.result
+    entry_put args.into.now args.at args.access args.domain l.result l.ensures c.requires.1 c.requires.2 d.new.into d.result
     d.ensures

@@ -19,4 +19,4 @@ unfolding owned_by
 returns c =
     let args = c.args in
     let v = c.visit in
-    owned_done args.t.now c.requires.0 args.domain c.requires.1 args.out.now _ _ (v.auto.1.1.1.1.0 ∙ c.requires.2) v.ensures
+    owned_done args.t.now c.requires.0 args.domain c.requires.1 args.out.now _ _ (v.auto.out ∙ c.requires.2) v.ensures

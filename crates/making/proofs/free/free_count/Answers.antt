@@ -1,5 +1,4 @@
 -- What is counted so far and the free slots from there on make the whole count.
-use mathlib.Core.Logic.{⊎_elim}
 use mathlib.Core.Path.{sym, ◌∙◌, ◌≡◌}
 use Prim.Native.Nat.{◌<◌, ◌+◌, ◌-◌, ◌≤◌}
 use native.Mathlib.Omega.{arith}
@@ -12,6 +11,7 @@ use Rattle.rules.specs.Layout.{table_of}
 use Rattle.rules.specs.Size.{slots}
 use Rattle.making.proofs.FreeSlots.{count_here, count_further, count_over}
 use Rattle.making.proofs.free.free_count.Goals as goal
+use Rattle.making.proofs.free.free_count.Goals.{then-not-used, else-not-used}
 
 pub loop-i-preserved : goal.loop-i-preserved
 loop-i-preserved c =
@@ -20,10 +20,10 @@ loop-i-preserved c =
     let ts = table_of s in
     let h : i < length ts = omega (arith, length-table_of s) in
     let used = c.used.ensures in
-    ⊎_elim
-    (λ w. omega (arith, count_here ts i h (sym used ∙ not-true _ w.0.taken)))
-    (λ w. omega (arith, count_further ts i h (sym used ∙ not-false _ w.0.left)))
-    c.if-not-used.branch
+    elim c.if-not-used.branch [
+      | then-not-used w ↦ omega (arith, count_here ts i h (sym used ∙ w.if-not-used.true))
+      | else-not-used w ↦ omega (arith, count_further ts i h (sym used ∙ w.if-not-used.false))
+    ]
 
 pub returns : goal.returns
 returns c =

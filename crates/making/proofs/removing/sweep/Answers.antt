@@ -1,5 +1,4 @@
 -- The marked slots before the one in turn are freed, the others as they were.
-use mathlib.Core.Logic.{⊎_elim}
 use mathlib.Core.Path.{ap, ◌∙◌, ◌≡◌, refl}
 use Prim.Native.Nat.{◌<◌, ◌-◌, ◌≤◌}
 use native.Mathlib.Omega.{arith}
@@ -10,6 +9,7 @@ use Rattle.rules.specs.Size.{slots}
 use Rattle.making.specs.Marks.{swept}
 use Rattle.making.proofs.SweptLaws.{swept_canonical, swept_none, swept_here, swept_further, swept_all}
 use Rattle.making.proofs.removing.sweep.Goals as goal
+use Rattle.making.proofs.removing.sweep.Goals.{then-marks-j, else-marks-j}
 
 pub loop-j-init : goal.loop-j-init
 loop-j-init c = let args = c.args in (omega arith, refl, swept_none args.marks.now args.t.now c.requires.0)
@@ -25,10 +25,11 @@ loop-j-preserved c =
     let j = c.loop-j.j in
     let inv = c.loop-j.invariant in
     let h : j < length marks = omega arith in
-    ⊎_elim
-    (λ w. (omega arith, ap length w.5 ∙ (w.2.kept.0 ∙ inv.1), w.5 ∙ swept_here marks s j h w.0.taken inv.2 w.2.ensures))
-    (λ w. (omega arith, ap length w.1 ∙ inv.1, w.1 ∙ swept_further marks s j h w.0.left inv.2))
-    c.if-marks-j.branch
+    let long = c.if-marks-j.auto.t ∙ inv.1 in
+    elim c.if-marks-j.branch [
+      | then-marks-j w ↦ (omega arith, long, w.t-is ∙ swept_here marks s j h w.if-marks-j.true inv.2 w.clear_slot.ensures)
+      | else-marks-j w ↦ (omega arith, long, w.t-is ∙ swept_further marks s j h w.if-marks-j.false inv.2)
+    ]
 
 pub shape_of-t : goal.shape_of-t
 shape_of-t c = c.loop-j.invariant.1

@@ -31,10 +31,12 @@ pub make-requires : goal.make-requires
 make-requires c =
     let left = c.names_left-left.ensures in
     let room = c.has_room.ensures c.args.domain (left_at c.args.path.now c.args.at) left in
-    let m = roomy c.args.domain _ _ _ _ (sym room ∙ c.if-not-has_room.false) in (
-      (c.requires.1.below, sound_canonical _ c.requires.0.standing.sound, c.requires.1.used),
-      (left-short _ _ _ _ c.requires.1 m.1, (m.2, (m.0, c.requires.0.domain))),
-    )
+    let m = roomy c.args.domain _ _ _ _ (sym room ∙ c.if-not-has_room.false) in record {
+      used = (c.requires.1.below, sound_canonical _ c.requires.0.standing.sound, c.requires.1.used);
+      short = left-short _ _ _ _ c.requires.1 m.1;
+      room = m.2;
+      sizes = (m.0, c.requires.0.domain);
+    }
 
 pub overflow_sub-parents : goal.overflow_sub-parents
 overflow_sub-parents c =

@@ -16,4 +16,4 @@ unfolding on_root
 returns-in-SetPerms c s = c.is_control.ensures ∙ sym (ap (λ (a : Ask). on_root (ask_meant s a)) c.in-SetPerms.is)
 
 pub returns-in_default : goal.returns-in_default
-returns-in_default c s = sym (open_else s c.args.ask c.in_default.in_default-own.keys3)
+returns-in_default c s = sym (open_else s c.args.ask c.in_default.not-Rm c.in_default.not-SetPerms)

@@ -13,7 +13,7 @@ one : (c : In-One) → OneString c.args.s.now c.in-One.end
 one c = one_told _ _ (sym c.apart.ensures ∙ c.in-One.is)
 
 pub returns-in_default : goal.returns-in_default
-returns-in_default c = plain_other _ _ (λ e h. miss (1 ∷ 2 ∷ 3 ∷ []) 0 tt (rw (c.apart.ensures ∙ h) at c.in_default.in_default-own.keys2))
+returns-in_default c = plain_other _ _ (λ e h. c.in_default.not-One e (c.apart.ensures ∙ h))
 
 pub named-requires : goal.named-requires
 named-requires c = omega (arith, (one (goal.at.named-requires c).In-One).high)

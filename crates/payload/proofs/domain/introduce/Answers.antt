@@ -35,7 +35,7 @@ third : (c : After-small-2) (r : Small) → c.small-2.result ≡ r →
 third c r e = sym c.small-2.ensures ∙ ap small_meant e
 
 pub returns-in_default : goal.returns-in_default
-returns-in_default c = introduce_other _ (λ a b e h. miss (0 ∷ 1 ∷ 3 ∷ []) 2 tt (rw (c.apart.ensures ∙ h) at c.in_default.in_default-own.keys2))
+returns-in_default c = introduce_other _ (λ a b e h. c.in_default.not-Three a b e (c.apart.ensures ∙ h))
 
 pub slice_bounds-small-end : goal.slice_bounds-small-end
 slice_bounds-small-end c = sym (length-take-le _ _ (let t = three (goal.at.slice_bounds-small-end c).In-Three in omega arith))

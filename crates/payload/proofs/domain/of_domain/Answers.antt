@@ -27,7 +27,7 @@ read c r e =
     ∙ (sym c.small.ensures ∙ ap small_meant e)
 
 pub returns-in_default : goal.returns-in_default
-returns-in_default c = domain_other _ _ _ (λ e h. miss (1 ∷ 2 ∷ 3 ∷ []) 0 tt (rw (c.apart.ensures ∙ h) at c.in_default.in_default-own.keys2))
+returns-in_default c = domain_other _ _ _ (λ e h. c.in_default.not-One e (c.apart.ensures ∙ h))
 
 pub slice_bounds-small-end : goal.slice_bounds-small-end
 slice_bounds-small-end c = sym (length-take-le _ _ (omega (arith, (one (goal.at.slice_bounds-small-end c).In-One).high)))

@@ -19,7 +19,7 @@ found c =
 pub returns-in_default : goal.returns-in_default
 returns-in_default c =
     setting_other _ (nothing_told _ _ (λ start end next h.
-    miss (1 ∷ 2 ∷ []) 0 tt (rw (c.next.ensures ∙ (ap (taken_at _) c.new.ensures ∙ h)) at c.in_default.in_default-own.keys2)))
+    c.in_default.not-String start end next (c.next.ensures ∙ (ap (taken_at _) c.new.ensures ∙ h))))
 
 pub permissions-requires : goal.permissions-requires
 permissions-requires c = let t = string-told _ _ _ _ _ (found (goal.at.permissions-requires c).In-String) in omega arith

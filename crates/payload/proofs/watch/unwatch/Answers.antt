@@ -13,7 +13,7 @@ two : (c : In-Two) → TwoStrings c.args.s.now c.in-Two.a c.in-Two.b
 two c = two_told _ _ _ (sym c.apart.ensures ∙ c.in-Two.is)
 
 pub returns-in_default : goal.returns-in_default
-returns-in_default c = unwatch_other _ (λ a b h. miss (0 ∷ 2 ∷ 3 ∷ []) 1 tt (rw (c.apart.ensures ∙ h) at c.in_default.in_default-own.keys2))
+returns-in_default c = unwatch_other _ (λ a b h. c.in_default.not-Two a b (c.apart.ensures ∙ h))
 
 pub placed-requires : goal.placed-requires
 placed-requires c = let t = two (goal.at.placed-requires c).In-Two in omega arith

@@ -10,6 +10,7 @@ use Rattle.soundness.specs.Walks.{chained}
 use Rattle.soundness.proofs.TableLaws.{every_further, every_stop, every-ended, lost_chained, root-chained, root_level, root-count}
 use Rattle.soundness.proofs.TableLaws.{unused_chained, Levels, levels-set, levels-lent, none_levelled}
 use Rattle.soundness.proofs.chain.all_chained.Goals as goal
+use Rattle.soundness.proofs.chain.all_chained.Goals.{then-used+in-Root, else-used}
 
 pub loop-i-init : goal.loop-i-init
 loop-i-init c = (omega arith, refl, none_levelled _)
@@ -39,10 +40,14 @@ loop-i-preserved c =
       omega arith,
       loop.invariant.1
           ∙ every_further (chained t) slots i h
-          (⊎_elim (λ w. root-chained t i _ _ _ w.3.ensures _ _ w.6.given.1 (sym c.used.ensures ∙ w.0.taken))
-          (λ w. unused_chained t i (sym c.used.ensures ∙ w.0.left)) c.if-used.branch),
-      ⊎_elim (λ w. rw w.8 (levels-set t loop.known i _ h (root_level t i _ _ _ w.3.ensures _ _ w.6.given.1) loop.invariant.2))
-          (λ w. rw w.1 loop.invariant.2) c.if-used.branch,
+          (elim c.if-used.branch [
+            | then-used+in-Root w ↦ root-chained t i _ _ _ w.walk-way.ensures _ _ w.in-Root.is (sym c.used.ensures ∙ w.if-used.true)
+            | else-used w ↦ unused_chained t i (sym c.used.ensures ∙ w.if-used.false)
+          ]),
+      elim c.if-used.branch [
+        | then-used+in-Root w ↦ rw w.known-is (levels-set t loop.known i _ h (root_level t i _ _ _ w.walk-way.ensures _ _ w.in-Root.is) loop.invariant.2)
+        | else-used w ↦ rw w.known-is loop.invariant.2
+      ],
     )
 
 pub returns : goal.returns

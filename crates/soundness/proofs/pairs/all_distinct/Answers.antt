@@ -10,6 +10,7 @@ use native.Mathlib.Omega.{arith}
 use Rattle.soundness.proofs.PairLaws.{row_whole, Taken, taken_next, met_key, Keyed, Apart, Row, keyed_next, apart_next, row_differ, row_names}
 use Rattle.soundness.proofs.PairLaws.{row_new, all_apart, pair_found}
 use Rattle.soundness.proofs.pairs.all_distinct.Goals as goal
+use Rattle.soundness.proofs.pairs.all_distinct.Goals.{then-keys-j+else-same_names, else-keys-j, then-may_clash+else-loop-j-test, else-may_clash}
 
 pub pairs-init : goal.pairs-init
 pairs-init c = (
@@ -50,9 +51,11 @@ loop-j-preserved c =
     let t = c.args.t.now in (
       omega arith,
       loop.invariant.1,
-      ⊎_elim (λ w. row_names t c.pairs.i loop.j (sym w.1.ensures ∙ w.2.left) loop.invariant.2)
-          (λ w. row_differ t c.pairs.keys c.pairs.i loop.j c.key_of-key.result c.pairs.invariant.2
-          c.key_of-key.ensures c.loop-j-test.true w.left loop.invariant.2) c.if-keys-j.branch,
+      elim c.if-keys-j.branch [
+        | then-keys-j+else-same_names w ↦ row_names t c.pairs.i loop.j (sym w.same_names.ensures ∙ w.if-same_names.false) loop.invariant.2
+        | else-keys-j w ↦ row_differ t c.pairs.keys c.pairs.i loop.j c.key_of-key.result c.pairs.invariant.2
+            c.key_of-key.ensures c.loop-j-test.true w.if-keys-j.false loop.invariant.2
+      ],
     )
 
 pub bounds-taken-place : goal.bounds-taken-place
@@ -62,15 +65,18 @@ pub pairs-preserved : goal.pairs-preserved
 pairs-preserved c =
     let t = c.args.t.now in (
       omega arith,
-      ⊎_elim (λ w. w.3 ∙ w.1.inv.1) (λ w. w.1 ∙ c.pairs.invariant.1) c.if-may_clash.branch,
+      elim c.if-may_clash.branch [
+        | then-may_clash+else-loop-j-test w ↦ w.apart-is ∙ w.loop-j.invariant.1
+        | else-may_clash w ↦ w.apart-is ∙ c.pairs.invariant.1
+      ],
       keyed_next t c.pairs.keys c.pairs.i c.key_of-key.result c.pairs-test.true c.key_of-key.ensures
           c.pairs.invariant.2,
-      apart_next t c.pairs.i c.pairs.invariant.3 (⊎_elim
-          (λ w. row_whole t c.pairs.i w.1.j w.1.inv.0 w.2.left w.1.inv.2)
-          (λ w. row_new t c.pairs.taken c.pairs.keys c.pairs.i c.key_of-key.result c.place_of-place.result
-          c.pairs-test.true
-          c.pairs.invariant.2 c.pairs.invariant.4 c.key_of-key.ensures c.place_of-place.ensures.0
-          (sym c.may_clash.ensures ∙ w.0.left)) c.if-may_clash.branch),
+      apart_next t c.pairs.i c.pairs.invariant.3 (elim c.if-may_clash.branch [
+        | then-may_clash+else-loop-j-test w ↦ row_whole t c.pairs.i w.loop-j.j w.loop-j.invariant.0 w.loop-j-test.false w.loop-j.invariant.2
+        | else-may_clash w ↦ row_new t c.pairs.taken c.pairs.keys c.pairs.i c.key_of-key.result c.place_of-place.result
+            c.pairs-test.true c.pairs.invariant.2 c.pairs.invariant.4 c.key_of-key.ensures c.place_of-place.ensures.0
+            (sym c.may_clash.ensures ∙ w.if-may_clash.false)
+      ]),
       taken_next t c.pairs.taken c.pairs.i c.key_of-key.result c.place_of-place.result c.key_of-key.ensures
           c.place_of-place.ensures.0 c.place_of-place.ensures.1 c.pairs.invariant.4,
     )

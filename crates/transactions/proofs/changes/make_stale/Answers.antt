@@ -17,9 +17,9 @@ bounds-s-at-then-is_open c = let w = c.requires.1.whole in omega arith
 pub returns-then-is_open : goal.returns-then-is_open
 returns-then-is_open c =
     let args = c.args in
-    put_stale args.s.now c.requires.1 args.k c.requires.0 (sym c.is_open_lem.ensures ∙ c.if-is_open.true)
+    put_stale args.s.now c.requires.1 args.k c.requires.0 (sym c.is_open.ensures ∙ c.if-is_open.true)
 
 pub returns-else-is_open : goal.returns-else-is_open
 returns-else-is_open c =
     let args = c.args in
-    left-stale args.s.now c.requires.1 args.k c.requires.0 (sym c.is_open_lem.ensures ∙ c.if-is_open.false)
+    left-stale args.s.now c.requires.1 args.k c.requires.0 (sym c.is_open.ensures ∙ c.if-is_open.false)

@@ -1,7 +1,7 @@
 -- The last four bits of the first byte say how many.
 use native.Mathlib.Omega.{arith}
 use borrow.Author.Rules.{rules}
-use Rattle.transactions.proofs.Laws.{changes-read, open-fits}
+use Rattle.transactions.proofs.Laws.{changes-read, open_fits}
 use Rattle.transactions.proofs.places.changes.Goals as goal
 
 pub overflow_mul-result : goal.overflow_mul-result
@@ -16,4 +16,4 @@ returns c =
     let k = c.args.k in
     let pre = c.requires in
     let e = changes-read s k pre.below pre.kept pre.used in
-    (e, rw e (open-fits s k pre.below pre.used).few)
+    (e, rw e (open_fits s k pre.below pre.used).few)

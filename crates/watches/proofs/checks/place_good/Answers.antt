@@ -11,79 +11,39 @@ use Rattle.octets.specs.Two.{Bytes}
 use Rattle.octets.proofs.Bytes.{bytes-known}
 use Rattle.watches.specs.Watch.{watch_of, TakenWatch}
 use Rattle.watches.proofs.Good.{good_free, good-unknown, good-nul, good_misplaced, good_placed, read_same, place_agree}
-use Rattle.domains.proofs.places.known_sender.Reads as known-sender-reads
-use Rattle.watches.proofs.checks.good_place.Reads as good-place-reads
-use Rattle.watches.proofs.checks.no_nul_lem.Reads as no-nul-reads
-use Rattle.watches.proofs.places.depth.Reads as depth-reads
-use Rattle.watches.proofs.places.owner.Reads as owner-reads
-use Rattle.watches.proofs.places.path.Reads as path-reads
-use Rattle.watches.proofs.places.relative.Reads as relative-reads
-use Rattle.watches.proofs.places.token.Reads as token-reads
-use Rattle.watches.proofs.places.used.Reads as used-reads
-use Rattle.watches.proofs.places.watched_from.Reads as watched-from-reads
-use Rattle.watches.proofs.checks.place_good.Reads as reads
-use Rattle.watches.proofs.checks.place_good.Lts as lts
 use Rattle.watches.proofs.checks.place_good.Goals as goal
-
--- what its calls are known by
-abbrev calls : lts.Claims
-calls = (
-  used-reads.Asked,
-  used-reads.Learnt,
-  owner-reads.Asked,
-  owner-reads.Learnt,
-  known-sender-reads.Asked,
-  known-sender-reads.Learnt,
-  token-reads.Asked,
-  token-reads.Learnt,
-  no-nul-reads.Asked,
-  no-nul-reads.Learnt,
-  path-reads.Asked,
-  path-reads.Learnt,
-  depth-reads.Asked,
-  depth-reads.Learnt,
-  relative-reads.Asked,
-  relative-reads.Learnt,
-  good-place-reads.Asked,
-  good-place-reads.Learnt,
-  watched-from-reads.Asked,
-  watched-from-reads.Learnt,
-)
+use Rattle.watches.proofs.checks.place_good.Goals.{After-good_place, After-known_sender, After-no_nul, Else-not-used}
 
 -- ── what is known behind each test ──
-bytes : (c : lts.Else1 calls reads.Pre reads.Post) → Bytes c.before.before.before.before.args.s.now
-bytes c = bytes-known c.before.before.before.before.args.s.now c.before.before.before.shared-slice-known.given
+bytes : (c : Else-not-used) → Bytes c.args.s.now
+bytes c = bytes-known c.args.s.now c.type_inv.s
 
-a-watch : (c : lts.Else1 calls reads.Pre reads.Post) → let args = c.before.before.before.before.args in TakenWatch args.s.now args.k
+a-watch : (c : Else-not-used) → let args = c.args in TakenWatch args.s.now args.k
 a-watch c =
-    let pre = c.before.before.before.before.requires in
-    record { below = pre.0; kept = pre.1; used = sym c.before.used.ensures ∙ not-false _ c.if1.false }
+    let pre = c.requires in
+    record { below = pre.0; kept = pre.1; used = sym c.used.ensures ∙ c.if-not-used.false }
 
-owner-known : (c : lts.After-known-sender calls reads.Pre reads.Post) →
-    let args = c.before.before.before.before.before.before.args in
-    known (domain_of (watch_of args.s.now args.k).owner) (domains_of args.domains.now) ≡ c.known-sender.result
+owner-known : (c : After-known_sender) →
+    let args = c.args in
+    known (domain_of (watch_of args.s.now args.k).owner) (domains_of args.domains.now) ≡ c.known_sender.result
 owner-known c =
-    let ds = domains_of c.before.before.before.before.before.before.args.domains.now in
-    sym (c.known-sender.ensures ∙ ap (λ (o : Connection). known (domain_of o) ds) c.before.owner.ensures)
+    let ds = domains_of c.args.domains.now in
+    sym (c.known_sender.ensures ∙ ap (λ (o : Connection). known (domain_of o) ds) c.owner-c.ensures)
 
-token-clean : (c : lts.After-no-nul calls reads.Pre reads.Post) →
-    let args = c.before.before.before.before.before.before.before.before.before.args in
-    no_nul (watch_of args.s.now args.k).token ≡ c.no_nul_lem.result
-token-clean c = sym (c.no_nul_lem.ensures ∙ ap no_nul c.before.token.ensures)
+token-clean : (c : After-no_nul) →
+    let args = c.args in
+    no_nul (watch_of args.s.now args.k).token ≡ c.no_nul.result
+token-clean c = sym (c.no_nul.ensures ∙ ap no_nul c.token-t.ensures)
 
-place-good : (c : lts.After-good-place calls reads.Pre reads.Post) →
-    let args = c.before.before.before.before.before.before.before.before.before.before.before.before.before.before.args in
-    let w = watch_of args.s.now args.k in good_place w.owner w.depth w.place ≡ c.good-place.result
+place-good : (c : After-good_place) →
+    let args = c.args in
+    let w = watch_of args.s.now args.k in good_place w.owner w.depth w.place ≡ c.good_place.result
 place-good c =
-    let at-depth = c.before.before in
-    let at_path = at-depth.before in
-    let at-owner = at_path.before.before.before.before.before.before in
-    let at-watch = at-owner.before in
-    let w = a-watch at-watch in
-    let own = at-owner.owner.ensures in
-    place_agree at-depth.depth.result _ _ w.below (bytes at-watch) w.kept w.used own at-depth.depth.ensures c.before.relative.ensures
-    at_path.path.ensures
-    ∙ sym c.good-place.ensures
+    let w : TakenWatch c.args.s.now c.args.k = record { below = c.requires.0; kept = c.requires.1; used = sym c.used.ensures ∙ c.if-not-used.false } in
+    let own = c.owner-c.ensures in
+    place_agree c.depth.result _ _ w.below (bytes-known c.args.s.now c.type_inv.s) w.kept w.used own c.depth.ensures c.relative.ensures
+    c.path-p.ensures
+    ∙ sym c.good_place.ensures
 
 -- ── the tests ──
 pub returns-then-not-used : goal.returns-then-not-used

@@ -14,54 +14,25 @@ use Rattle.domains.specs.Kept.{kept_at}
 use Rattle.domains.proofs.Tests.{and_first, and_rest}
 use Rattle.watches.specs.Watch.{path_length, token_length}
 use Rattle.watches.proofs.Kept.{fields_few, free_same, kept-long, kept_unplaced, kept_fields, kept_rests}
-use Rattle.octets.proofs.compare.all_zero.Reads as all-zero-reads
-use Rattle.octets.proofs.compare.rest_zero.Reads as rest-zero-reads
-use Rattle.watches.proofs.checks.fields_same.Reads as fields-same-reads
-use Rattle.watches.proofs.checks.place_same.Reads as place-same-reads
-use Rattle.watches.proofs.places.path_length.Reads as path-length-reads
-use Rattle.watches.proofs.places.token_length.Reads as token-length-reads
-use Rattle.watches.proofs.checks.place_kept.Reads as reads
-use Rattle.watches.proofs.checks.place_kept.Lts as lts
 use Rattle.watches.proofs.checks.place_kept.Goals as goal
+use Rattle.watches.proofs.checks.place_kept.Goals.{Else-not-fields_same, Else-s-at-lt128}
 
--- what its calls are known by
-abbrev calls : lts.Claims
-calls = (
-  all-zero-reads.Asked,
-  all-zero-reads.Learnt,
-  path-length-reads.Asked,
-  path-length-reads.Learnt,
-  place-same-reads.Asked,
-  place-same-reads.Learnt,
-  fields-same-reads.Asked,
-  fields-same-reads.Learnt,
-  rest-zero-reads.Asked,
-  rest-zero-reads.Learnt,
-  token-length-reads.Asked,
-  token-length-reads.Learnt,
-)
-
-bytes : (c : lts.Else1 calls reads.Pre reads.Post) → Bytes c.before.before.before.args.s.now
-bytes c = bytes-known c.before.before.before.args.s.now c.before.before.shared-slice-known.given
+bytes : (c : Else-s-at-lt128) → Bytes c.args.s.now
+bytes c = bytes-known c.args.s.now c.type_inv.s
 
 -- where path and fields have passed, the rests decide
-rests-decide : (c : lts.Else4 calls reads.Pre reads.Post) →
-    let args = c.before.before.before.before.before.before.before.before.before.before.before.args in
+rests-decide : (c : Else-not-fields_same) →
+    let args = c.args in
     let s = args.s.now in
     let at = args.k * watch_size in
     kept_at most_watches watch_size watch_bytes watch_in s args.k
     ≡ (rest_zero s (at + watch_fields_size) (path_length s args.k) longest_path && rest_zero s (at + token_at) (token_length s args.k) longest_token)
 rests-decide c =
-    let if-place = c.before.before in
-    let at_place = if-place.before in
-    let if-long = at_place.before.before.before in
-    let at_length = if-long.before in
-    let if-used = at_length.before in
-    let pre = if-used.before.before.before.requires in
-    let n = at_length.path-length.ensures in
-    let place = sym at_place.place_same.ensures ∙ not-false _ if-place.if3.false in
-    let fields = sym c.before.fields-same.ensures ∙ not-false _ c.if4.false in
-    kept_rests _ _ pre.0 (bytes if-used) pre.1 if-used.if1.false (rw (← n) if-long.if2.false) (rw n at place) fields
+    let pre = c.requires in
+    let n = c.path_length-n.ensures in
+    let place = sym c.place_same.ensures ∙ c.if-not-place_same.false in
+    let fields = sym c.fields_same.ensures ∙ c.if-not-fields_same.false in
+    kept_rests _ _ pre.0 (bytes-known c.args.s.now c.type_inv.s) pre.1 c.if-s-at-lt128.false (rw (← n) c.if-n-gt-LONGEST_PATH.false) (rw n at place) fields
 
 pub returns-then-s-at-lt128 : goal.returns-then-s-at-lt128
 returns-then-s-at-lt128 c =

@@ -1,0 +1,154 @@
+-- A slot's way to the root is its parent's and one step more, and its text the parent's with a slash and its name behind it.
+use mathlib.Core.Path.{◌≡◌, sym, ap, ◌∙◌}
+use native.Mathlib.Nat.{pos_of_ne-zero}
+use native.Mathlib.Omega.{arith}
+use borrow.Author.Rules.{rules}
+use borrow.Author.Tests.{not-true, not-false}
+use lib.ListN.{length, length-set}
+use Rattle.rules.specs.Size.{longest_name, longest_path, deepest}
+use Rattle.soundness.proofs.WalkLaws.{walked_root, walked_none, walked_unused, walked_far, walked_near, walked_lost, walked_count, walked_bare}
+use Rattle.soundness.proofs.WalkLaws.{walked_place, walked_up, name-short, Step}
+use Prim.Native.Nat.{ℕ, ◌+◌, ◌≤◌, ◌<◌}
+use Rattle.soundness.proofs.chain.+walk_walk_up.Goals as goal
+use Rattle.soundness.proofs.chain.+walk_walk_up.Goals.{walk-After-parent, walk_up-After-parent, walk_up-In-Root, walk_up-Else-into-eq0}
+
+pub walk-returns-then-i-eq0 : goal.walk-returns-then-i-eq0
+walk-returns-then-i-eq0 t c = walked_root _ _ c.args.steps c.args.i c.if-i-eq0.true
+
+pub walk-returns-then-steps-eq0 : goal.walk-returns-then-steps-eq0
+walk-returns-then-steps-eq0 t c =
+    let args = c.args in
+    walked_none _ _ args.steps args.i c.if-i-eq0.false c.if-steps-eq0.true
+
+pub walk-used-requires : goal.walk-used-requires
+walk-used-requires t c =
+    (c.requires.0, c.requires.2.table.whole)
+
+pub walk-returns-then-not-used : goal.walk-returns-then-not-used
+walk-returns-then-not-used t c =
+    let args = c.args in
+    walked_unused _ _ args.steps args.i c.if-i-eq0.false (sym c.used.ensures ∙ c.if-not-used.true)
+
+pub walk-parent-requires : goal.walk-parent-requires
+walk-parent-requires t c =
+    (c.requires.0, c.requires.2.table.whole, sym c.used.ensures ∙ c.if-not-used.false)
+
+pub walk-bounds-known-parent : goal.walk-bounds-known-parent
+walk-bounds-known-parent t c = c.parent.ensures.0
+
+walk_step : {t : ℕ} (c : walk-After-parent t) → Step c.args.t.now c.args.steps c.args.i c.parent.result
+walk_step c =
+    record {
+      below = pos_of_ne-zero c.if-i-eq0.false;
+      left = pos_of_ne-zero c.if-steps-eq0.false;
+      used = sym c.used.ensures ∙ c.if-not-used.false;
+      parent = c.parent.ensures.1;
+    }
+
+pub walk-walk_up-requires : goal.walk-walk_up-requires
+walk-walk_up-requires t c =
+    let s = walk_step (goal.at.walk-walk_up-requires t c).After-parent in
+    (omega (arith, c.decreases), (s.below, c.requires.0, s.used, s.left, c.requires.1, c.requires.2))
+
+pub walk-shape_of-into-then-above-eq0 : goal.walk-shape_of-into-then-above-eq0
+walk-shape_of-into-then-above-eq0 t c = c.walk_up.auto.into
+
+pub walk-returns-then-above-eq0 : goal.walk-returns-then-above-eq0
+walk-returns-then-above-eq0 t c = c.walk_up.ensures
+
+pub walk-returns-then-steps-above : goal.walk-returns-then-steps-above
+walk-returns-then-steps-above t c =
+    walked_far _ _ c.args.steps c.args.i _ (walk_step (goal.at.walk-returns-then-steps-above t c).After-parent) c.requires.1 _ c.requires.2
+    c.if-above-eq0.false (omega (arith, c.requires.1, c.if-steps-above.true))
+
+pub walk-returns : goal.walk-returns
+walk-returns t c =
+    walked_near _ _ c.args.steps c.args.i _ (walk_step (goal.at.walk-returns t c).After-parent) c.requires.1 _ c.requires.2
+    c.if-above-eq0.false (omega (arith, c.if-steps-above.false))
+
+pub walk_up-walk-up-requires : goal.walk_up-walk-up-requires
+walk_up-walk-up-requires t c =
+    (omega (arith, c.decreases, c.requires.3), (c.parent.ensures.0, omega (arith, c.requires.4), c.requires.5))
+
+walk-up-step : {t : ℕ} (c : walk_up-After-parent t) → Step c.args.t.now c.args.steps c.args.i c.parent.result
+walk-up-step c =
+    let p = c.requires in
+    record { below = p.0; left = p.3; used = p.2; parent = c.parent.ensures.1 }
+
+pub walk_up-returns-in_default : goal.walk_up-returns-in_default
+walk_up-returns-in_default t c =
+    let args = c.args in
+    walked_lost _ _ args.steps args.i _ (walk-up-step (goal.at.walk_up-returns-in_default t c).After-parent) _ _ c.walk-up.ensures c.in_default.is
+
+walk-up-count : {t : ℕ} (c : walk_up-In-Root t) → c.in-Root.n < deepest
+walk-up-count c =
+    let p = c.requires in
+    omega (
+      arith,
+      p.4,
+      walked_count _ _ c.args.steps c.args.i _ (record { below = p.0; left = p.3; used = p.2; parent = c.parent.ensures.1 }) _ _ c.walk-up.ensures _ _ c.in-Root.is,
+    )
+
+pub walk_up-overflow_add-result : goal.walk_up-overflow_add-result
+walk_up-overflow_add-result t c = record { fits = omega (arith, walk-up-count (goal.at.walk_up-overflow_add-result t c).In-Root) }
+
+pub walk_up-returns-then-into-eq0 : goal.walk_up-returns-then-into-eq0
+walk_up-returns-then-into-eq0 t c =
+    let args = c.args in
+    walked_bare _ _ args.steps args.i _ (walk-up-step (goal.at.walk_up-returns-then-into-eq0 t c).After-parent) _ _ c.walk-up.ensures _ _ c.in-Root.is
+    (sym c.walk-up.auto.into ∙ c.if-into-eq0.true)
+
+walk-up-filled : {t : ℕ} (c : walk_up-Else-into-eq0 t) → length c.args.into.now ≡ 0 → ⊥
+walk-up-filled c z = c.if-into-eq0.false (c.walk-up.auto.into ∙ z)
+
+walk-up-room : {t : ℕ} (c : walk_up-Else-into-eq0 t)
+    → (c.in-Root.at + 1 + longest_name ≤ longest_path)
+    × (longest_path ≤ length c.walk-up.new.into)
+walk-up-room c =
+    let p = c.requires in
+    let n = walk-up-filled c in (
+      walked_place _ _ c.args.steps c.args.i _ (record { below = p.0; left = p.3; used = p.2; parent = c.parent.ensures.1 }) _ _ c.walk-up.ensures _ _ c.in-Root.is n
+          p.4,
+      omega (arith, c.walk-up.auto.into, p.5.room n),
+    )
+
+pub walk_up-name-s-requires : goal.walk_up-name-s-requires
+walk_up-name-s-requires t c =
+    let p = c.requires in
+    (p.1, p.5.table.whole, p.2, p.5.table.short _ p.1 p.2)
+
+pub walk_up-bounds-into-at : goal.walk_up-bounds-into-at
+walk_up-bounds-into-at t c = omega (arith, walk-up-room (goal.at.walk_up-bounds-into-at t c).Else-into-eq0)
+
+pub walk_up-overflow_add-at : goal.walk_up-overflow_add-at
+walk_up-overflow_add-at t c = record { fits = omega (arith, (walk-up-room (goal.at.walk_up-overflow_add-at t c).Else-into-eq0).0) }
+
+pub walk_up-copy-requires : goal.walk_up-copy-requires
+walk_up-copy-requires t c =
+    let args = c.args in
+    rw length-set (omega (arith, walk-up-room (goal.at.walk_up-copy-requires t c).Else-into-eq0, ap length c.name-s.ensures, name-short args.t.now args.i))
+
+pub walk_up-overflow_add-result-2 : goal.walk_up-overflow_add-result-2
+walk_up-overflow_add-result-2 t c = record { fits = omega (arith, walk-up-count (goal.at.walk_up-overflow_add-result-2 t c).In-Root) }
+
+pub walk_up-overflow_add-result-3 : goal.walk_up-overflow_add-result-3
+walk_up-overflow_add-result-3 t c = record { fits = omega (arith, (walk-up-room (goal.at.walk_up-overflow_add-result-3 t c).Else-into-eq0).0) }
+
+pub walk_up-overflow_add-result-4 : goal.walk_up-overflow_add-result-4
+walk_up-overflow_add-result-4 t c =
+    let args = c.args in
+    record {
+      fits = omega (arith, (walk-up-room (goal.at.walk_up-overflow_add-result-4 t c).Else-into-eq0).0, ap length c.name-s.ensures, name-short args.t.now args.i);
+    }
+
+pub walk_up-shape_of-into : goal.walk_up-shape_of-into
+walk_up-shape_of-into t c =
+    let e : length c.copy.new.into ≡ length c.walk-up.new.into = c.copy.auto.into ∙ simp length-set in
+    e ∙ c.walk-up.auto.into
+
+pub walk_up-returns : goal.walk_up-returns
+walk_up-returns t c =
+    let args = c.args in
+    let len = c.walk-up.auto.into in
+    walked_up _ _ args.steps args.i _ (walk-up-step (goal.at.walk_up-returns t c).After-parent) _ _ c.walk-up.ensures _ _ c.in-Root.is
+    (walk-up-filled (goal.at.walk_up-returns t c).Else-into-eq0) len (omega (arith, walk-up-room (goal.at.walk_up-returns t c).Else-into-eq0, len)) _ c.name-s.ensures _ c.copy.ensures
