@@ -1,13 +1,11 @@
 -- What is known of the lent tables where a request is handled, and what each kind of request comes to.
 use mathlib.Core.Path.{◌≡◌, refl, sym, ap, subst, ◌∙◌}
-use mathlib.Core.Bool.{true, false, cond, and-eq-true_iff}
+use mathlib.Core.Bool.{Bool, true, false, cond, and-eq-true_iff}
 use mathlib.Core.List.{List, [], ◌∷◌, map-id}
 use mathlib.Core.Option.{none, some}
 use Prim.Native.Nat.{ℕ, ◌≤◌, ◌<◌}
 use lib.Dec.{eqb}
 use lib.ListN.{length, get_or}
-use types.Run.{OneOf, miss}
-use denote.Enum.Declared.{tag_of}
 use borrow.Author.Tests.{eqb-true}
 use Rattle.rules.specs.Size.{last_domain, most_transactions, table_size, copies_size}
 use Rattle.rules.specs.Octets.{Octets, chunks}
@@ -50,7 +48,9 @@ use Rattle.handlers.proofs.StartLaws.{three_transactions}
 use Rattle.payload.specs.Meaning.{meant, kept, Sound, Means}
 use Rattle.payload.specs.declared.answer.Request.{Request}
 use Rattle.payload.specs.declared.answer.Request.TheVariants as request
-use Rattle.payload.specs.contracts.answer.Request.{the_type}
+use Rattle.payload.specs.declared.answer.Ask.{Ask}
+use Rattle.payload.specs.declared.answer.Path.{Path}
+use Rattle.payload.specs.declared.answer.Depth.{Depth}
 use Rattle.payload.proofs.Kept.{kept-outcome}
 use Rattle.requests.specs.Kinds.{AsksNoNode}
 use Rattle.requests.specs.Served.{Served}
@@ -164,17 +164,10 @@ parsed_outcome s type tx r m sender speaks w =
     ∙ ap (outcome_of w c tx) (sym (m.meaning c))
     ∙ ap (λ (d : Domain). outcome_of w c tx (meant d s r)) (sym speaks)
 
--- the numbers of the kinds but for `Ask`, and of `Unknown` and `Ask`
-abbrev pub no_ask : List ℕ
-no_ask = 0 ∷ 1 ∷ 3 ∷ 4 ∷ 5 ∷ 6 ∷ 7 ∷ 8 ∷ 9 ∷ 10 ∷ 11 ∷ []
-
-abbrev pub unknown_or_ask : List ℕ
-unknown_or_ask = 0 ∷ 2 ∷ []
-
-pub asks_no_node : (r : Request) → OneOf no_ask (tag_of the_type r) → AsksNoNode r
+pub asks_no_node : (r : Request) → ((a : Ask) (p : Path) → r ≡ request.Ask a p → ⊥) → AsksNoNode r
 asks_no_node request.Unknown h = tt
 asks_no_node request.Invalid h = tt
-asks_no_node (request.Ask a p) h = miss no_ask 2 tt h
+asks_no_node (request.Ask a p) h = h a p refl
 asks_no_node (request.Watch p a e d) h = tt
 asks_no_node (request.Unwatch p a e) h = tt
 asks_no_node request.Start h = tt
@@ -185,19 +178,24 @@ asks_no_node (request.DomainPath i) h = tt
 asks_no_node (request.IsIntroduced i) h = tt
 asks_no_node request.Reset h = tt
 
-pub is_unknown : (r : Request) → AsksNoNode r → OneOf unknown_or_ask (tag_of the_type r) → r ≡ request.Unknown
-is_unknown request.Unknown k h = refl
-is_unknown request.Invalid k h = absurd (miss unknown_or_ask 1 tt h)
-is_unknown (request.Ask a p) k h = absurd k
-is_unknown (request.Watch p a e d) k h = absurd (miss unknown_or_ask 3 tt h)
-is_unknown (request.Unwatch p a e) k h = absurd (miss unknown_or_ask 4 tt h)
-is_unknown request.Start k h = absurd (miss unknown_or_ask 5 tt h)
-is_unknown (request.End b) k h = absurd (miss unknown_or_ask 6 tt h)
-is_unknown (request.Introduce i p c) k h = absurd (miss unknown_or_ask 7 tt h)
-is_unknown (request.Release i) k h = absurd (miss unknown_or_ask 8 tt h)
-is_unknown (request.DomainPath i) k h = absurd (miss unknown_or_ask 9 tt h)
-is_unknown (request.IsIntroduced i) k h = absurd (miss unknown_or_ask 10 tt h)
-is_unknown request.Reset k h = absurd (miss unknown_or_ask 11 tt h)
+-- a request of no other kind, and no ask, is an unknown one
+pub is_unknown : (r : Request) → AsksNoNode r → (r ≡ request.Invalid → ⊥)
+    → ((p : Path) (a e : ℕ) (d : Depth) → r ≡ request.Watch p a e d → ⊥) → ((p : Path) (a e : ℕ) → r ≡ request.Unwatch p a e → ⊥)
+    → (r ≡ request.Start → ⊥) → ((b : Bool) → r ≡ request.End b → ⊥) → ((i p c : ℕ) → r ≡ request.Introduce i p c → ⊥)
+    → ((i : ℕ) → r ≡ request.Release i → ⊥) → ((i : ℕ) → r ≡ request.DomainPath i → ⊥) → ((i : ℕ) → r ≡ request.IsIntroduced i → ⊥)
+    → (r ≡ request.Reset → ⊥) → r ≡ request.Unknown
+is_unknown request.Unknown k a b c d e f g h i j = refl
+is_unknown request.Invalid k a b c d e f g h i j = absurd (a refl)
+is_unknown (request.Ask q p) k a b c d e f g h i j = absurd k
+is_unknown (request.Watch p s n t) k a b c d e f g h i j = absurd (b p s n t refl)
+is_unknown (request.Unwatch p s n) k a b c d e f g h i j = absurd (c p s n refl)
+is_unknown request.Start k a b c d e f g h i j = absurd (d refl)
+is_unknown (request.End x) k a b c d e f g h i j = absurd (e x refl)
+is_unknown (request.Introduce x p n) k a b c d e f g h i j = absurd (f x p n refl)
+is_unknown (request.Release x) k a b c d e f g h i j = absurd (g x refl)
+is_unknown (request.DomainPath x) k a b c d e f g h i j = absurd (h x refl)
+is_unknown (request.IsIntroduced x) k a b c d e f g h i j = absurd (i x refl)
+is_unknown request.Reset k a b c d e f g h i j = absurd (j refl)
 
 -- the outcome and the bounds of a request whose kind is known
 module _ {r r' : Request} (e : r ≡ r') where

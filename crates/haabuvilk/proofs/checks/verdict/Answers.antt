@@ -8,15 +8,12 @@ use Rattle.haabuvilk.proofs.FreshLaws.{tables-sized}
 use Rattle.haabuvilk.proofs.CheckLaws.{unsized_tables, unsized_reply, unsized_events, unsound-tables, unknown-sender, frame_left}
 use borrow.Author.Rules.{rules}
 use Rattle.haabuvilk.proofs.checks.verdict.Goals as goal
-use Rattle.haabuvilk.proofs.checks.verdict.Goals.{Else-not-sized_tables, Else-not-sound_tables, Start}
+use Rattle.haabuvilk.proofs.checks.verdict.Goals.{Else-not-sized_tables, Else-not-sound_tables}
 
-abbrev its-tables : Start → Tables
-its-tables b = tables b.args.nodes.now b.args.copies.now b.args.watches.now b.args.transactions.now b.args.domains.now
-
-sized : (c : Else-not-sized_tables) → sized_tables (its-tables c.before.before.before.before.before.before.before.before.before.before) ≡ true
+sized : (c : Else-not-sized_tables) → sized_tables (tables c.args.nodes.now c.args.copies.now c.args.watches.now c.args.transactions.now c.args.domains.now) ≡ true
 sized c = sym c.sized_tables.ensures ∙ c.if-not-sized_tables.false
 
-sound-all : (c : Else-not-sound_tables) → sound (its-tables c.before.before.before.before.before.before.before.before.before.before.before.before.before.before) ≡ true
+sound-all : (c : Else-not-sound_tables) → sound (tables c.args.nodes.now c.args.copies.now c.args.watches.now c.args.transactions.now c.args.domains.now) ≡ true
 sound-all c = sym c.sound_tables.ensures ∙ c.if-not-sound_tables.false
 
 pub returns-then-not-sized_tables : goal.returns-then-not-sized_tables

@@ -7,15 +7,12 @@ use Rattle.replies.specs.Does.{tables}
 use Rattle.haabuvilk.proofs.RequestLaws.{Ready, ready, turned_away_lem, shown, answered, reply_held, records_fit}
 use borrow.Author.Rules.{rules}
 use Rattle.haabuvilk.proofs.request.haabuvilk_request.Goals as goal
-use Rattle.haabuvilk.proofs.request.haabuvilk_request.Goals.{Else-v-ne0, Start}
+use Rattle.haabuvilk.proofs.request.haabuvilk_request.Goals.{Else-v-ne0}
 
 pub returns-then-v-ne0 : goal.returns-then-v-ne0
 returns-then-v-ne0 c = turned_away_lem _ _ _ _ _ _ c.verdict-v.ensures c.if-v-ne0.true
 
-abbrev its-tables : Start → Tables
-its-tables b = tables b.args.nodes.now b.args.copies.now b.args.watches.now b.args.transactions.now b.args.domains.now
-
-ready_for : (c : Else-v-ne0) → Ready (its-tables c.before.before.before.before.before.before.before.before.before.before) c.args.sender c.args.reply.now c.args.events.now c.args.message.now
+ready_for : (c : Else-v-ne0) → Ready (tables c.args.nodes.now c.args.copies.now c.args.watches.now c.args.transactions.now c.args.domains.now) c.args.sender c.args.reply.now c.args.events.now c.args.message.now
 ready_for c = ready _ _ _ _ _ (sym c.verdict-v.ensures ∙ c.if-v-ne0.false)
 
 pub number32-kind-requires : goal.number32-kind-requires
@@ -38,16 +35,16 @@ handle-o-requires c =
 pub framed-requires : goal.framed-requires
 framed-requires c =
     let r = ready_for (goal.at.framed-requires c).Else-v-ne0 in
-    let t = its-tables (goal.at.framed-requires c).Start in
+    let t = tables c.args.nodes.now c.args.copies.now c.args.watches.now c.args.transactions.now c.args.domains.now in
     (r.header, search rules, reply_held (c.handle-o.ensures (world_of t) (shown t _ _) []) r.reply (search rules))
 
 pub overflow_cast-event_count : goal.overflow_cast-event_count
 overflow_cast-event_count c =
-    let t = its-tables (goal.at.overflow_cast-event_count c).Start in
+    let t = tables c.args.nodes.now c.args.copies.now c.args.watches.now c.args.transactions.now c.args.domains.now in
     omega (arith, records_fit (c.handle-o.ensures (world_of t) (shown t _ _) []) (ready_for (goal.at.overflow_cast-event_count c).Else-v-ne0).events (search rules))
 
 pub returns : goal.returns
 returns c =
-    let t = its-tables (goal.at.returns c).Start in
+    let t = tables c.args.nodes.now c.args.copies.now c.args.watches.now c.args.transactions.now c.args.domains.now in
     answered _ _ _ _ _ _ _ _ (sym c.verdict-v.ensures ∙ c.if-v-ne0.false) c.number32-kind.ensures c.number32-tx.ensures
     c.of.ensures.0 (c.handle-o.ensures (world_of t) (shown t _ _) []) c.framed.ensures

@@ -24,7 +24,7 @@ other_request-requires c =
     (
       c.requires,
       c.parse-r.ensures.sound,
-      asks_no_node c.parse-r.result c.in_default.in_default-own.keys2,
+      asks_no_node c.parse-r.result c.in_default.not-Ask,
     )
 
 pub returns-in-Ask : goal.returns-in-Ask

@@ -153,5 +153,8 @@ returns-in-Reset c =
 pub returns-in_default : goal.returns-in_default
 unfolding meant outcome_of W.handle W.left W.to
 returns-in_default c =
-    let kind = is_unknown c.args.r c.requires.2 c.in_default.in_default-own.keys11 in
+    let no = c.in_default in
+    let kind =
+        is_unknown c.args.r c.requires.2 no.not-Invalid no.not-Watch no.not-Unwatch no.not-Start no.not-End no.not-Introduce no.not-Release
+        no.not-DomainPath no.not-IsIntroduced no.not-Reset in
     λ w l e. refused_so w _ _ _ _ _ _ (read_as kind w _ _ _ _) c.with_events-in_default.ensures (all_left _ _ _ _ _ c.requires.0 w l)

@@ -8,12 +8,12 @@ use Rattle.requests.proofs.node.relative_request.Goals as goal
 pub slice_bounds-text-end : goal.slice_bounds-text-end
 slice_bounds-text-end c =
     let f = c.full_path-n in
-    put_within _ _ _ _ f.ensures f.auto.1.1.1.0
+    put_within _ _ _ _ f.ensures f.auto.into
 
 pub slice_bounds-asked-end : goal.slice_bounds-asked-end
 slice_bounds-asked-end c =
     let f = c.full_path-n in
-    put_long _ _ _ _ f.ensures f.auto.1.1.1.0
+    put_long _ _ _ _ f.ensures f.auto.into
 
 pub asked-requires : goal.asked-requires
 asked-requires c =

@@ -26,4 +26,4 @@ pub returns : goal.returns
 returns c =
     let f = c.full_path in
     let e = place-path _ c.args.path c.args.domain c.requires.0 (sym c.is_special.ensures ∙ c.if-is_special.false) in
-    subst (λ (x : Octets). Put 0 x c.args.into.now f.new.1.1.1.0 f.result) (sym e) f.ensures
+    subst (λ (x : Octets). Put 0 x c.args.into.now f.new.into f.result) (sym e) f.ensures

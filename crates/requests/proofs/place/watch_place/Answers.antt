@@ -24,12 +24,12 @@ returns-then-is_foreign c =
 pub slice_bounds-text-end : goal.slice_bounds-text-end
 slice_bounds-text-end c =
     let t = c.place_text-n in
-    put_within _ _ _ _ t.ensures t.auto.1.1.1.0
+    put_within _ _ _ _ t.ensures t.auto.into
 
 pub slice_bounds-watch-end : goal.slice_bounds-watch-end
 slice_bounds-watch-end c =
     let t = c.place_text-n in
-    put_long _ _ _ _ t.ensures t.auto.1.1.1.0
+    put_long _ _ _ _ t.ensures t.auto.into
 
 pub watch-requires : goal.watch-requires
 watch-requires c =
