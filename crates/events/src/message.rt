@@ -19,6 +19,9 @@ const RECORDS: u32 = octets::sizes::RECORDS as u32;
 
 const WATCHES: u32 = octets::sizes::WATCHES as u32;
 
+// The least length of a path.
+const SHORTEST_PATH: usize = 1;
+
 // Puts the header of an event message with n bytes of payload.
 fn put_header(into: &mut [u8], n: u32)
     requires { header_size ≤ length into.old }
@@ -66,7 +69,7 @@ fn due(watches: &[u8], events: &[u8], i: usize, k: u32) -> bool
         return false;
     }
     let n = path_length(events, i);
-    if n < 1 {
+    if n < SHORTEST_PATH {
         return false;
     }
     if LONGEST_PATH < n {

@@ -9,6 +9,9 @@ use octets::numbers::two;
 use octets::parts::{clear, copy};
 use octets::sizes::{LONGEST_PATH, MASK_SIZE, RECORD_PATH_AT, RECORD_SIZE};
 
+// The mask that has no watch's bit.
+const NO_WATCH: u32 = 0;
+
 // Puts a mask and a path as record n, and gives the place behind it.
 pub fn put(events: &mut [u8], n: usize, mask: u32, path: &[u8]) -> usize
     requires { Room events.old n 1 × (length path.now ≤ longest_path) }
@@ -31,7 +34,7 @@ pub fn keep(events: &mut [u8], n: usize, mask: u32, path: &[u8]) -> usize
     requires { Room events.old n 1 × (length path.now ≤ longest_path) }
     ensures { (m : List Bool) → Mask m mask → Recorded n (kept m path.now) events.old events.new result }
 {
-    if mask == 0 {
+    if mask == NO_WATCH {
         return n;
     }
     put(events, n, mask, path)

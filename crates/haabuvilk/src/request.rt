@@ -9,6 +9,9 @@ use replies::frame::framed;
 use requests::handle::handle;
 use senders::Sender;
 
+// The call number of a message that is to be handled.
+const TO_HANDLE: u32 = 0;
+
 // Handles a message and answers 0; or answers another call number with all four results 0 and nothing lent altered.
 pub fn haabuvilk_request(
     nodes: &mut [u8],
@@ -47,7 +50,7 @@ pub fn haabuvilk_request(
         reply,
         events,
     );
-    if v != 0 {
+    if v != TO_HANDLE {
         return v;
     }
     let kind = number32(message, 0);

@@ -5,6 +5,9 @@ ghost use Rattle.octets.specs.Numbers.{meant, decimal_of, within};
 
 use crate::{Decimal, Number};
 
+// The digits of 2^64 - 1.
+const MOST_DIGITS: usize = 20;
+
 // Whether every byte of s is a digit.
 pub fn all_digits(s: &[u8]) -> bool
     ensures { result ≡ all_digits s.now }
@@ -61,7 +64,7 @@ pub fn decimal(s: &[u8]) -> Decimal
         return Decimal::Malformed;
     }
     let len = s.len();
-    if 20 < len {
+    if MOST_DIGITS < len {
         return Decimal::TooLarge;
     }
     let last = len - 1;

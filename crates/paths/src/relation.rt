@@ -8,6 +8,9 @@ use crate::answer::Beyond;
 use crate::names::depth;
 use octets::compare::{begins, same};
 
+// What a name below a path begins with.
+const SLASH: u8 = b'/';
+
 // Whether a text begins another that goes on with a slash.
 fn reaches(above: &[u8], s: &[u8]) -> bool
     ensures { result ≡ begins (above.now ++ (47 ∷ [])) s.now }
@@ -16,7 +19,7 @@ fn reaches(above: &[u8], s: &[u8]) -> bool
     if s.len() <= n {
         return false;
     }
-    if s[n] != b'/' {
+    if s[n] != SLASH {
         return false;
     }
     begins(above, s)

@@ -23,8 +23,13 @@ fn hex(n: u8) -> u8
     87 + n
 }
 
+// Prints bytes. A write that fails is passed over.
+fn print(rt: &impl Print, text: &[u8]) {
+    let _ = rt.write_all(text);
+}
+
 // The classes of sixteen bytes, and the bytes.
-fn grid_row(high: u8)
+fn grid_row(rt: &impl Print, high: u8)
     requires { high < 16 }
 {
     let mut line = [b' '; 56];
@@ -39,14 +44,14 @@ fn grid_row(high: u8)
         low += 1;
     }
     line[55] = b'\n';
-    io::write_all(1, &line);
+    print(rt, &line);
 }
 
 // Where each class leads from a state.
-fn step_row(state: u8, word: &[u8])
+fn step_row(rt: &impl Print, state: u8, word: &[u8])
     requires { state < 8 }
 {
-    io::write_all(1, word);
+    print(rt, word);
     let mut line = [b' '; 35];
     let mut class: u8 = 0;
     while class < 5 {
@@ -55,35 +60,35 @@ fn step_row(state: u8, word: &[u8])
         class += 1;
     }
     line[34] = b'\n';
-    io::write_all(1, &line);
+    print(rt, &line);
 }
 
-fn grid() {
-    io::write_all(1, b"    0 1 2 3 4 5 6 7 8 9 a b c d e f\n");
+fn grid(rt: &impl Print) {
+    print(rt, b"    0 1 2 3 4 5 6 7 8 9 a b c d e f\n");
     let mut high: u8 = 0;
     while high < 16 {
-        grid_row(high);
+        grid_row(rt, high);
         high += 1;
     }
 }
 
-fn steps() {
-    io::write_all(
-        1,
+fn steps(rt: &impl Print) {
+    print(
+        rt,
         b"                            letter  digit  slash      @  other\n",
     );
-    step_row(0, b"0 nothing read              ");
-    step_row(1, b"1 the root's slash          ");
-    step_row(2, b"2 absolute, in a name       ");
-    step_row(3, b"3 absolute, after a slash   ");
-    step_row(4, b"4 relative, in a name       ");
-    step_row(5, b"5 relative, after a slash   ");
-    step_row(6, b"6 began with an @           ");
-    step_row(7, b"7 malformed                 ");
+    step_row(rt, 0, b"0 nothing read              ");
+    step_row(rt, 1, b"1 the root's slash          ");
+    step_row(rt, 2, b"2 absolute, in a name       ");
+    step_row(rt, 3, b"3 absolute, after a slash   ");
+    step_row(rt, 4, b"4 relative, in a name       ");
+    step_row(rt, 5, b"5 relative, after a slash   ");
+    step_row(rt, 6, b"6 began with an @           ");
+    step_row(rt, 7, b"7 malformed                 ");
 }
 
-fn main() {
-    grid();
-    io::write_all(1, b"\n");
-    steps();
+fn main(rt: HostRuntime) {
+    grid(&rt);
+    print(&rt, b"\n");
+    steps(&rt);
 }

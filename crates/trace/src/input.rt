@@ -1,9 +1,9 @@
 // What stands on standard input: a sender of two bytes, high first, and its message, repeated.
 ghost use Rattle.std.specs.Prelude.{◌≡◌, ◌+◌, ◌≤◌, length};
 
-use libc::STDIN_FILENO;
 use octets::numbers::number32;
 use octets::sizes::{HEADER_SIZE, LEN_AT, LONGEST_PAYLOAD};
+use std::io::Read;
 
 // A sender's two bytes stand before its message.
 pub const MESSAGE_AT: usize = 2;
@@ -18,22 +18,24 @@ const MOST_PAYLOAD: u32 = LONGEST_PAYLOAD as u32;
 
 // One read into buf from `at` on: how many bytes came. 0 at the end of the input, and where the read fails, which standard
 // error is told.
-fn read_some(buf: &mut [u8], at: usize) -> usize
+fn read_some(rt: &impl Eprint, from: &mut impl Read, buf: &mut [u8], at: usize) -> usize
     requires { at ≤ length buf.old }
     ensures { at + result ≤ length buf.old }
 {
-    let got = libc::read(STDIN_FILENO, &mut buf[at..]);
-    if got < 0 {
-        os::fail(b"trace: standard input");
+    match from.read(&mut buf[at..]) {
+        Ok(n) => n,
+        Err(e) => {
+            let _ = eprintln!(rt; "trace: standard input: {e}");
+            0
+        }
     }
-    io::count(got, &buf[at..])
 }
 
 // Fills buf, and answers whether the input had that much.
-fn fill(buf: &mut [u8]) -> bool {
+fn fill(rt: &impl Eprint, from: &mut impl Read, buf: &mut [u8]) -> bool {
     let mut at = 0;
     while at < buf.len() {
-        let n = read_some(buf, at);
+        let n = read_some(rt, from, buf, at);
         if n == 0 {
             return false;
         }
@@ -60,12 +62,12 @@ pub fn end_of(input: &[u8]) -> usize
 }
 
 // Reads a sender and its message, and answers whether the input had both.
-pub fn read_message(input: &mut [u8]) -> bool
+pub fn read_message(rt: &impl Eprint, from: &mut impl Read, input: &mut [u8]) -> bool
     requires { length input.old ≡ 4114 }
 {
-    if !fill(&mut input[0..HEAD_SIZE]) {
+    if !fill(rt, from, &mut input[0..HEAD_SIZE]) {
         return false;
     }
     let end = end_of(input);
-    fill(&mut input[HEAD_SIZE..end])
+    fill(rt, from, &mut input[HEAD_SIZE..end])
 }

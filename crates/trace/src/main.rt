@@ -12,10 +12,13 @@ use octets::numbers::two;
 use octets::sizes::{
     COPIES_SIZE, DOMAINS_SIZE, EVENTS_SIZE, REPLY_SIZE, TABLE_SIZE, TRANSACTIONS_SIZE, WATCHES_SIZE,
 };
+use std::io::Read;
 
 // Makes the call of each message that is read, and prints its line. The number of a line falls short of its largest value in
 // any run, and the count is what makes the loop end.
 fn serve_all(
+    rt: &(impl Print + Eprint),
+    from: &mut impl Read,
     nodes: &mut [u8; TABLE_SIZE],
     copies: &mut [u8; COPIES_SIZE],
     watches: &mut [u8; WATCHES_SIZE],
@@ -30,8 +33,7 @@ fn serve_all(
     let mut page: u64 = 0;
     let mut channel: u32 = 0;
     let mut number: u64 = 1;
-    while number < u64::MAX && read_message(&mut input) {
-        let end = end_of(&input);
+    while number < u64::MAX && read_message(rt, from, &mut input) {
         let call = haabuvilk_request(
             nodes,
             copies,
@@ -39,7 +41,7 @@ fn serve_all(
             transactions,
             domains,
             two(&input, 0),
-            &input[MESSAGE_AT..end],
+            &input[MESSAGE_AT..end_of(&input)],
             &mut reply,
             &mut events,
             &mut reply_length,
@@ -47,14 +49,14 @@ fn serve_all(
             &mut page,
             &mut channel,
         );
-        if !print_call(number, call, &reply, event_count) || is_oversize(&input) {
+        if !print_call(rt, number, call, &reply, event_count) || is_oversize(&input) {
             return;
         }
         number += 1;
     }
 }
 
-fn main() {
+fn main(rt: HostRuntime) {
     let mut nodes = [0u8; TABLE_SIZE];
     let mut copies = [0u8; COPIES_SIZE];
     let mut watches = [0u8; WATCHES_SIZE];
@@ -68,6 +70,8 @@ fn main() {
         &mut domains,
     );
     serve_all(
+        &rt,
+        &mut rt.stdin(),
         &mut nodes,
         &mut copies,
         &mut watches,

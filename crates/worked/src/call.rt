@@ -112,6 +112,7 @@ fn request(
 
 // Makes the calls of a request, and prints what came of the last.
 pub fn ask(
+    rt: &impl Print,
     nodes: &mut [u8; TABLE_SIZE],
     copies: &mut [u8; COPIES_SIZE],
     watches: &mut [u8; WATCHES_SIZE],
@@ -142,6 +143,6 @@ pub fn ask(
         count_up(&mut message, end);
         left = still(left, &reply);
     }
-    print_reply(call, &reply, event_count);
-    print_events(watches, domains, &events, event_count);
+    print_reply(rt, call, &reply, event_count);
+    print_events(rt, watches, domains, &events, event_count);
 }

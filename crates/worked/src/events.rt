@@ -6,6 +6,7 @@ use octets::sizes::{DOMAINS_SIZE, EVENTS_SIZE, HEADER_SIZE, MESSAGE_SIZE, WATCHE
 
 // Prints the payload of the event message of a record for a watch, if there is one.
 fn print_event<'a>(
+    rt: &impl Print,
     watches: &'a [u8; WATCHES_SIZE],
     domains: &[u8; DOMAINS_SIZE],
     events: &'a [u8; EVENTS_SIZE],
@@ -28,14 +29,15 @@ fn print_event<'a>(
     if call != 0 {
         return;
     }
-    print(b"    watch");
-    print_number(watch);
-    print(b" hears ");
-    print_octets(part(&message, HEADER_SIZE, length as usize));
-    print(b"\n");
+    print(rt, b"    watch");
+    print_number(rt, watch);
+    print(rt, b" hears ");
+    print_octets(rt, part(&message, HEADER_SIZE, length as usize));
+    print(rt, b"\n");
 }
 
 fn print_record<'a>(
+    rt: &impl Print,
     watches: &'a [u8; WATCHES_SIZE],
     domains: &[u8; DOMAINS_SIZE],
     events: &'a [u8; EVENTS_SIZE],
@@ -44,13 +46,14 @@ fn print_record<'a>(
 ) {
     let mut watch: u32 = 0;
     while watch < 16 {
-        print_event(watches, domains, events, event_count, record, watch);
+        print_event(rt, watches, domains, events, event_count, record, watch);
         watch += 1;
     }
 }
 
 // Prints a line for each watch and each record that it hears.
 pub fn print_events<'a>(
+    rt: &impl Print,
     watches: &'a [u8; WATCHES_SIZE],
     domains: &[u8; DOMAINS_SIZE],
     events: &'a [u8; EVENTS_SIZE],
@@ -58,7 +61,7 @@ pub fn print_events<'a>(
 ) {
     let mut record: u32 = 0;
     while record < event_count {
-        print_record(watches, domains, events, event_count, record);
+        print_record(rt, watches, domains, events, event_count, record);
         record += 1;
     }
 }

@@ -54,13 +54,13 @@ fn is_step(line: &[u8]) -> bool {
 }
 
 // Whether each line of the input is words or, behind some words, a step. Standard error is told which is neither.
-pub fn is_formed(input: &[u8]) -> bool {
+pub fn is_formed(err: &impl Print, input: &[u8]) -> bool {
     let mut at = 0;
     while at < input.len() {
         let end = find(input, at, b'\n');
         let line = part(input, at, end);
         if !is_words(line) && (at == 0 || !is_step(line)) {
-            complain(line);
+            complain(err, line);
             return false;
         }
         at = end + 1;

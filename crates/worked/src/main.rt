@@ -4,7 +4,7 @@
 // or up to the first that is refused, and counts up the number at the end of its payload.
 #![tactic(auto)]
 
-ghost use Rattle.std.specs.Prelude.{◌<◌, length};
+ghost use Rattle.std.specs.Prelude.{◌<◌, ◌≤◌, length};
 
 mod call;
 mod events;
@@ -15,16 +15,16 @@ mod words;
 use call::ask;
 use form::{is_formed, is_slot};
 use haabuvilk::fresh::haabuvilk_fresh;
-use libc::{STDERR_FILENO, STDIN_FILENO};
 use octets::sizes::{COPIES_SIZE, DOMAINS_SIZE, TABLE_SIZE, TRANSACTIONS_SIZE, WATCHES_SIZE};
 use print::{print, print_slot, print_words};
+use std::io::Read;
 use words::{find, part};
 
 // More than the worked lines have.
 const INPUT_SIZE: usize = 16384;
 
 // Runs the worked line whose words stand at `from`, from the fresh store, and answers the place behind it.
-fn worked(input: &[u8], from: usize) -> usize
+fn worked(rt: &impl Print, input: &[u8], from: usize) -> usize
     requires { from < length input.now }
     ensures { from < result }
 {
@@ -40,15 +40,16 @@ fn worked(input: &[u8], from: usize) -> usize
         &mut transactions,
         &mut domains,
     );
-    let mut at = print_words(input, from);
+    let mut at = print_words(rt, input, from);
     while at < input.len() && input[at] == b' ' {
         let end = find(input, at, b'\n');
         let line = part(input, at, end);
-        print(line);
+        print(rt, line);
         if is_slot(line) {
-            print_slot(&nodes, line);
+            print_slot(rt, &nodes, line);
         } else {
             ask(
+                rt,
                 &mut nodes,
                 &mut copies,
                 &mut watches,
@@ -62,21 +63,33 @@ fn worked(input: &[u8], from: usize) -> usize
     at
 }
 
-fn main() {
+// Reads until buf is full, the input ends or a read fails, and answers how many bytes came.
+fn read_full(from: &mut impl Read, buf: &mut [u8]) -> usize
+    ensures { result ≤ length buf.new }
+{
+    let mut done = 0;
+    while done < buf.len() {
+        match from.read(&mut buf[done..]) {
+            Ok(0) => break,
+            Ok(n) => done += n,
+            Err(_) => break,
+        }
+    }
+    done
+}
+
+fn main(rt: HostRuntime) {
     let mut input = [0u8; INPUT_SIZE];
-    let n = io::read_full(STDIN_FILENO, &mut input);
+    let n = read_full(&mut rt.stdin(), &mut input);
     if n == INPUT_SIZE {
-        io::write_all(
-            STDERR_FILENO,
-            b"worked: the input has 16,384 bytes or more\n",
-        );
+        let _ = eprintln!(rt; "worked: the input has 16,384 bytes or more");
         return;
     }
-    if !is_formed(&input[..n]) {
+    if !is_formed(&rt.stderr(), &input[..n]) {
         return;
     }
     let mut at = 0;
     while at < n {
-        at = worked(&input[..n], at);
+        at = worked(&rt, &input[..n], at);
     }
 }

@@ -1,6 +1,5 @@
 -- Each worked line ends behind its start.
-use Prim.Native.Nat.{◌≤◌, ◌-◌}
-use borrow.Author.Rules.{rules}
+use Rattle.std.proofs.Common.{◌≤◌, ◌-◌}
 use Rattle.worked.proofs.main.Given as goal
 
 abbrev pub invariant-loop-at : goal.invariant-loop-at

@@ -3,9 +3,9 @@ use borrow.Author.Rules.{rules}
 use Rattle.events.proofs.RecordLaws.{left_out, kept_so}
 use Rattle.events.proofs.record.keep.Goals as goal
 
-pub returns-then-mask-eq0 : goal.returns-then-mask-eq0
-returns-then-mask-eq0 c = λ m f. left_out _ _ _ m _ f c.if-mask-eq0.true
+pub returns-then-mask-eq-NO_WATCH : goal.returns-then-mask-eq-NO_WATCH
+returns-then-mask-eq-NO_WATCH c = λ m f. left_out _ _ _ m _ f c.if-mask-eq-NO_WATCH.true
 
 pub returns : goal.returns
 returns c = λ m f.
-    kept_so _ _ _ m _ f _ _ c.if-mask-eq0.false (c.put.ensures m f)
+    kept_so _ _ _ m _ f _ _ c.if-mask-eq-NO_WATCH.false (c.put.ensures m f)

@@ -19,15 +19,14 @@ returns-then-x-y c =
     ∙ less_here _ _ _ c.loop-i-test.true c.if-b-i.false c.if-x-y.true)
 
 pub loop-i-preserved : goal.loop-i-preserved
-loop-i-preserved c =
-    (
-      omega arith,
-      (
-        omega arith,
-        c.loop-i.invariant.1.1
-            ∙ less_next _ _ _ c.loop-i-test.true c.if-b-i.false c.if-x-y.false,
-      ),
-    )
+loop-i-preserved c = (
+  omega arith,
+  (
+    omega arith,
+    c.loop-i.invariant.1.1
+        ∙ less_next _ _ _ c.loop-i-test.true c.if-b-i.false c.if-x-y.false,
+  ),
+)
 
 pub returns : goal.returns
 returns c = sym (c.loop-i.invariant.1.1 ∙ less-ended _ _ c.loop-i.i (omega arith) c.loop-i.invariant.1.0)

@@ -26,8 +26,8 @@ last c = plain_last _ (plain c)
 pub returns-then-not-plain_form : goal.returns-then-not-plain_form
 returns-then-not-plain_form c = malformed _ (sym c.plain_form.ensures ∙ c.if-not-plain_form.true)
 
-pub returns-then-len-gt20 : goal.returns-then-len-gt20
-returns-then-len-gt20 c = large _ (plain (goal.at.returns-then-len-gt20 c).Else-not-plain_form) (plain-long _ (plain (goal.at.returns-then-len-gt20 c).Else-not-plain_form) c.if-len-gt20.true)
+pub returns-then-len-gt-MOST_DIGITS : goal.returns-then-len-gt-MOST_DIGITS
+returns-then-len-gt-MOST_DIGITS c = large _ (plain (goal.at.returns-then-len-gt-MOST_DIGITS c).Else-not-plain_form) (plain-long _ (plain (goal.at.returns-then-len-gt-MOST_DIGITS c).Else-not-plain_form) c.if-len-gt-MOST_DIGITS.true)
 
 pub overflow_sub-last : goal.overflow_sub-last
 overflow_sub-last c = (last (goal.at.overflow_sub-last c).Else-not-plain_form).0

@@ -11,14 +11,13 @@ pub loop-i-init : goal.loop-i-init
 loop-i-init c = (omega arith, (refl, sym (paste_nil _ _)))
 
 pub loop-i-preserved : goal.loop-i-preserved
-loop-i-preserved c =
-    (
-      omega arith,
-      (
-        simp length-set (omega arith),
-        paste-zero _ c.args.n _ c.loop-i.i c.loop-i.invariant.1.1 (omega arith) (omega arith),
-      ),
-    )
+loop-i-preserved c = (
+  omega arith,
+  (
+    simp length-set (omega arith),
+    paste-zero _ c.args.n _ c.loop-i.i c.loop-i.invariant.1.1 (omega arith) (omega arith),
+  ),
+)
 
 pub shape_of-into : goal.shape_of-into
 shape_of-into c = omega arith

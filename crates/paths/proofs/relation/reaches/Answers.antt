@@ -9,12 +9,12 @@ returns-then-s-n c =
     let args = c.args in
     reach-short args.above.now args.s.now c.if-s-n.true
 
-pub returns-then-s-n-ne47 : goal.returns-then-s-n-ne47
-returns-then-s-n-ne47 c =
+pub returns-then-s-n-ne-SLASH : goal.returns-then-s-n-ne-SLASH
+returns-then-s-n-ne-SLASH c =
     let args = c.args in
-    reach_other args.above.now args.s.now c.if-s-n.false c.if-s-n-ne47.true
+    reach_other args.above.now args.s.now c.if-s-n.false c.if-s-n-ne-SLASH.true
 
 pub returns : goal.returns
 returns c =
     let args = c.args in
-    c.begins.ensures ∙ reach_slash args.above.now args.s.now c.if-s-n.false c.if-s-n-ne47.false
+    c.begins.ensures ∙ reach_slash args.above.now args.s.now c.if-s-n.false c.if-s-n-ne-SLASH.false

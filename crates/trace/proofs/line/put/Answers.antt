@@ -1,11 +1,7 @@
 -- A number of 64 bits has at most 20 digits, and a byte stands behind it.
-use Prim.Native.Nat.{ℕ, ◌<◌, ◌≤◌, ◌^◌}
-use lib.Dec.{lit≤}
-use native.Mathlib.Omega.{arith}
-use lib.ListN.{length}
+use Rattle.std.proofs.Common.{ℕ, ◌<◌, ◌≤◌, ◌^◌, lit≤, arith, length}
 use Rattle.rules.specs.Octets.{decimal}
 use Rattle.rules.proofs.Decimals.{length-decimal_lt}
-use borrow.Author.Rules.{rules}
 use Rattle.trace.proofs.line.put.Goals as goal
 
 -- a number of 64 bits has at most 20 digits

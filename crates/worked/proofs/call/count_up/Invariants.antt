@@ -1,8 +1,5 @@
 -- The place goes down from the end, which is within the message.
-use mathlib.Core.Path.{◌≡◌}
-use Prim.Native.Nat.{◌≤◌}
-use lib.ListN.{length}
-use borrow.Author.Rules.{rules}
+use Rattle.std.proofs.Common.{◌≡◌, ◌≤◌, length}
 use Rattle.worked.proofs.call.count_up.Given as goal
 
 abbrev pub invariant-loop-at : goal.invariant-loop-at

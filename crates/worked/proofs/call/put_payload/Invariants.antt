@@ -1,9 +1,6 @@
 -- At most 4,096 bytes are put behind the 16 of the header, and the message has room for both.
-use mathlib.Core.Path.{◌≡◌}
-use Prim.Native.Nat.{◌≤◌, ◌-◌}
-use lib.ListN.{length}
-use Rattle.rules.specs.Size.{reply_size, longest_payload}
-use borrow.Author.Rules.{rules}
+use Rattle.std.proofs.Common.{◌≡◌, ◌≤◌, ◌-◌, length}
+use Rattle.rules.specs.Size.{reply_size}
 use Rattle.worked.proofs.call.put_payload.Given as goal
 
 abbrev pub invariant-loop-i : goal.invariant-loop-i

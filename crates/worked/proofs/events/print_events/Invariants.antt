@@ -1,10 +1,9 @@
 -- A turn for each of the records.
-use Prim.Native.Nat.{◌≤◌, ◌-◌}
-use borrow.Author.Rules.{rules}
+use Rattle.std.proofs.Common.{◌≤◌, ◌-◌}
 use Rattle.worked.proofs.events.print_events.Given as goal
 
 abbrev pub invariant-loop-record : goal.invariant-loop-record
-invariant-loop-record l = l.record ≤ l.event_count
+invariant-loop-record g l = l.record ≤ l.event_count
 
 abbrev pub decreases-loop-record : goal.decreases-loop-record
-decreases-loop-record l = l.event_count - l.record
+decreases-loop-record g l = l.event_count - l.record

@@ -1,6 +1,5 @@
 -- A turn looks for one blank of the k.
-use Prim.Native.Nat.{◌≤◌, ◌-◌}
-use borrow.Author.Rules.{rules}
+use Rattle.std.proofs.Common.{◌≤◌, ◌-◌}
 use Rattle.worked.proofs.words.behind.Given as goal
 
 abbrev pub invariant-loop-i : goal.invariant-loop-i

@@ -1,6 +1,5 @@
 -- A turn for each of the 14 types.
-use Prim.Native.Nat.{◌≤◌, ◌-◌}
-use borrow.Author.Rules.{rules}
+use Rattle.std.proofs.Common.{◌≤◌, ◌-◌}
 use Rattle.worked.proofs.words.type_of.Given as goal
 
 abbrev pub invariant-loop-kind : goal.invariant-loop-kind
