@@ -58,7 +58,8 @@ module _ (s : Octets) (bytes : Bytes s) (whole : length s ≡ domains_size) (k :
   unfolding head
   used_byte = rw (place_is, taken-cond) (first_bit s bytes (at k) 2 23 refl (omega arith))
 
-  pub domain-bytes : taken (get_or (domains_of s) k none) ≡ true → get_or s (at k + 1) 0 * 256 + get_or s (at k + 2) 0 ≡ entry_or 0 (get_or (domains_of s) k none)
+  pub domain-bytes : taken (get_or (domains_of s) k none) ≡ true → get_or s (at k + 1) 0 * 256 + get_or s (at k + 2) 0
+      ≡ entry_or 0 (get_or (domains_of s) k none)
   unfolding bits_at
   domain-bytes u =
       let b = bytes (at k + 1) in
@@ -108,7 +109,8 @@ module _ (s : Octets) (bytes : Bytes s) (whole : length s ≡ domains_size) (k :
       let b : (x * 256 + y) / 256 % 256 ≡ x = omega arith in
       let d : (x * 256 + y) % 256 ≡ y = omega arith in
       let kept = used-kept domain_bytes domain_in domain_size wide most_domains s k h 0 t in
-      sym (kept ∙ rw (← domain-bytes s bytes whole k h t, three_bytes_lem (x * 256 + y) (omega arith), row, b, d) (same_first 128 (get_or s (at k) 0) (x ∷ y ∷ [])))
+      sym (kept ∙ rw (← domain-bytes s bytes whole k h t, three_bytes_lem (x * 256 + y) (omega arith), row, b, d)
+          (same_first 128 (get_or s (at k) 0) (x ∷ y ∷ [])))
 
   -- a free place is all zero
   pub free_same : get_or s (at k) 0 < 128 → all_zero (part_at s (at k) domain_size) ≡ kept_at most_domains domain_size domain_bytes domain_in s k

@@ -292,5 +292,6 @@ module _ {A : Type 0} (encode : Option A → Octets) (decode : Octets → Option
         → Kept n k encode decode t × (table n t ≡ without test (table n s))
     without-kept empty test t e =
         let w = without-map test (table n s) in
-        let r = mapped_kept (dropped_if test) (λ i h. dropped_case test (get_or (table n s) i none) empty (place_again i h)) t (e ∙ ap (flat_map encode) (sym w)) in
+        let r = mapped_kept (dropped_if test) (λ i h. dropped_case test (get_or (table n s) i none) empty (place_again i h)) t
+            (e ∙ ap (flat_map encode) (sym w)) in
         (r.0, r.1 ∙ w)

@@ -8,7 +8,8 @@ use native.Mathlib.Nat.{zero-mul, suc-mul, add_comm}
 use lib.ListN.{length, set, replicate, length-replicate, replicate-append-replicate}
 use lib.Dec.{eqb}
 use borrow.Author.Tests.{eqb-true}
-use Rattle.rules.specs.Size.{table_size, copies_size, watches_size, transactions_size, domains_size, watch_size, transaction_size, domain_size, slots, slot_size}
+use Rattle.rules.specs.Size.{table_size, copies_size, watches_size, transactions_size, domains_size, watch_size}
+use Rattle.rules.specs.Size.{transaction_size, domain_size, slots, slot_size}
 use Rattle.rules.specs.Octets.{Octets, paste, padded, big_endian, pack_from, pack}
 use Rattle.rules.specs.Node.{root, fresh_table}
 use Rattle.rules.specs.Layout.{entry_bits, node_bits, slot_bytes, table_bytes, domain_bytes, domains_bytes, watch_bytes, watches_bytes, transaction_bytes}

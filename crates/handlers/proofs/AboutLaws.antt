@@ -55,7 +55,8 @@ unfolding path_text base slashed front text
 base-text d = ap (λ (t : Octets). front ++ (t ++ nul)) (append-nil (decimal d))
 
 -- a domain's base, put behind the header
-pub base-told : (d : Domain) (end : ℕ) (before l₁ l₂ : Octets) → length before ≡ reply_size → l₁ ≡ paste header_size front before → Put 30 (decimal d) l₁ l₂ end →
+pub base-told : (d : Domain) (end : ℕ) (before l₁ l₂ : Octets) → length before ≡ reply_size → l₁ ≡ paste header_size front before
+    → Put 30 (decimal d) l₁ l₂ end →
     end < length l₂ →
     Told (done (path_text (base d) ++ nul)) (Done (end + 1 - 16)) before (set l₂ end 0)
 unfolding front text

@@ -14,7 +14,8 @@ use Rattle.rules.specs.Path.{Names, names_in, path_text}
 use Rattle.rules.specs.Node.{Table, Reached, node_at, reach}
 use Rattle.rules.specs.Rights.{may_write, readable}
 use Rattle.rules.specs.Payload as P
-use Rattle.rules.specs.Answer.{Reply, OK, Change, Answer, unchanged, changed, room, created, looked, written, directory_made, taken, may_set, permitted, answered}
+use Rattle.rules.specs.Answer.{Reply, OK, Change, Answer, unchanged, changed, room, created, looked, written}
+use Rattle.rules.specs.Answer.{directory_made, taken, may_set, permitted, answered}
 use Rattle.rules.specs.Answer.{answer}
 use Rattle.rules.specs.Layout.{table_of, table_bytes}
 use Rattle.rules.specs.Sound.{good_change, sound_table}

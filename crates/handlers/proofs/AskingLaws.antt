@@ -70,18 +70,21 @@ pub copy-part : (cs : Octets) (k : ℕ) → take (k * table_size + table_size - 
 copy-part cs k = ap (λ (n : ℕ). take n (drop (k * table_size) cs)) (add-sub_cancel_left (k * table_size) table_size)
 
 -- the copies, with another table in its place
-part_put : (cs t : Octets) (k : ℕ) → length t ≡ table_size → put_mid (k * table_size) (k * table_size + table_size - k * table_size) cs t ≡ paste (k * table_size) t cs
+part_put : (cs t : Octets) (k : ℕ) → length t ≡ table_size → put_mid (k * table_size) (k * table_size + table_size - k * table_size) cs t
+    ≡ paste (k * table_size) t cs
 unfolding paste
 part_put cs t k l =
     ap (λ (x : Octets). take (k * table_size) cs ++ (t ++ x))
     (Post-is (k * table_size) (k * table_size + table_size) cs (omega arith) ∙ ap (λ (n : ℕ). drop (k * table_size + n) cs) (sym l))
 
 -- as the rule book has it
-pub copy_of_lem : (w : World) (cs : Octets) (k : ℕ) → w.copies ≡ chunks most_transactions table_size cs → k < most_transactions → copy_of w k ≡ table_of (copy_in cs k)
+pub copy_of_lem : (w : World) (cs : Octets) (k : ℕ) → w.copies ≡ chunks most_transactions table_size cs → k < most_transactions → copy_of w k
+    ≡ table_of (copy_in cs k)
 unfolding copy_of
 copy_of_lem w cs k e h =
     ap (λ (x : List Octets). table_of (get_or x k [])) e ∙ ap table_of
-    (sym (ap (λ (x : List Octets). get_or x k []) (map_whole (chunks most_transactions table_size cs))) ∙ decoded_at whole most_transactions table_size k cs [] h)
+    (sym (ap (λ (x : List Octets). get_or x k []) (map_whole (chunks most_transactions table_size cs)))
+        ∙ decoded_at whole most_transactions table_size k cs [] h)
 
 -- ── replies ──
 
@@ -157,7 +160,8 @@ module _ (cs xs : Octets) (k : ℕ) (reply : Octets) (s : InCopy cs xs k reply) 
   pub full-handled : (a : N.Table → A.Answer) → most_changes ≤ length (transaction_of xs k).changes → (events reply' : Octets) (o : Outcome) →
       Told (ninth_reply (a (table_of (take (k * table_size + table_size - k * table_size) (drop (k * table_size) cs))))) o.reply reply reply' →
       o ≡ outcome_of o.reply 0 →
-      Handled (W.in_transaction w k (transaction_of xs k) (a (copy_of w k))) (tables (its_nodes w) cs (its_watches w) xs (its_domains w)) reply reply' events events o
+      Handled (W.in_transaction w k (transaction_of xs k) (a (copy_of w k))) (tables (its_nodes w) cs (its_watches w) xs (its_domains w)) reply reply'
+          events events o
   full-handled a many events reply' o t p =
       let here = ap table_of (copy-part cs k) ∙ sym (copy_of_lem w cs k cw s.place.below) in
       done_so w _ reply o events (ninth_reply (a (copy_of w k))) w reply' o.reply _ (in_transaction_full w k (transaction_of xs k) (a (copy_of w k)) many) p

@@ -20,7 +20,8 @@ use Rattle.rules.specs.Answer.{OK, EEXIST, ENOENT, ENOSPC, refused}
 use Rattle.rules.specs.Event.{Watch, Watches, place_text, first_heard}
 use Rattle.rules.specs.Layout.{place_in, watches_of, watches_bytes}
 use Rattle.rules.specs.Sound.{watched, twin}
-use Rattle.rules.specs.World.{World, left, to, place_fits, watching, unwatching, resetting, without_watches, without_transactions, with_watches, with_transactions}
+use Rattle.rules.specs.World.{World, left, to, place_fits, watching, unwatching, resetting}
+use Rattle.rules.specs.World.{without_watches, without_transactions, with_watches, with_transactions}
 use Rattle.domains.specs.Entry.{taken, entry_or}
 use Rattle.watches.specs.Watch.{KeptWatches, depth_meant, nobody, watch_of, TakenWatch, FitWatch, named, watch_given}
 use Rattle.watches.specs.Watch as watches

@@ -17,7 +17,8 @@ use Rattle.rules.specs.Path.{Connection}
 use Rattle.rules.specs.Payload.{start, request}
 use Rattle.rules.specs.Answer.{EAGAIN, Reply, done, refused, OK}
 use Rattle.rules.specs.Layout.{Transaction, opened}
-use Rattle.rules.specs.World.{World, Outcome, fresh_world, left, to, transaction_of, starting, closing, committing, ending, handle, with_copy, with_transactions}
+use Rattle.rules.specs.World.{World, Outcome, fresh_world, left, to, transaction_of, starting, closing}
+use Rattle.rules.specs.World.{committing, ending, handle, with_copy, with_transactions}
 use Rattle.rules.specs.Call.{tx_of, outcome_of}
 use Rattle.laws.specs.History.{Call, History, request_of, served, after, run, changes, any_change, transaction_at, is_open, stays_open}
 use Rattle.laws.specs.Eagain.{Opens, Commits, EagainExactly, UndisturbedCommits, ChangedAndBackCounts, StartAnswersItsNumber, RecordedExactly}

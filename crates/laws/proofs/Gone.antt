@@ -20,7 +20,8 @@ use Rattle.rules.specs.Answer.{Errno, EACCES, ENOENT, refused, OK}
 use Rattle.rules.specs.Event.{Watch, Watches, Record, mask_of, any_bit, kept, heard, is_event, heard_of}
 use Rattle.rules.specs.Layout.{Transaction}
 use Rattle.rules.specs.Sound.{reaches_root, introduced, good_place, event_depth}
-use Rattle.rules.specs.World.{World, Outcome, fresh_world, without_transactions, without_watches, speaks_for, left, to, removal_of, releasing, for_control, handle}
+use Rattle.rules.specs.World.{World, Outcome, fresh_world, without_transactions, without_watches, speaks_for, left, to}
+use Rattle.rules.specs.World.{removal_of, releasing, for_control, handle}
 use Rattle.rules.specs.Call.{tx_of, outcome_of}
 use Rattle.rules.proofs.GoodRequests.{ParsedGood}
 use Rattle.rules.proofs.Tables.{Each}

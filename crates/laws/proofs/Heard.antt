@@ -16,7 +16,8 @@ use Rattle.rules.specs.Node.{Table, reach}
 use Rattle.rules.specs.Rights.{readable}
 use Rattle.rules.specs.Payload.{Ask, Place, path, event}
 use Rattle.rules.specs.Answer.{Reply, Change, Answer, answer}
-use Rattle.rules.specs.Event.{Watch, Watches, Record, Happening, lineage, events_of, deep_enough, may_hear, hears_at, hears, mask_of, any_bit, kept, heard_event}
+use Rattle.rules.specs.Event.{Watch, Watches, Record, Happening, lineage, events_of, deep_enough, may_hear, hears_at}
+use Rattle.rules.specs.Event.{hears, mask_of, any_bit, kept, heard_event}
 use Rattle.rules.specs.Event.{heard_change, heard}
 use Rattle.rules.specs.World.{World, Outcome, fresh_world, left, to, on_store, asked, handle}
 use Rattle.rules.specs.Call.{outcome_of}
@@ -127,7 +128,8 @@ module _ (before after : Table) (ws : Watches) (removal : Bool) (ns : Names) whe
         told-left p _ [] (subst (λ (q : Names). Tells p i (heard_event before after ws (happening q))) (sym whole) (told_here p a))
     told-among (suc k) j h p e a = go (ℕ_discrete j (suc k)) (λ l. told-among k j l p e a)
       where
-        go : Dec (j ≡ suc k) → (j ≤ k → Tells p i (told_of_lem k)) → Tells p i (heard_event before after ws (happening (take (length ns - suc k) ns)) ++ told_of_lem k)
+        go : Dec (j ≡ suc k) → (j ≤ k → Tells p i (told_of_lem k))
+            → Tells p i (heard_event before after ws (happening (take (length ns - suc k) ns)) ++ told_of_lem k)
         go (yes q) f =
             let this : p ≡ take (length ns - suc k) ns = sym e ∙ ap (λ (m : ℕ). take (length ns - m) ns) q in
             told-left p (heard_event before after ws (happening (take (length ns - suc k) ns))) (told_of_lem k)

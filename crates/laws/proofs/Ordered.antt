@@ -135,7 +135,8 @@ pub with_log : {t : Table} {cs : List Octets} {xs : Transactions} {ds : Domains}
 with_log {t} {cs} {xs} {ds} {ls} k x log o e b h =
     record { main = o.main; domains = o.domains; copies = o.copies; logs = length-set ls k log ∙ o.logs; running = λ j y p q. go j y p q (ℕ_discrete j k) }
   where
-    go : (j : ℕ) (y : Transaction) → get_or xs j none ≡ some y → y.stale ≡ false → Dec (j ≡ k) → Running t (table_of (get_or cs j [])) (get_or (set ls k log) j []) y
+    go : (j : ℕ) (y : Transaction) → get_or xs j none ≡ some y → y.stale ≡ false → Dec (j ≡ k)
+        → Running t (table_of (get_or cs j [])) (get_or (set ls k log) j []) y
     go j y p q (yes r) =
         let same : x ≡ y = some_is (sym e ∙ (ap (λ (i : ℕ). get_or xs i none) (sym r) ∙ p)) in
         subst (λ (z : Transaction). Running t (table_of (get_or cs j [])) (get_or (set ls k log) j []) z) same

@@ -228,7 +228,8 @@ room_for_records t reply events c m l =
     go (is_handled (request_verdict t reply events c m)) (omega (arith, few, most_room_as (tx_of m) p))
   where
     go : (b : Bool) → length (outcome (world_of t) c m).records ≤ most_records
-        → (cond b (delivered t reply events m (outcome (world_of t) c m)) (turned_away t reply events (call_number (request_verdict t reply events c m)))).event_count
+        → (cond b (delivered t reply events m (outcome (world_of t) c m))
+        (turned_away t reply events (call_number (request_verdict t reply events c m)))).event_count
         ≤ most_records
     go true h = h
     go false h = omega arith

@@ -174,7 +174,8 @@ module _ (w : World) (s : SoundWorld w) where
       o : Outcome
       o = outcome w l.call.sender l.call.message
 
-      chosen : (b : Bool) → cond b (result_of (tables_of w) l v (some o)) (result_of (tables_of w) l v none) ≡ result_of (tables_of w) l v (cond b (some o) none)
+      chosen : (b : Bool) → cond b (result_of (tables_of w) l v (some o)) (result_of (tables_of w) l v none)
+          ≡ result_of (tables_of w) l v (cond b (some o) none)
       chosen true = refl
       chosen false = refl
 

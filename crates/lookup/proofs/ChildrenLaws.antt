@@ -229,7 +229,8 @@ gather_done t p i n list g h =
     record {
       few = omega (arith, g.few, g.low);
       long = g.long;
-      all = g.all ∙ ap (λ (k : ℕ). children_from (table_of t) p k (drop k (table_of t))) one ∙ sym (children-all (table_of t) p (omega (arith, length-table_of t)));
+      all = g.all ∙ ap (λ (k : ℕ). children_from (table_of t) p k (drop k (table_of t))) one
+          ∙ sym (children-all (table_of t) p (omega (arith, length-table_of t)));
       asked = g.asked;
     }
 

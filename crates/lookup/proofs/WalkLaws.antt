@@ -44,7 +44,8 @@ module _ (t : Octets) (d : Domain) (i k : ℕ) (a : Asked t i) (z : k ≡ 0 → 
   unfolding owned_below
   below-own h = ap (λ (m : ℕ). owned_below m (table_of t) d i) more ∙ rw (eq-eqb (node_at (table_of t) i).owner.domain d (owner ∙ h))
 
-  pub below-others : (x ≡ d → ⊥) → (list : List ℕ) (n : ℕ) → Listed t i list n → owned_below k (table_of t) d i ≡ owned_among (k - 1) (table_of t) d (take n list)
+  pub below-others : (x ≡ d → ⊥) → (list : List ℕ) (n : ℕ) → Listed t i list n → owned_below k (table_of t) d i
+      ≡ owned_among (k - 1) (table_of t) d (take n list)
   unfolding owned_below owned_among
   below-others h list n l =
       ap (λ (m : ℕ). owned_below m (table_of t) d i) more

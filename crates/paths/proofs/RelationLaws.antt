@@ -108,7 +108,8 @@ module _ (a s : Octets) (f : is_full a ≡ true) (g : is_full s ≡ true) where
     pub rest-full : is_full (take (length s - length a) (drop (length a) s)) ≡ true
     rest-full = rw part-text (text-full beneath.rest rest-names rest-short)
 
-    pub levels-reach : (d : ℕ) → d ≡ length (names_in (take (length s - length a) (drop (length a) s))) → Levels d ≡ levels_of (beyond (names_in a) (names_in s))
+    pub levels-reach : (d : ℕ) → d ≡ length (names_in (take (length s - length a) (drop (length a) s))) → Levels d
+        ≡ levels_of (beyond (names_in a) (names_in s))
     unfolding levels_of
     levels-reach d e = rw (beneath.found, e ∙ ap length (ap names_in part-text ∙ text-names beneath.rest rest-names rest-short)) refl
 

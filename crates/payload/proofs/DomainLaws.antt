@@ -79,7 +79,8 @@ module _ (s : Octets) (e : ℕ) (one : OneString s e) where
 
 -- ── INTRODUCE ──
 
-pub introduce_other : (s : Octets) → ((a b c : ℕ) → parts_of (strings s) ≡ Three a b c → ⊥) → Means s Invalid (λ (c : Connection). introduce_payload (strings s))
+pub introduce_other : (s : Octets) → ((a b c : ℕ) → parts_of (strings s) ≡ Three a b c → ⊥)
+    → Means s Invalid (λ (c : Connection). introduce_payload (strings s))
 unfolding parts_of introduce_payload
 introduce_other s h = invalid_means s _ (λ _. by (strings s) h)
   where

@@ -148,7 +148,8 @@ unfolding entries_in
 in_fit none es h = absurd (let z : ◌≡◌ {A = ℕ} 0 1 = cc in omega arith)
 in_fit (some ts) es h = entries_fit ts es h
 
-pub entries_sound : (r : Option (List Octets)) (o : nodes.Entry) (os : List nodes.Entry) → entries_in r ≡ some (o ∷ os) → EntriesSound (added no_entries (o ∷ os))
+pub entries_sound : (r : Option (List Octets)) (o : nodes.Entry) (os : List nodes.Entry) → entries_in r ≡ some (o ∷ os)
+    → EntriesSound (added no_entries (o ∷ os))
 entries_sound r o os h =
     let k = kept-sound no_entries (o ∷ os) none-sound (in_fit r (o ∷ os) h) in
     let n = (held o os).count in

@@ -98,7 +98,8 @@ module _ (s : Octets) (e b : ℕ) (p : Path) (low : e < b) (high : b < length s)
       Means s (Unwatch p (e + 1) b) (λ (c : Connection). unwatch_payload (domain_of c) (strings s))
   unfolding meant unwatch_payload
   unwatch_means all =
-      record { meaning = λ c. sym (ap (unwatch_payload (domain_of c)) all ∙ rw (place_at_lem (domain_of c), unwatch_payload)); sound = watch-sound depth.None tt }
+      record { meaning = λ c. sym (ap (unwatch_payload (domain_of c)) all ∙ rw (place_at_lem (domain_of c), unwatch_payload)); sound = watch-sound
+          depth.None tt }
 
   module _ (x : Octets) where
     watching_at : (d : Domain) (o : Option ℕ) → number_in 0 deepest_watch x ≡ o →

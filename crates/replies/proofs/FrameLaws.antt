@@ -40,7 +40,8 @@ reply-parts : (m : Octets) (a : A.Reply) → reply_to m a ≡ header (reply_type
 unfolding reply_to header
 reply-parts m a =
     sym (append_assoc (four_bytes (reply_type (type_of m) a)) (take 8 (drop 4 m) ++ four_bytes (length (reply_payload a))) (reply_payload a)
-    ∙ ap (λ (x : Octets). four_bytes (reply_type (type_of m) a) ++ x) (append_assoc (take 8 (drop 4 m)) (four_bytes (length (reply_payload a))) (reply_payload a)))
+    ∙ ap (λ (x : Octets). four_bytes (reply_type (type_of m) a) ++ x)
+        (append_assoc (take 8 (drop 4 m)) (four_bytes (length (reply_payload a))) (reply_payload a)))
 
 -- a header put before a payload that stands in its place
 pub reply_put : (m : Octets) (a : A.Reply) (before after : Octets) (l : ℕ) → 16 ≤ length m → 16 ≤ length before →
@@ -50,7 +51,8 @@ pub reply_put : (m : Octets) (a : A.Reply) (before after : Octets) (l : ℕ) →
 reply_put m a before after l h b e q =
     let w = header-length (reply_type (type_of m) a) m (length (reply_payload a)) h in (
       e ∙ (sym (paste_append 0 (header (reply_type (type_of m) a) m (length (reply_payload a))) (reply_payload a) before (rw w b)
-          ∙ ap (λ (n : ℕ). paste 0 (header (reply_type (type_of m) a) m (length (reply_payload a))) (paste n (reply_payload a) before)) (ap (λ (n : ℕ). 0 + n) w))
+          ∙ ap (λ (n : ℕ). paste 0 (header (reply_type (type_of m) a) m (length (reply_payload a))) (paste n (reply_payload a) before))
+              (ap (λ (n : ℕ). 0 + n) w))
           ∙ ap (λ (x : Octets). paste 0 x before) (sym (reply-parts m a))),
       q ∙ sym (ap length (reply-parts m a) ∙ (length-append (header (reply_type (type_of m) a) m (length (reply_payload a))) (reply_payload a)
           ∙ ap (λ (n : ℕ). n + length (reply_payload a)) w)),

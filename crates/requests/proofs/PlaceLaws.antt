@@ -73,7 +73,8 @@ module _ (s : Octets) (p : Path) (d : Domain) (k : PathSound s p) where
       rw e q
 
   -- what is no path of a node has no names
-  rooted : (g : Given) → given_at s p ≡ g → names_from d g ≡ [] → (l l' : Octets) (n : ℕ) → Put 0 (path_text []) l l' n → Put 0 (path_text (names_at d s p)) l l' n
+  rooted : (g : Given) → given_at s p ≡ g → names_from d g ≡ [] → (l l' : Octets) (n : ℕ) → Put 0 (path_text []) l l' n
+      → Put 0 (path_text (names_at d s p)) l l' n
   rooted g e z l l' n q = rw (e, z) q
 
   pub special-root : p.form ≡ Special → (l l' : Octets) (n : ℕ) → Put 0 (path_text []) l l' n → Put 0 (path_text (names_at d s p)) l l' n

@@ -8,7 +8,8 @@ use native.Mathlib.Omega.{arith}
 use native.Mathlib.Nat.{mod-lt}
 use lib.ListN.{length, take, drop, length-take, length-map}
 use lib.Dec.{eqb, lit<, lit≤}
-use Rattle.rules.specs.Size.{longest_token, longest_path, most_changes, watch_size, watches_size, most_watches, change_size, transaction_size, most_transactions}
+use Rattle.rules.specs.Size.{longest_token, longest_path, most_changes, watch_size, watches_size, most_watches}
+use Rattle.rules.specs.Size.{change_size, transaction_size, most_transactions}
 use Rattle.rules.specs.Octets.{Octets, same, chunks, field, bits_at}
 use Rattle.rules.specs.Path.{Connection, domain_of, Given, malformed, absolute, relative, special, given, all_names, path_text, names_in}
 use Rattle.rules.specs.Payload.{Place, path, event}

@@ -51,7 +51,8 @@ child_not_root t g i name j h c z =
     let old : c.node ≡ g.root = some_is (sym c.used ∙ (ap (λ (x : ℕ). get_or t x none) z ∙ g.used)) in
     nameless (ap is_name (sym c.named ∙ (ap Node.name old ∙ g.nameless))) h
 
-found : (t : Table) → Good t → (ns : Names) (i k : ℕ) (n : Node) → At t i n → reaches_root k t i ≡ true → all_names ns ≡ true → Found t ns i k (reach_from ns t i)
+found : (t : Table) → Good t → (ns : Names) (i k : ℕ) (n : Node) → At t i n → reaches_root k t i ≡ true → all_names ns ≡ true
+    → Found t ns i k (reach_from ns t i)
 unfolding reach_from all_names
 found t g [] i k n e h a =
     record { node = n; used = e; steps = k; count = refl; reaches = h; names = refl; stops = λ name rest q. absurd (nil≢cons q); top = λ p q. (refl, q) }

@@ -102,7 +102,8 @@ pub slots_kept : (s : Octets) → length s ≡ table_size
 unfolding table_bytes table_of
 slots_kept s e h = entries_kept slot_bytes slot_of slots slot_size s e (λ i l. ap slot_bytes (sym (slot_at_lem s i l)) ∙ h i l)
 
-pub kept_slot : (s : Octets) → table_bytes (table_of s) ≡ s → (i : ℕ) → i < slots → slot_bytes (get_or (table_of s) i none) ≡ take slot_size (drop (i * slot_size) s)
+pub kept_slot : (s : Octets) → table_bytes (table_of s) ≡ s → (i : ℕ) → i < slots → slot_bytes (get_or (table_of s) i none)
+    ≡ take slot_size (drop (i * slot_size) s)
 unfolding table_bytes
 kept_slot s e i l =
     sym (encoded_at slot_bytes slot_size (table_of s) i none (each_map SlotFits _ slot-width (table_of s) (decoded_fits s).all) (rw (length-table_of s) l))

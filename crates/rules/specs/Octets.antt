@@ -1,5 +1,6 @@
 -- Bytes as lists of numbers: texts, comparisons, numbers in bytes and in decimal.
-use Rattle.std.specs.Prelude.{Bool, true, false, cond, not, ◌&&◌, ◌||◌, List, [], ◌∷◌, ◌++◌, ℕ, zero, suc, ◌+◌, ◌*◌, ◌-◌, ◌/◌, ◌%◌, ◌^◌, length, get_or, take, drop, replicate, eqb, ltb, leb}
+use Rattle.std.specs.Prelude.{Bool, true, false, cond, not, ◌&&◌, ◌||◌, List, [], ◌∷◌, ◌++◌, ℕ, zero, suc, ◌+◌, ◌*◌, ◌-◌, ◌/◌}
+use Rattle.std.specs.Prelude.{◌%◌, ◌^◌, length, get_or, take, drop, replicate, eqb, ltb, leb}
 use Rattle.std.proofs.Math.Option.{Option, none, some}
 use Prim.Native.Char.{code}
 use Prim.Native.String as S

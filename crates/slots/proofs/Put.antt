@@ -163,7 +163,8 @@ module _ (t : Octets) (k : Canonical t) (i : ℕ) (h : i < slots) where
       e ≡ entry_count t p →
       {x y z r : Octets} → x ≡ paste (i * slot_size + fields_size) (entries_bytes (heir d (node_at (table_of t) p).owner) (node_at (table_of t) p).others) t → y
       ≡ paste (i * slot_size + name_at) (padded longest_name n) x →
-      z ≡ paste (i * slot_size + value_at) (padded longest_value v) y → r ≡ paste (i * slot_size) (big_endian fields_size (fields_of p (length n) (length v) e)) z →
+      z ≡ paste (i * slot_size + value_at) (padded longest_value v) y → r
+          ≡ paste (i * slot_size) (big_endian fields_size (fields_of p (length n) (length v) e)) z →
       r ≡ table_bytes (set (table_of t) i (some (new_node d (table_of t) p n v)))
   unfolding new_node
   new_put p n v d e hp u hn hv hd he q₁ q₂ q₃ q₄ =
@@ -242,7 +243,8 @@ module _ (t : Octets) (k : Canonical t) (i : ℕ) (h : i < slots) where
 
     pub entries_put : (o : Entry) (es : List Entry) → EntryFits o → Each EntryFits es → length es ≤ 3 → (p l v e : ℕ) →
         p ≡ (node_at (table_of t) i).parent → l ≡ name_length t i → v ≡ value_length t i → e ≡ suc (length es) →
-        {x y : Octets} → x ≡ paste (i * slot_size + fields_size) (entries_bytes o es) t → y ≡ paste (i * slot_size) (big_endian fields_size (fields_of p l v e)) x →
+        {x y : Octets} → x ≡ paste (i * slot_size + fields_size) (entries_bytes o es) t → y
+            ≡ paste (i * slot_size) (big_endian fields_size (fields_of p l v e)) x →
         y ≡ table_bytes (with_entries (table_of t) i o es)
     unfolding with_entries node
     entries_put o es ho hes few p l v e hp hl hv he q r =

@@ -29,7 +29,8 @@ meant t i = node_of (chunk t i) (head t i) (field t (i * slot_size + fields_size
 
 pub slot_is : (t : Octets) (i : ℕ) → i < slots → slot_at t i ≡ cond (eqb (bits_at (head t i) 23 1) 1) (some (meant t i)) none
 unfolding slot_of head
-slot_is t i h = slot_at_lem t i h ∙ rw (field-part t (i * slot_size) slot_size 0 3 (omega arith), field-part t (i * slot_size) slot_size 3 9 (omega arith), add-zero)
+slot_is t i h = slot_at_lem t i h
+    ∙ rw (field-part t (i * slot_size) slot_size 0 3 (omega arith), field-part t (i * slot_size) slot_size 3 9 (omega arith), add-zero)
 
 pub head_bytes : (t : Octets) (i : ℕ) → i * slot_size + 2 < length t →
     head t i ≡ (get_or t (i * slot_size) 0 * 256 + get_or t (i * slot_size + 1) 0) * 256 + get_or t (i * slot_size + 2) 0

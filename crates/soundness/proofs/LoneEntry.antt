@@ -93,17 +93,20 @@ module _ (s : Octets) (bytes : (j : ℕ) → get_or s j 0 < 256) (at : ℕ) (h :
 
   pub entry-high : 32751 < domain → false ≡ Asked
   entry-high =
-      lone_high (get_or s at 0) (get_or s (at + 1) 0) (get_or s (at + 2) 0) (field s (at + 3) 4) low (field s (at + 1) 8) (bytes (at + 2)) middle_bound low_bound
+      lone_high (get_or s at 0) (get_or s (at + 1) 0) (get_or s (at + 2) 0) (field s (at + 3) 4) low (field s (at + 1) 8) (bytes (at + 2)) middle_bound
+          low_bound
       (behind-first s at h)
 
   pub entry_bits_lem : (get_or s (at + 2) 0 % 64 ≡ 0 → ⊥) → false ≡ Asked
   entry_bits_lem =
-      lone_bits (get_or s at 0) (get_or s (at + 1) 0) (get_or s (at + 2) 0) (field s (at + 3) 4) low (field s (at + 1) 8) (bytes (at + 2)) middle_bound low_bound
+      lone_bits (get_or s at 0) (get_or s (at + 1) 0) (get_or s (at + 2) 0) (field s (at + 3) 4) low (field s (at + 1) 8) (bytes (at + 2)) middle_bound
+          low_bound
       (behind-first s at h)
 
   -- what the next four bytes and the last two are read as decides
   pub entry-rest : (m l : ℕ) → Read s (at + 3) 4 m → l ≡ low → domain ≤ 32751 → get_or s (at + 2) 0 % 64 ≡ 0 → eqb m 0 && eqb l 0 ≡ Asked
   entry-rest m l e f d z =
       (λ j. eqb (e.value j) 0 && eqb (f j) 0)
-      ∙ lone_rest (get_or s at 0) (get_or s (at + 1) 0) (get_or s (at + 2) 0) (field s (at + 3) 4) low (field s (at + 1) 8) (bytes (at + 2)) middle_bound low_bound
+      ∙ lone_rest (get_or s at 0) (get_or s (at + 1) 0) (get_or s (at + 2) 0) (field s (at + 3) 4) low (field s (at + 1) 8) (bytes (at + 2)) middle_bound
+          low_bound
       (behind-first s at h) d z

@@ -102,13 +102,15 @@ unfolding may_clash
 row_new t taken keys i k p h o s e f g a n m l x y = is_false (clash n m) λ c.
     let z : k ≡ 0 → ⊥ = λ w. key_positive m (sym (e ∙ ap key_of y) ∙ w) in
     let same_key : key_of (slot_at t a) ≡ k = ap key_of x ∙ clash_keys n m c ∙ sym (e ∙ ap key_of y) in
-    let met : get_or taken p 0 ≡ 0 → ⊥ = λ w. s.each a l (ap (λ (q : ℕ). get_or taken (place_of q) 0) same_key ∙ ap (λ (q : ℕ). get_or taken q 0) (sym f) ∙ w) in
+    let met : get_or taken p 0 ≡ 0
+        → ⊥ = λ w. s.each a l (ap (λ (q : ℕ). get_or taken (place_of q) 0) same_key ∙ ap (λ (q : ℕ). get_or taken q 0) (sym f) ∙ w) in
     let among = has_key_at k keys a (omega (arith, o.long)) (o.each a l ∙ same_key) in
     true≢false (sym (both (ap not (ne_eqb k 0 z)) (both (ap not (ne_eqb (get_or taken p 0) 0 met)) among)) ∙ g)
 
 pub all_apart : (t : Octets) (i : ℕ) → slots ≤ i → Apart t i → true ≡ distinct (table_of t)
 all_apart t i h f =
-    sym (distinct_is (table_of t) ∙ at_apart clash (table_of t) (λ a b n m l p q. f a b n m l (omega (arith, at_below (table_of t) b m q, length-table_of t)) p q))
+    sym (distinct_is (table_of t)
+        ∙ at_apart clash (table_of t) (λ a b n m l p q. f a b n m l (omega (arith, at_below (table_of t) b m q, length-table_of t)) p q))
 
 -- two slots that clash
 pub pair_found : (t : Octets) (keys : List ℕ) (i j k : ℕ) → Keyed t keys i → k ≡ key_of (slot_at t i) → (k ≡ 0 → ⊥) → j < i → get_or keys j 0 ≡ k

@@ -94,7 +94,8 @@ module _ (t : Octets) (bytes : Bytes t) (whole : length t ≡ table_size) (i : �
     unfolding node_of entry_count
     others-few = length-take _ _
 
-    number : pack (node_bits (meant t i)) ≡ (((128 + head t i / 65536 % 128) * 64 + min (name_length t i) longest_name) * 128 + min (value_length t i) longest_value)
+    number : pack (node_bits (meant t i))
+        ≡ (((128 + head t i / 65536 % 128) * 64 + min (name_length t i) longest_name) * 128 + min (value_length t i) longest_value)
         * 8 + suc (min (entry_count t i - 1) 3)
     unfolding node_of bits_at pack pack_from node_bits
     number = rw (name-long, value-long, others-few) refl
@@ -127,7 +128,8 @@ module _ (t : Octets) (bytes : Bytes t) (whole : length t ≡ table_size) (i : �
         let e : pack (node_bits (meant t i)) ≡ head t i = eqb-true (pack (node_bits (meant t i))) (head t i) p in
         let u = uncut (name_length t i) (value_length t i) (entry_count t i) (mod-lt _ (omega arith)) (mod-lt _ (omega arith)) (mod-lt _ (omega arith))
         (aligned (head t i / 65536 % 128) (name_length t i) (value_length t i) (entry_count t i) (min (name_length t i) longest_name)
-        (min (value_length t i) longest_value) (min (entry_count t i - 1) 3) (pack (node_bits (meant t i))) (head t i) (fields_of_lem (head t i) bound first) number
+        (min (value_length t i) longest_value) (min (entry_count t i - 1) 3) (pack (node_bits (meant t i))) (head t i)
+            (fields_of_lem (head t i) bound first) number
         e) in
         of_sizes t i (record { name = u.0; value = u.1; least = u.2; few = u.3 }))
         (λ p.
@@ -251,13 +253,15 @@ module _ (t : Octets) (bytes : Bytes t) (whole : length t ≡ table_size) (i : �
         value_padding s = padding value_at longest_value (value_length t i) (omega arith) s.value
 
     -- the entries, as the code has them
-    pub entries_by : sized t i ≡ true → (first rest c : ℕ) → first ≡ get_or t (i * slot_size + fields_size) 0 → rest ≡ field t (i * slot_size + fields_size + 1) 8 →
+    pub entries_by : sized t i ≡ true → (first rest c : ℕ) → first ≡ get_or t (i * slot_size + fields_size) 0 → rest
+        ≡ field t (i * slot_size + fields_size + 1) 8 →
         c ≡ entry_count t i →
         kept_entries t i ≡ low_domains first rest && eqb (rest % 2 ^ (18 * (4 - c))) 0
     unfolding kept_entries entries
     entries_by e first rest c ef er ec =
         let s = sizes_of t i e in
-        let split : field t (i * slot_size + fields_size) entries_size ≡ field t (i * slot_size + fields_size) 1 * 256 ^ 8 + field t (i * slot_size + fields_size + 1)
+        let split : field t (i * slot_size + fields_size) entries_size
+            ≡ field t (i * slot_size + fields_size) 1 * 256 ^ 8 + field t (i * slot_size + fields_size + 1)
         8 = field-split t (i * slot_size + fields_size) 1 8 (omega arith) in
         let m : field t (i * slot_size + fields_size) entries_size ≡ first * 256 ^ 8 + rest = split
         ∙ rw (field_one t (i * slot_size + fields_size) (omega arith), ← ef, ← er) refl in
@@ -284,4 +288,5 @@ module _ (t : Octets) (bytes : Bytes t) (whole : length t ≡ table_size) (i : �
     unused_root e = sym (unused_slot ∙ rw (eq-eqb i 0 e) (and-false (all_zero (take (i * slot_size + slot_size - i * slot_size) (drop (i * slot_size) t)))))
 
     pub unused_other : (i ≡ 0 → ⊥) → {b : Bool} → b ≡ all_zero (take (i * slot_size + slot_size - i * slot_size) (drop (i * slot_size) t)) → b ≡ good_slot t i
-    unused_other n e = e ∙ sym (unused_slot ∙ rw (ne_eqb i 0 n) (and-true (all_zero (take (i * slot_size + slot_size - i * slot_size) (drop (i * slot_size) t)))))
+    unused_other n e = e ∙ sym
+        (unused_slot ∙ rw (ne_eqb i 0 n) (and-true (all_zero (take (i * slot_size + slot_size - i * slot_size) (drop (i * slot_size) t)))))

@@ -17,7 +17,8 @@ use Rattle.soundness.proofs.Tests.{stop, both}
 
 -- the eight bytes behind the first: four single ones, and four
 behind-first : (s : Octets) (at : ℕ) → at + entries_size ≤ length s
-    → field s (at + 1) 8 ≡ (get_or s (at + 1) 0 * 16777216 + get_or s (at + 2) 0 * 65536 + get_or s (at + 3) 0 * 256 + get_or s (at + 4) 0) * 4294967296 + field s
+    → field s (at + 1) 8 ≡ (get_or s (at + 1) 0 * 16777216 + get_or s (at + 2) 0 * 65536 + get_or s (at + 3) 0 * 256 + get_or s (at + 4) 0) * 4294967296
+        + field s
     (at + 5) 4
 behind-first s at h =
     let e2 : at + 1 + 1 ≡ at + 2 = omega arith in

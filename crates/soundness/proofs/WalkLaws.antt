@@ -49,7 +49,8 @@ up_append (suc k) ts i ns = by (eqb i 0) (up_append k ts p (n ∷ ns)) (up_appen
     by false e f = e ∙ sym (ap (λ (l : Names). l ++ ns) f ∙ append_assoc (path_up k ts p []) (n ∷ []) ns)
 
 -- a step adds the slot's name behind its parent's text
-text_step : (k : ℕ) (t : Octets) (i : ℕ) → (i ≡ 0 → ⊥) → text_to (suc k) t i ≡ text_to k t (node_at (table_of t) i).parent ++ (47 ∷ (node_at (table_of t) i).name)
+text_step : (k : ℕ) (t : Octets) (i : ℕ) → (i ≡ 0 → ⊥) → text_to (suc k) t i
+    ≡ text_to k t (node_at (table_of t) i).parent ++ (47 ∷ (node_at (table_of t) i).name)
 unfolding text_to path_up slashed
 text_step k t i n =
     rw (ne_eqb i 0 n)
@@ -95,7 +96,8 @@ steps_bound (suc k) t (suc i) = omega (arith, steps_step k t (suc i) (λ z. omeg
 -- ── whether the root is reached ──
 
 -- a slot that is not the root reaches it by its parent
-reaches_up : (k : ℕ) (ts : Table) (i : ℕ) (n : Node) → (i ≡ 0 → ⊥) → get_or ts i none ≡ some n → reaches_root (suc k) ts i ≡ reaches_root k ts (node_at ts i).parent
+reaches_up : (k : ℕ) (ts : Table) (i : ℕ) (n : Node) → (i ≡ 0 → ⊥) → get_or ts i none ≡ some n → reaches_root (suc k) ts i
+    ≡ reaches_root k ts (node_at ts i).parent
 unfolding reaches_root
 reaches_up k ts i n h e = rw (ne_eqb i 0 h, e, node-some ts i n e) refl
 

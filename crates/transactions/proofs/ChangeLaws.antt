@@ -100,7 +100,8 @@ module _ (s : Octets) (k j : ℕ) (h : HasChange s k j) where
       let body : drop changes_at (take transaction_size (drop start s)) ≡ rest ++ zeros =
       ap (drop changes_at) (row_parts s k h.place.below h.place.kept h.place.used) ∙ drop_at (three_of x) (rest ++ zeros) changes_at refl in
       sym (take-drop-take change_size (changes_at + j * change_size) transaction_size (drop start s) (omega arith)
-      ∙ ap (take change_size) (drop-drop (changes_at + j * change_size) start s ∙ ap (λ (n : ℕ). drop n s) (sym (add_assoc start changes_at (j * change_size)))))
+      ∙ ap (take change_size)
+          (drop-drop (changes_at + j * change_size) start s ∙ ap (λ (n : ℕ). drop n s) (sym (add_assoc start changes_at (j * change_size)))))
       ∙ ap (take change_size) (sym (drop-drop (j * change_size) changes_at (take transaction_size (drop start s))) ∙ ap (drop (j * change_size)) body)
       ∙ ap (take change_size) (drop-append-le (j * change_size) rest zeros (omega arith))
       ∙ take-append-le change_size (drop (j * change_size) rest) zeros (rw (length-drop, l) (omega arith))

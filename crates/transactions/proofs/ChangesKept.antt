@@ -126,7 +126,8 @@ module _ (s : Octets) (at : ℕ) (bytes : Bytes s) (h : at + change_size ≤ len
   number = get_or s at 0 * 256 + get_or s (at + 1) 0
 
   head_is : field row 0 change_fields_size ≡ number
-  head_is = field-part s at change_size 0 change_fields_size (lit≤ tt) ∙ ap (λ (p : ℕ). field s p change_fields_size) (add-zero at) ∙ field_two s at (omega arith)
+  head_is = field-part s at change_size 0 change_fields_size (lit≤ tt) ∙ ap (λ (p : ℕ). field s p change_fields_size) (add-zero at)
+      ∙ field_two s at (omega arith)
 
   fields : (bits_at (field row 0 change_fields_size) 15 1 ≡ get_or s at 0 / 128) × (bits_at (field row 0 change_fields_size) 9 3 ≡ get_or s at 0 / 2 % 8)
       × (bits_at (field row 0 change_fields_size) 0 9 ≡ number % 512)

@@ -152,7 +152,8 @@ module _ (s : Octets) (k : ℕ) (h : k < most_transactions) (bytes : Bytes s) (w
       head_fields = rw (field_three s at (omega arith)) (three_fields _ _ _ (bytes at) (bytes (at + 1)) (bytes (at + 2)))
 
       place_body : place ≡ take changes_at (drop at s) ++ body
-      place_body = take-add changes_at changes_size (drop at s) ∙ ap (λ (r : Octets). take changes_at (drop at s) ++ take changes_size r) (drop-drop changes_at at s)
+      place_body = take-add changes_at changes_size (drop at s)
+          ∙ ap (λ (r : Octets). take changes_at (drop at s) ++ take changes_size r) (drop-drop changes_at at s)
 
       body_is : drop changes_at place ≡ body
       body_is = drop-take_add changes_at changes_size (drop at s) ∙ ap (take changes_size) (drop-drop changes_at at s)

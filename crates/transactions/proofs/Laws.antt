@@ -120,7 +120,8 @@ module _ (s : Octets) (k : ℕ) (h : k < most_transactions) where
     first_three : get_or s at 0 ∷ get_or s (at + 1) 0 ∷ get_or s (at + 2) 0 ∷ [] ≡ three_of x
     first_three =
         let whole = c.whole in
-        first-listed s at transaction_size changes_at (three_of x) (padded changes_size (flat_map change_bytes x.changes)) (lit≤ tt) (omega arith) refl row_parts
+        first-listed s at transaction_size changes_at (three_of x) (padded changes_size (flat_map change_bytes x.changes)) (lit≤ tt) (omega arith) refl
+            row_parts
 
     pub first_is : get_or s at 0 ≡ 128 + 64 * bit x.stale + length x.changes
     first_is = let e = first_three in cc

@@ -121,7 +121,8 @@ module _ (s : Octets) (c : KeptTransactions s) (k : ℕ) (h : k < most_transacti
 
   -- ── stale ──
 
-  pub left-stale : taken (get_or (transactions_of s) k none) ≡ false → s ≡ transactions_bytes (set (transactions_of s) k (stale_of (get_or (transactions_of s) k none)))
+  pub left-stale : taken (get_or (transactions_of s) k none) ≡ false → s
+      ≡ transactions_bytes (set (transactions_of s) k (stale_of (get_or (transactions_of s) k none)))
   unfolding stale_of
   left-stale f =
       let e = free_none (get_or (transactions_of s) k none) f in

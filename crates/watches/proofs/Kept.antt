@@ -287,7 +287,8 @@ module _ (s : Octets) (k : ℕ) (h : k < most_watches) (bytes : Bytes s) (whole 
           rw (placed.1, depth_byte.0, depth_byte.1, path-long, token-long, f, ← owner_is s k h bytes whole, o.0, o.1, ← ls.0, ← ls.1, n.0, n.1)
           (sym (six_listed s at (omega arith)))
 
-      pub kept_rests : kept ≡ (rest_zero s (at + watch_fields_size) (path_length s k) longest_path && rest_zero s (at + token_at) (token_length s k) longest_token)
+      pub kept_rests : kept
+          ≡ (rest_zero s (at + watch_fields_size) (path_length s k) longest_path && rest_zero s (at + token_at) (token_length s k) longest_token)
       kept_rests =
           let n = read_narrow row head in
           let pl = part_length s (at + watch_fields_size) longest_path (omega arith) in

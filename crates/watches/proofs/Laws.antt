@@ -31,7 +31,8 @@ use Rattle.watches.proofs.Bytes.{place_short, place-whole, marks_back, lengths_b
 -- ── place k of a table ──
 
 pub six_listed : (s : Octets) (p : ℕ) → p + watch_fields_size ≤ length s
-    → take watch_fields_size (drop p s) ≡ get_or s p 0 ∷ get_or s (p + 1) 0 ∷ get_or s (p + 2) 0 ∷ get_or s (p + 3) 0 ∷ get_or s (p + 4) 0 ∷ get_or s (p + 5) 0 ∷ []
+    → take watch_fields_size (drop p s)
+        ≡ get_or s p 0 ∷ get_or s (p + 1) 0 ∷ get_or s (p + 2) 0 ∷ get_or s (p + 3) 0 ∷ get_or s (p + 4) 0 ∷ get_or s (p + 5) 0 ∷ []
 six_listed s p h = listed_from s p watch_fields_size (omega arith)
 
 module _ (s : Octets) (k : ℕ) (h : k < most_watches) where
@@ -112,7 +113,8 @@ module _ (s : Octets) (k : ℕ) (h : k < most_watches) where
     unfolding watch_at
     owner-read u r w = owner_two r w ∙ sym (ap Watch.owner (is_read u))
 
-    pub depth-read : taken (get_or (watches_of s) k none) ≡ true → (watch_of s k).depth ≡ cond (eqb (get_or s at 0 / 32 % 2) 1) (some (get_or s (at + 1) 0)) none
+    pub depth-read : taken (get_or (watches_of s) k none) ≡ true → (watch_of s k).depth
+        ≡ cond (eqb (get_or s at 0 / 32 % 2) 1) (some (get_or s (at + 1) 0)) none
     unfolding watch_at
     depth-read u = ap Watch.depth (is_read u) ∙ rw (marks.1, marks.2)
 

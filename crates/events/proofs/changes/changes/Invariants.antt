@@ -15,7 +15,8 @@ abbrev pub invariant-loop-j : goal.invariant-loop-j
 invariant-loop-j l =
     (l.count ≡ length (transaction_of l.transactions l.k).changes)
     × (l.count ≤ most_changes)
-    × Entered (heard_change (table_of l.before) (table_of l.after) (watches_of l.watches)) deepest (transaction_of l.transactions l.k).changes 0 l.initial.events l.events l.j l.n
+    × Entered (heard_change (table_of l.before) (table_of l.after) (watches_of l.watches)) deepest (transaction_of l.transactions l.k).changes 0
+        l.initial.events l.events l.j l.n
 
 abbrev pub decreases-loop-j : goal.decreases-loop-j
 decreases-loop-j l = l.count - l.j

@@ -13,7 +13,8 @@ use Rattle.events.proofs.changes.removals.Given as goal
 
 abbrev pub invariant-loop-i : goal.invariant-loop-i
 invariant-loop-i l =
-    Entered (heard_change (table_of l.before) (table_of l.after) (watches_of l.watches)) 1 (map (removal_of (table_of l.before)) (take l.count l.list)) 0 l.initial.events l.events l.i l.n
+    Entered (heard_change (table_of l.before) (table_of l.after) (watches_of l.watches)) 1 (map (removal_of (table_of l.before)) (take l.count l.list)) 0
+        l.initial.events l.events l.i l.n
 
 abbrev pub decreases-loop-i : goal.decreases-loop-i
 decreases-loop-i l = l.count - l.i

@@ -19,9 +19,12 @@ path-own-requires c = taken c
 
 pub returns-then-not-begins : goal.returns-then-not-begins
 returns-then-not-begins c =
-    deaf _ _ (taken (goal.at.returns-then-not-begins c).Else-not-used) _ c.path-own.ensures _ _ _ (sym c.begins.ensures ∙ c.if-not-begins.true)
+    let places = goal.at.returns-then-not-begins c in
+    deaf _ _ (taken places.Else-not-used) _ c.path-own.ensures _ _ _ (sym c.begins.ensures ∙ c.if-not-begins.true)
 
-on : (c : Else-not-begins) → OnPath c.args.watches.now c.args.k (taken_here c.requires.0 c.requires.1.kept c.used.ensures c.if-not-used.false-raw) c.path-own.result.now c.path-own.ensures
+on : (c : Else-not-begins)
+    → OnPath c.args.watches.now c.args.k (taken_here c.requires.0 c.requires.1.kept c.used.ensures c.if-not-used.false-raw) c.path-own.result.now
+        c.path-own.ensures
 on c = on_path _ _ _ _ _ (sym c.begins.ensures ∙ c.if-not-begins.false)
 
 pub domain-requires : goal.domain-requires
@@ -36,5 +39,6 @@ hears_on-requires c =
 
 pub returns : goal.returns
 returns c =
+    let places = goal.at.returns c in
     c.hears_on.ensures _ c.domain.ensures c.depth.ensures
-    ∙ hears_so _ _ (taken (goal.at.returns c).Else-not-used) _ c.path-own.ensures _ _ _ (on (goal.at.returns c).Else-not-begins)
+    ∙ hears_so _ _ (taken places.Else-not-used) _ c.path-own.ensures _ _ _ (on places.Else-not-begins)

@@ -34,12 +34,14 @@ returns-then-not-heard c = due_unheard _ _ _ _ (in_use (goal.at.returns-then-not
 
 pub returns-then-n-lt-SHORTEST_PATH : goal.returns-then-n-lt-SHORTEST_PATH
 returns-then-n-lt-SHORTEST_PATH c =
-    due_empty _ _ _ _ (in_use (goal.at.returns-then-n-lt-SHORTEST_PATH c).Else-not-used) (is-heard (goal.at.returns-then-n-lt-SHORTEST_PATH c).Else-not-heard) _ c.path_length-n.ensures c.if-n-lt-SHORTEST_PATH.true
+    let places = goal.at.returns-then-n-lt-SHORTEST_PATH c in
+    due_empty _ _ _ _ (in_use places.Else-not-used) (is-heard places.Else-not-heard) _ c.path_length-n.ensures c.if-n-lt-SHORTEST_PATH.true
 
 pub returns-then-n-gt-LONGEST_PATH : goal.returns-then-n-gt-LONGEST_PATH
 returns-then-n-gt-LONGEST_PATH c =
+    let places = goal.at.returns-then-n-gt-LONGEST_PATH c in
     let length-is = c.path_length-n.ensures in
-    due-long _ _ _ _ (in_use (goal.at.returns-then-n-gt-LONGEST_PATH c).Else-not-used) (is-heard (goal.at.returns-then-n-gt-LONGEST_PATH c).Else-not-heard) _ length-is c.if-n-lt-SHORTEST_PATH.false c.if-n-gt-LONGEST_PATH.true
+    due-long _ _ _ _ (in_use places.Else-not-used) (is-heard places.Else-not-heard) _ length-is c.if-n-lt-SHORTEST_PATH.false c.if-n-gt-LONGEST_PATH.true
 
 pub concerns-requires : goal.concerns-requires
 concerns-requires c =
@@ -47,8 +49,9 @@ concerns-requires c =
 
 pub returns : goal.returns
 returns c =
+    let places = goal.at.returns c in
     let args = c.args in
     let length-is = c.path_length-n.ensures in
     c.concerns.ensures
     ∙ ap (λ (p : Octets). concerns p (watch_of args.watches.now args.k).place) c.path.ensures
-    ∙ due-concerns _ _ _ _ (in_use (goal.at.returns c).Else-not-used) (is-heard (goal.at.returns c).Else-not-heard) _ length-is c.if-n-lt-SHORTEST_PATH.false c.if-n-gt-LONGEST_PATH.false
+    ∙ due-concerns _ _ _ _ (in_use places.Else-not-used) (is-heard places.Else-not-heard) _ length-is c.if-n-lt-SHORTEST_PATH.false c.if-n-gt-LONGEST_PATH.false

@@ -44,9 +44,10 @@ path-p-requires c = (c.if-record-ge-RECORDS.false, c.requires.1, due-short _ _ _
 
 pub reported-requires : goal.reported-requires
 reported-requires c =
+    let places = goal.at.reported-requires c in
     let args = c.args in
     let e = ap (λ (p : Octets). concerns p (watch_of args.watches.now args.watch).place) c.path-p.ensures in
-    (used (goal.at.reported-requires c).Else-not-due, e ∙ due_concerned _ _ _ _ (is-due (goal.at.reported-requires c).Else-not-due))
+    (used places.Else-not-due, e ∙ due_concerned _ _ _ _ (is-due places.Else-not-due))
 
 pub token-requires : goal.token-requires
 token-requires c =
@@ -55,8 +56,9 @@ token-requires c =
 
 pub put_message-requires : goal.put_message-requires
 put_message-requires c =
-    let f = watch-fits c.args.watches.now c.args.watch (used (goal.at.put_message-requires c).Else-not-due) in
-    let short : length c.path-p.result.now ≤ longest_path = rw c.path-p.ensures (path-short _ _ _ _ (is-due (goal.at.put_message-requires c).Else-not-due)) in
+    let places = goal.at.put_message-requires c in
+    let f = watch-fits c.args.watches.now c.args.watch (used places.Else-not-due) in
+    let short : length c.path-p.result.now ≤ longest_path = rw c.path-p.ensures (path-short _ _ _ _ (is-due places.Else-not-due)) in
     (rw c.reported.ensures (reported-short _ _ f.place short), rw c.token.ensures f.token, c.requires.2)
 
 pub returns : goal.returns

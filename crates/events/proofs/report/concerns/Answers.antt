@@ -40,18 +40,21 @@ slashed c =
 
 pub returns-then-not-begins : goal.returns-then-not-begins
 returns-then-not-begins c =
-    c.is_domain_path.ensures ∙ concern_event _ _ (differs (goal.at.returns-then-not-begins c).Else-same) (unslashed (goal.at.returns-then-not-begins c).Then-not-begins)
+    let places = goal.at.returns-then-not-begins c in
+    c.is_domain_path.ensures ∙ concern_event _ _ (differs places.Else-same) (unslashed places.Then-not-begins)
 
 pub returns-then-is_below : goal.returns-then-is_below
 returns-then-is_below c =
+    let places = goal.at.returns-then-is_below c in
     let record-path = c.args.p.now in
-    concern_below record-path _ (fits (goal.at.returns-then-is_below c).After-path-own) (differs (goal.at.returns-then-is_below c).Else-same) (slashed (goal.at.returns-then-is_below c).Else-not-begins)
+    concern_below record-path _ (fits places.After-path-own) (differs places.Else-same) (slashed places.Else-not-begins)
     (told (λ (x : Octets). is_below x record-path) c.is_below.ensures c.path-own.ensures c.if-is_below.true)
 
 pub returns : goal.returns
 returns c =
+    let places = goal.at.returns c in
     let record-path = c.args.p.now in
     c.is_below-2.ensures
     ∙ ap (is_below record-path) c.path-own.ensures
-    ∙ concern_above record-path _ (fits (goal.at.returns c).After-path-own) (differs (goal.at.returns c).Else-same) (slashed (goal.at.returns c).Else-not-begins)
+    ∙ concern_above record-path _ (fits places.After-path-own) (differs places.Else-same) (slashed places.Else-not-begins)
     (told (λ (x : Octets). is_below x record-path) c.is_below.ensures c.path-own.ensures c.if-is_below.false)

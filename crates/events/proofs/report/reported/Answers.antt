@@ -26,7 +26,8 @@ used c = taken-watch c.args.watches.now c.args.k c.requires.0
 fits : (c : After-path-own) → PlaceFits (watch_of c.args.watches.now c.args.k).place
 fits c = (watch-fits c.args.watches.now c.args.k c.requires.0).place
 
-good : (c : After-path-own) → good_place (watch_of c.args.watches.now c.args.k).owner (watch_of c.args.watches.now c.args.k).depth (watch_of c.args.watches.now c.args.k).place ≡ true
+good : (c : After-path-own)
+    → good_place (watch_of c.args.watches.now c.args.k).owner (watch_of c.args.watches.now c.args.k).depth (watch_of c.args.watches.now c.args.k).place ≡ true
 good c = good-place c.args.watches.now c.args.k c.requires.0
 
 unslashed : (c : Then-not-begins) → begins (47 ∷ []) (place_text (watch_of c.args.watches.now c.args.k).place) ≡ false
@@ -66,17 +67,20 @@ cut-requires c =
 
 pub returns-then-is_below : goal.returns-then-is_below
 returns-then-is_below c =
+    let places = goal.at.returns-then-is_below c in
     c.cut.ensures
     ∙ cut-same c.relative-r.ensures c.domain-d.ensures c.path-own.ensures
-    ∙ report_nearer _ _ (fits (goal.at.returns-then-is_below c).After-path-own) (slashed (goal.at.returns-then-is_below c).Else-not-begins) (above (goal.at.returns-then-is_below c).After-is_below true c.if-is_below.true)
+    ∙ report_nearer _ _ (fits places.After-path-own) (slashed places.Else-not-begins) (above places.After-is_below true c.if-is_below.true)
 
 pub cut-requires-2 : goal.cut-requires-2
 cut-requires-2 c =
-    further_room (watch_of c.args.watches.now c.args.k) (good (goal.at.cut-requires-2 c).After-path-own) c.relative-r.ensures c.domain-d.ensures _ c.requires.1
-    (above (goal.at.cut-requires-2 c).After-is_below false c.if-is_below.false)
+    let places = goal.at.cut-requires-2 c in
+    further_room (watch_of c.args.watches.now c.args.k) (good places.After-path-own) c.relative-r.ensures c.domain-d.ensures _ c.requires.1
+    (above places.After-is_below false c.if-is_below.false)
 
 pub returns : goal.returns
 returns c =
+    let places = goal.at.returns c in
     c.cut-2.ensures
     ∙ cut-same c.relative-r.ensures c.domain-d.ensures refl
-    ∙ report_further _ _ (fits (goal.at.returns c).After-path-own) (slashed (goal.at.returns c).Else-not-begins) (above (goal.at.returns c).After-is_below false c.if-is_below.false)
+    ∙ report_further _ _ (fits places.After-path-own) (slashed places.Else-not-begins) (above places.After-is_below false c.if-is_below.false)

@@ -32,13 +32,17 @@ pub returns-then-not-sound : goal.returns-then-not-sound
 returns-then-not-sound c = sym (unsound-nodes _ (sym c.sound.ensures ∙ c.if-not-sound.true))
 
 pub returns-then-not-sound_domains : goal.returns-then-not-sound_domains
-returns-then-not-sound_domains c = sym (unsound-domains _ (nodes-sound (goal.at.returns-then-not-sound_domains c).Else-not-sound) (sym c.sound_domains.ensures ∙ c.if-not-sound_domains.true))
+returns-then-not-sound_domains c =
+    let places = goal.at.returns-then-not-sound_domains c in
+    sym (unsound-domains _ (nodes-sound places.Else-not-sound) (sym c.sound_domains.ensures ∙ c.if-not-sound_domains.true))
 
 pub sound_watches-requires : goal.sound_watches-requires
 sound_watches-requires c = (sized (goal.at.sound_watches-requires c).Start).domains
 
 pub returns-then-not-sound_watches : goal.returns-then-not-sound_watches
-returns-then-not-sound_watches c = sym (unsound-watches _ (nodes-sound (goal.at.returns-then-not-sound_watches c).Else-not-sound) (domains-sound (goal.at.returns-then-not-sound_watches c).Else-not-sound_domains)
+returns-then-not-sound_watches c =
+    let places = goal.at.returns-then-not-sound_watches c in
+    sym (unsound-watches _ (nodes-sound places.Else-not-sound) (domains-sound places.Else-not-sound_domains)
     (sym c.sound_watches.ensures ∙ c.if-not-sound_watches.true))
 
 pub sound_entries-requires : goal.sound_entries-requires
@@ -46,7 +50,8 @@ sound_entries-requires c = (sized (goal.at.sound_entries-requires c).Start).doma
 
 pub returns-then-not-sound_entries : goal.returns-then-not-sound_entries
 returns-then-not-sound_entries c =
-    sym (unsound_entries _ (nodes-sound (goal.at.returns-then-not-sound_entries c).Else-not-sound) (domains-sound (goal.at.returns-then-not-sound_entries c).Else-not-sound_domains) (watches-sound (goal.at.returns-then-not-sound_entries c).Else-not-sound_watches)
+    let places = goal.at.returns-then-not-sound_entries c in
+    sym (unsound_entries _ (nodes-sound places.Else-not-sound) (domains-sound places.Else-not-sound_domains) (watches-sound places.Else-not-sound_watches)
     (sym c.sound_entries.ensures ∙ c.if-not-sound_entries.true))
 
 pub sound_copies-requires : goal.sound_copies-requires
@@ -54,6 +59,7 @@ sound_copies-requires c = let z = sized (goal.at.sound_copies-requires c).Start 
 
 pub returns : goal.returns
 returns c =
+    let places = goal.at.returns c in
     c.sound_copies.ensures
-    ∙ sym (copies-left _ (nodes-sound (goal.at.returns c).Else-not-sound) (domains-sound (goal.at.returns c).Else-not-sound_domains) (watches-sound (goal.at.returns c).Else-not-sound_watches)
+    ∙ sym (copies-left _ (nodes-sound places.Else-not-sound) (domains-sound places.Else-not-sound_domains) (watches-sound places.Else-not-sound_watches)
     (sym c.sound_entries.ensures ∙ c.if-not-sound_entries.false))

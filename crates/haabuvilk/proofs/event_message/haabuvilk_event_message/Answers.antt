@@ -25,25 +25,35 @@ watches-sound : (c : Else-not-sound_watches) → sound_watches (domains_of c.arg
 watches-sound c = sym c.sound_watches.ensures ∙ c.if-not-sound_watches.false
 
 pub returns-then-not-sound_domains : goal.returns-then-not-sound_domains
-returns-then-not-sound_domains c = unsound-domains _ _ _ _ (sized (goal.at.returns-then-not-sound_domains c).Else-not-sized_message) _ _ _ (sym c.sound_domains.ensures ∙ c.if-not-sound_domains.true)
+returns-then-not-sound_domains c =
+    let places = goal.at.returns-then-not-sound_domains c in
+    unsound-domains _ _ _ _ (sized places.Else-not-sized_message) _ _ _ (sym c.sound_domains.ensures ∙ c.if-not-sound_domains.true)
 
 pub sound_watches-requires : goal.sound_watches-requires
 sound_watches-requires c = (lent-sized _ _ _ _ (sized (goal.at.sound_watches-requires c).Else-not-sized_message)).0
 
 pub returns-then-not-sound_watches : goal.returns-then-not-sound_watches
-returns-then-not-sound_watches c = unsound-watches _ _ _ _ (sized (goal.at.returns-then-not-sound_watches c).Else-not-sized_message) _ _ _ (domains-sound (goal.at.returns-then-not-sound_watches c).Else-not-sound_domains)
+returns-then-not-sound_watches c =
+    let places = goal.at.returns-then-not-sound_watches c in
+    unsound-watches _ _ _ _ (sized places.Else-not-sized_message) _ _ _ (domains-sound places.Else-not-sound_domains)
     (sym c.sound_watches.ensures ∙ c.if-not-sound_watches.true)
 
 pub message-requires : goal.message-requires
-message-requires c = let s = lent-sized _ _ _ _ (sized (goal.at.message-requires c).Else-not-sized_message) in
-    (record { domains = _; sound = watches-sound (goal.at.message-requires c).Else-not-sound_watches }, s.1, s.2)
+message-requires c =
+    let places = goal.at.message-requires c in
+    let s = lent-sized _ _ _ _ (sized places.Else-not-sized_message) in
+    (record { domains = _; sound = watches-sound places.Else-not-sound_watches }, s.1, s.2)
 
 pub returns-in-Message : goal.returns-in-Message
 unfolding call_number
 returns-in-Message c =
-    answered _ _ _ _ (sized (goal.at.returns-in-Message c).Else-not-sized_message) _ _ _ (domains-sound (goal.at.returns-in-Message c).Else-not-sound_domains) _ _ _ (watches-sound (goal.at.returns-in-Message c).Else-not-sound_watches) c.in-Message.is c.message.ensures
+    let places = goal.at.returns-in-Message c in
+    answered _ _ _ _ (sized places.Else-not-sized_message) _ _ _ (domains-sound places.Else-not-sound_domains) _ _ _
+        (watches-sound places.Else-not-sound_watches) c.in-Message.is c.message.ensures
 
 pub returns-in-Nothing : goal.returns-in-Nothing
 unfolding call_number
 returns-in-Nothing c =
-    answered _ _ _ _ (sized (goal.at.returns-in-Nothing c).Else-not-sized_message) _ _ _ (domains-sound (goal.at.returns-in-Nothing c).Else-not-sound_domains) _ _ _ (watches-sound (goal.at.returns-in-Nothing c).Else-not-sound_watches) c.in-Nothing.is c.message.ensures
+    let places = goal.at.returns-in-Nothing c in
+    answered _ _ _ _ (sized places.Else-not-sized_message) _ _ _ (domains-sound places.Else-not-sound_domains) _ _ _
+        (watches-sound places.Else-not-sound_watches) c.in-Nothing.is c.message.ensures

@@ -21,9 +21,12 @@ sized : (c : Else-not-sized_tables) → sized_tables (its-tables c) ≡ true
 sized c = sym c.sized_tables.ensures ∙ c.if-not-sized_tables.false
 
 pub root_only-requires : goal.root_only-requires
-root_only-requires c = (tables-sized (its-tables (goal.at.root_only-requires c).Else-not-sized_tables) (sized (goal.at.root_only-requires c).Else-not-sized_tables)).nodes
+root_only-requires c =
+    let places = goal.at.root_only-requires c in
+    (tables-sized (its-tables places.Else-not-sized_tables) (sized places.Else-not-sized_tables)).nodes
 
 pub returns : goal.returns
 returns c =
-    fresh_done (its-tables (goal.at.returns c).Else-not-sized_tables) (sized (goal.at.returns c).Else-not-sized_tables) c.root_only.ensures c.empty.ensures c.empty-2.ensures
+    let places = goal.at.returns c in
+    fresh_done (its-tables places.Else-not-sized_tables) (sized places.Else-not-sized_tables) c.root_only.ensures c.empty.ensures c.empty-2.ensures
     c.empty-3.ensures c.empty-4.ensures

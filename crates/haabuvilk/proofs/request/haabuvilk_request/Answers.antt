@@ -12,7 +12,9 @@ use Rattle.haabuvilk.proofs.request.haabuvilk_request.Goals.{Else-v-ne-TO_HANDLE
 pub returns-then-v-ne-TO_HANDLE : goal.returns-then-v-ne-TO_HANDLE
 returns-then-v-ne-TO_HANDLE c = turned_away_lem _ _ _ _ _ _ c.verdict-v.ensures c.if-v-ne-TO_HANDLE.true
 
-ready_for : (c : Else-v-ne-TO_HANDLE) → Ready (tables c.args.nodes.now c.args.copies.now c.args.watches.now c.args.transactions.now c.args.domains.now) c.args.sender c.args.reply.now c.args.events.now c.args.message.now
+ready_for : (c : Else-v-ne-TO_HANDLE)
+    → Ready (tables c.args.nodes.now c.args.copies.now c.args.watches.now c.args.transactions.now c.args.domains.now) c.args.sender c.args.reply.now
+        c.args.events.now c.args.message.now
 ready_for c = ready _ _ _ _ _ (sym c.verdict-v.ensures ∙ c.if-v-ne-TO_HANDLE.false)
 
 pub number32-kind-requires : goal.number32-kind-requires
@@ -40,8 +42,9 @@ framed-requires c =
 
 pub overflow_cast-event_count : goal.overflow_cast-event_count
 overflow_cast-event_count c =
+    let places = goal.at.overflow_cast-event_count c in
     let t = tables c.args.nodes.now c.args.copies.now c.args.watches.now c.args.transactions.now c.args.domains.now in
-    omega (arith, records_fit (c.handle-o.ensures (world_of t) (shown t _ _) []) (ready_for (goal.at.overflow_cast-event_count c).Else-v-ne-TO_HANDLE).events (search rules))
+    omega (arith, records_fit (c.handle-o.ensures (world_of t) (shown t _ _) []) (ready_for places.Else-v-ne-TO_HANDLE).events (search rules))
 
 pub returns : goal.returns
 returns c =

@@ -14,7 +14,8 @@ returns-then-domains-ne-DOMAINS_SIZE c = sym (rw (eq-eqb _ _ c.if-watches-ne-WAT
 
 pub returns-then-events-ne-EVENTS_SIZE : goal.returns-then-events-ne-EVENTS_SIZE
 unfolding sized_message
-returns-then-events-ne-EVENTS_SIZE c = sym (rw (eq-eqb _ _ c.if-watches-ne-WATCHES_SIZE.false, eq-eqb _ _ c.if-domains-ne-DOMAINS_SIZE.false, ne_eqb _ _ c.if-events-ne-EVENTS_SIZE.true))
+returns-then-events-ne-EVENTS_SIZE c = sym
+    (rw (eq-eqb _ _ c.if-watches-ne-WATCHES_SIZE.false, eq-eqb _ _ c.if-domains-ne-DOMAINS_SIZE.false, ne_eqb _ _ c.if-events-ne-EVENTS_SIZE.true))
 
 pub returns : goal.returns
 unfolding sized_message

@@ -14,7 +14,8 @@ returns-then-copies-ne-COPIES_SIZE c = sym (rw (eq-eqb _ _ c.if-nodes-ne-TABLE_S
 
 pub returns-then-watches-ne-WATCHES_SIZE : goal.returns-then-watches-ne-WATCHES_SIZE
 unfolding sized_tables
-returns-then-watches-ne-WATCHES_SIZE c = sym (rw (eq-eqb _ _ c.if-nodes-ne-TABLE_SIZE.false, eq-eqb _ _ c.if-copies-ne-COPIES_SIZE.false, ne_eqb _ _ c.if-watches-ne-WATCHES_SIZE.true))
+returns-then-watches-ne-WATCHES_SIZE c = sym
+    (rw (eq-eqb _ _ c.if-nodes-ne-TABLE_SIZE.false, eq-eqb _ _ c.if-copies-ne-COPIES_SIZE.false, ne_eqb _ _ c.if-watches-ne-WATCHES_SIZE.true))
 
 pub returns-then-transactions-ne-TRANSACTIONS_SIZE : goal.returns-then-transactions-ne-TRANSACTIONS_SIZE
 unfolding sized_tables

@@ -13,7 +13,8 @@ use Rattle.lookup.proofs.ChildrenLaws.{has-name, listed, placed, not_placed, pla
 use Rattle.lookup.proofs.children.place.Given as goal
 
 abbrev pub invariant-loop-k : goal.invariant-loop-k
-invariant-loop-k l = (l.k ≤ l.n) × (insert (table_of l.t) l.j (take l.n l.list) ≡ take l.k (take l.n l.list) ++ insert (table_of l.t) l.j (drop l.k (take l.n l.list)))
+invariant-loop-k l = (l.k ≤ l.n)
+    × (insert (table_of l.t) l.j (take l.n l.list) ≡ take l.k (take l.n l.list) ++ insert (table_of l.t) l.j (drop l.k (take l.n l.list)))
 
 abbrev pub decreases-loop-k : goal.decreases-loop-k
 decreases-loop-k l = l.n - l.k

@@ -13,7 +13,8 @@ use Rattle.making.proofs.making.make.Given as goal
 
 abbrev pub invariant-loop-t : goal.invariant-loop-t
 invariant-loop-t l =
-    ToMake l.path l.value l.domain (made (left_at l.path l.at) l.slot l.domain l.value (table_of l.initial.t)) l.parent l.from l.t × (length l.t ≡ length l.initial.t)
+    ToMake l.path l.value l.domain (made (left_at l.path l.at) l.slot l.domain l.value (table_of l.initial.t)) l.parent l.from l.t
+        × (length l.t ≡ length l.initial.t)
 
 abbrev pub decreases-loop-t : goal.decreases-loop-t
 decreases-loop-t l = length l.path - l.from

@@ -22,7 +22,8 @@ returns-then-not-may_set c =
 
 pub returns-then-entries-gt-MOST_ENTRIES : goal.returns-then-entries-gt-MOST_ENTRIES
 returns-then-entries-gt-MOST_ENTRIES c =
-    refused_so c.args.domain _ c.args.t.now (sound_canonical _ c.requires.0.standing.sound) _ c.args.reply.now _ _ c.refusal-then-entries-gt-MOST_ENTRIES.ensures
+    refused_so c.args.domain _ c.args.t.now (sound_canonical _ c.requires.0.standing.sound) _ c.args.reply.now _ _
+        c.refusal-then-entries-gt-MOST_ENTRIES.ensures
     (perms_many _ _ _ _ _ c.reach-reached.ensures c.if-reached-path.false _ _
     (sym (c.may_set.ensures _ _ refl) ∙ c.if-not-may_set.false)
     (omega (arith, length-others c.args.entries c.requires.1.some-entry, c.if-entries-gt-MOST_ENTRIES.true)))

@@ -27,7 +27,9 @@ pub returns-then-not-plain_form : goal.returns-then-not-plain_form
 returns-then-not-plain_form c = malformed _ (sym c.plain_form.ensures ∙ c.if-not-plain_form.true)
 
 pub returns-then-len-gt-MOST_DIGITS : goal.returns-then-len-gt-MOST_DIGITS
-returns-then-len-gt-MOST_DIGITS c = large _ (plain (goal.at.returns-then-len-gt-MOST_DIGITS c).Else-not-plain_form) (plain-long _ (plain (goal.at.returns-then-len-gt-MOST_DIGITS c).Else-not-plain_form) c.if-len-gt-MOST_DIGITS.true)
+returns-then-len-gt-MOST_DIGITS c =
+    let places = goal.at.returns-then-len-gt-MOST_DIGITS c in
+    large _ (plain places.Else-not-plain_form) (plain-long _ (plain places.Else-not-plain_form) c.if-len-gt-MOST_DIGITS.true)
 
 pub overflow_sub-last : goal.overflow_sub-last
 overflow_sub-last c = (last (goal.at.overflow_sub-last c).Else-not-plain_form).0
@@ -37,9 +39,10 @@ slice_bounds-value-end c = sym (length-take-le _ c.args.s.now (omega arith))
 
 pub value-front-requires : goal.value-front-requires
 value-front-requires c =
+    let places = goal.at.value-front-requires c in
     let s = c.args.s.now in
     let few : length s - 1 ≤ 19 = omega arith in
-    (digits_take s (length s - 1) (plain_digits _ (plain (goal.at.value-front-requires c).Else-not-plain_form)), rw (length-take-le (length s - 1) s (omega arith)) few)
+    (digits_take s (length s - 1) (plain_digits _ (plain places.Else-not-plain_form)), rw (length-take-le (length s - 1) s (omega arith)) few)
 
 pub bounds-s-last : goal.bounds-s-last
 bounds-s-last c = omega (arith, last (goal.at.bounds-s-last c).Else-not-plain_form)
@@ -55,13 +58,15 @@ overflow_sub-unit c = omega (arith, last (goal.at.overflow_sub-unit c).Else-not-
 
 pub returns-then-unit-front : goal.returns-then-unit-front
 returns-then-unit-front c =
-    large _ (plain (goal.at.returns-then-unit-front c).Else-not-plain_form) (omega (arith, last (goal.at.returns-then-unit-front c).Else-not-plain_form, c.value-front.ensures))
+    let places = goal.at.returns-then-unit-front c in
+    large _ (plain places.Else-not-plain_form) (omega (arith, last places.Else-not-plain_form, c.value-front.ensures))
 
 pub overflow_add-result : goal.overflow_add-result
 overflow_add-result c = omega (arith, last (goal.at.overflow_add-result c).Else-not-plain_form)
 
 pub returns : goal.returns
 returns c =
-    let known = last (goal.at.returns c).Else-not-plain_form in
+    let places = goal.at.returns c in
+    let known = last places.Else-not-plain_form in
     let first = c.value-front.ensures in
-    valued _ _ (plain (goal.at.returns c).Else-not-plain_form) (omega arith) (omega arith)
+    valued _ _ (plain places.Else-not-plain_form) (omega arith) (omega arith)

@@ -12,7 +12,8 @@ use Rattle.octets.proofs.written.put_decimal.Given as goal
 abbrev pub invariant-loop-i : goal.invariant-loop-i
 invariant-loop-i l =
     (l.i ≤ length (decimal l.n))
-    × ((length l.into ≡ length l.initial.into) × ((decimal l.n ≡ last_digits l.i l.left ++ drop l.i (decimal l.n)) × (l.into ≡ paste (l.at + l.i) (drop l.i (decimal l.n)) l.initial.into)))
+    × ((length l.into ≡ length l.initial.into)
+        × ((decimal l.n ≡ last_digits l.i l.left ++ drop l.i (decimal l.n)) × (l.into ≡ paste (l.at + l.i) (drop l.i (decimal l.n)) l.initial.into)))
 
 abbrev pub decreases-loop-i : goal.decreases-loop-i
 decreases-loop-i l = l.i

@@ -36,8 +36,9 @@ loop-at-smaller c = omega (arith, ended (goal.at.loop-at-smaller c).After-name_e
 
 pub loop-at-preserved : goal.loop-at-preserved
 loop-at-preserved c =
+    let places = goal.at.loop-at-preserved c in
     let h : c.loop-at.at ≤ length c.args.s.now = omega arith in
-    (omega (arith, ended (goal.at.loop-at-preserved c).After-name_end-end), c.loop-at.invariant.1 ∙ short_further _ _ h _ c.name_end-end.ensures c.if-end-at-gt-LONGEST_NAME.false)
+    (omega (arith, ended places.After-name_end-end), c.loop-at.invariant.1 ∙ short_further _ _ h _ c.name_end-end.ensures c.if-end-at-gt-LONGEST_NAME.false)
 
 pub returns : goal.returns
 returns c = sym (c.loop-at.invariant.1 ∙ short_over _ _ c.loop-at-test.false)

@@ -41,7 +41,9 @@ pub slice_bounds-small-end : goal.slice_bounds-small-end
 slice_bounds-small-end c = sym (length-take-le _ _ (let t = three (goal.at.slice_bounds-small-end c).In-Three in omega arith))
 
 pub returns-in_default-small : goal.returns-in_default-small
-returns-in_default-small c = introduce_no_domain _ _ _ _ (three (goal.at.returns-in_default-small c).In-Three) (first (goal.at.returns-in_default-small c).After-small _ c.in_default-small.is)
+returns-in_default-small c =
+    let places = goal.at.returns-in_default-small c in
+    introduce_no_domain _ _ _ _ (three places.In-Three) (first places.After-small _ c.in_default-small.is)
 
 pub overflow_add-second : goal.overflow_add-second
 overflow_add-second c =
@@ -59,7 +61,8 @@ slice_bounds-signed-end c = let t = three (goal.at.slice_bounds-signed-end c).In
 
 pub returns-in_default-signed : goal.returns-in_default-signed
 returns-in_default-signed c =
-    introduce_no_page _ _ _ _ (three (goal.at.returns-in_default-signed c).In-Three) _ (first (goal.at.returns-in_default-signed c).After-small _ c.in-Is.is) (second (goal.at.returns-in_default-signed c).After-signed _ c.in_default-signed.is)
+    let places = goal.at.returns-in_default-signed c in
+    introduce_no_page _ _ _ _ (three places.In-Three) _ (first places.After-small _ c.in-Is.is) (second places.After-signed _ c.in_default-signed.is)
 
 pub overflow_add-third : goal.overflow_add-third
 overflow_add-third c =
@@ -77,10 +80,12 @@ slice_bounds-small-end-2 c = let t = three (goal.at.slice_bounds-small-end-2 c).
 
 pub returns-in_default-small-2 : goal.returns-in_default-small-2
 returns-in_default-small-2 c =
-    introduce_no_channel _ _ _ _ (three (goal.at.returns-in_default-small-2 c).In-Three) _ (first (goal.at.returns-in_default-small-2 c).After-small _ c.in-Is.is) _ (second (goal.at.returns-in_default-small-2 c).After-signed _ c.in-Is-signed.is)
-    (third (goal.at.returns-in_default-small-2 c).After-small-2 _ c.in_default-small-2.is)
+    let places = goal.at.returns-in_default-small-2 c in
+    introduce_no_channel _ _ _ _ (three places.In-Three) _ (first places.After-small _ c.in-Is.is) _ (second places.After-signed _ c.in-Is-signed.is)
+    (third places.After-small-2 _ c.in_default-small-2.is)
 
 pub returns : goal.returns
 returns c =
-    introduce_means _ _ _ _ (three (goal.at.returns c).In-Three) _ (first (goal.at.returns c).After-small _ c.in-Is.is) _ (second (goal.at.returns c).After-signed _ c.in-Is-signed.is) _
-    (third (goal.at.returns c).After-small-2 _ c.in-Is-small.is)
+    let places = goal.at.returns c in
+    introduce_means _ _ _ _ (three places.In-Three) _ (first places.After-small _ c.in-Is.is) _ (second places.After-signed _ c.in-Is-signed.is) _
+    (third places.After-small-2 _ c.in-Is-small.is)

@@ -33,8 +33,11 @@ pub slice_bounds-small-end : goal.slice_bounds-small-end
 slice_bounds-small-end c = sym (length-take-le _ _ (omega (arith, (one (goal.at.slice_bounds-small-end c).In-One).high)))
 
 pub returns-in_default-small : goal.returns-in_default-small
-returns-in_default-small c = domain_not _ _ (one (goal.at.returns-in_default-small c).In-One) _ _ (read (goal.at.returns-in_default-small c).After-small _ c.in_default-small.is)
+returns-in_default-small c =
+    let places = goal.at.returns-in_default-small c in
+    domain_not _ _ (one places.In-One) _ _ (read places.After-small _ c.in_default-small.is)
 
 pub returns : goal.returns
 returns c =
-    domain_means _ _ (one (goal.at.returns c).In-One) _ _ _ (read (goal.at.returns c).After-small _ c.in-Is.is) c.about.ensures
+    let places = goal.at.returns c in
+    domain_means _ _ (one places.In-One) _ _ _ (read places.After-small _ c.in-Is.is) c.about.ensures

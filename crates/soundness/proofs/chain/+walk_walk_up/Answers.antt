@@ -77,8 +77,9 @@ walk-up-step c =
 
 pub walk_up-returns-in_default : goal.walk_up-returns-in_default
 walk_up-returns-in_default t c =
+    let places = goal.at.walk_up-returns-in_default t c in
     let args = c.args in
-    walked_lost _ _ args.steps args.i _ (walk-up-step (goal.at.walk_up-returns-in_default t c).After-parent) _ _ c.walk-up.ensures c.in_default.is
+    walked_lost _ _ args.steps args.i _ (walk-up-step places.After-parent) _ _ c.walk-up.ensures c.in_default.is
 
 walk-up-count : {t : ℕ} (c : walk_up-In-Root t) → c.in-Root.n < deepest
 walk-up-count c =
@@ -86,7 +87,8 @@ walk-up-count c =
     omega (
       arith,
       p.4,
-      walked_count _ _ c.args.steps c.args.i _ (record { below = p.0; left = p.3; used = p.2; parent = c.parent.ensures.1 }) _ _ c.walk-up.ensures _ _ c.in-Root.is,
+      walked_count _ _ c.args.steps c.args.i _ (record { below = p.0; left = p.3; used = p.2; parent = c.parent.ensures.1 }) _ _ c.walk-up.ensures _ _
+          c.in-Root.is,
     )
 
 pub walk_up-overflow_add-result : goal.walk_up-overflow_add-result
@@ -94,8 +96,9 @@ walk_up-overflow_add-result t c = record { fits = omega (arith, walk-up-count (g
 
 pub walk_up-returns-then-into-eq0 : goal.walk_up-returns-then-into-eq0
 walk_up-returns-then-into-eq0 t c =
+    let places = goal.at.walk_up-returns-then-into-eq0 t c in
     let args = c.args in
-    walked_bare _ _ args.steps args.i _ (walk-up-step (goal.at.walk_up-returns-then-into-eq0 t c).After-parent) _ _ c.walk-up.ensures _ _ c.in-Root.is
+    walked_bare _ _ args.steps args.i _ (walk-up-step places.After-parent) _ _ c.walk-up.ensures _ _ c.in-Root.is
     (sym c.walk-up.auto.into ∙ c.if-into-eq0.true)
 
 walk-up-filled : {t : ℕ} (c : walk_up-Else-into-eq0 t) → length c.args.into.now ≡ 0 → ⊥
@@ -107,7 +110,8 @@ walk-up-room : {t : ℕ} (c : walk_up-Else-into-eq0 t)
 walk-up-room c =
     let p = c.requires in
     let n = walk-up-filled c in (
-      walked_place _ _ c.args.steps c.args.i _ (record { below = p.0; left = p.3; used = p.2; parent = c.parent.ensures.1 }) _ _ c.walk-up.ensures _ _ c.in-Root.is n
+      walked_place _ _ c.args.steps c.args.i _ (record { below = p.0; left = p.3; used = p.2; parent = c.parent.ensures.1 }) _ _ c.walk-up.ensures _ _
+          c.in-Root.is n
           p.4,
       omega (arith, c.walk-up.auto.into, p.5.room n),
     )
@@ -136,9 +140,10 @@ walk_up-overflow_add-result-3 t c = record { fits = omega (arith, (walk-up-room 
 
 pub walk_up-overflow_add-result-4 : goal.walk_up-overflow_add-result-4
 walk_up-overflow_add-result-4 t c =
+    let places = goal.at.walk_up-overflow_add-result-4 t c in
     let args = c.args in
     record {
-      fits = omega (arith, (walk-up-room (goal.at.walk_up-overflow_add-result-4 t c).Else-into-eq0).0, ap length c.name-s.ensures, name-short args.t.now args.i);
+      fits = omega (arith, (walk-up-room places.Else-into-eq0).0, ap length c.name-s.ensures, name-short args.t.now args.i);
     }
 
 pub walk_up-shape_of-into : goal.walk_up-shape_of-into
@@ -148,7 +153,8 @@ walk_up-shape_of-into t c =
 
 pub walk_up-returns : goal.walk_up-returns
 walk_up-returns t c =
+    let places = goal.at.walk_up-returns t c in
     let args = c.args in
     let len = c.walk-up.auto.into in
-    walked_up _ _ args.steps args.i _ (walk-up-step (goal.at.walk_up-returns t c).After-parent) _ _ c.walk-up.ensures _ _ c.in-Root.is
-    (walk-up-filled (goal.at.walk_up-returns t c).Else-into-eq0) len (omega (arith, walk-up-room (goal.at.walk_up-returns t c).Else-into-eq0, len)) _ c.name-s.ensures _ c.copy.ensures
+    walked_up _ _ args.steps args.i _ (walk-up-step places.After-parent) _ _ c.walk-up.ensures _ _ c.in-Root.is
+    (walk-up-filled places.Else-into-eq0) len (omega (arith, walk-up-room places.Else-into-eq0, len)) _ c.name-s.ensures _ c.copy.ensures

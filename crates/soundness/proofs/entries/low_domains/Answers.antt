@@ -16,8 +16,10 @@ returns-then-rest-gt-LAST_DOMAIN c = pass (le-leb _ _ c.if-first-rest-gt-LAST_DO
 
 pub returns-then-rest-gt-LAST_DOMAIN-2 : goal.returns-then-rest-gt-LAST_DOMAIN-2
 unfolding low_domains
-returns-then-rest-gt-LAST_DOMAIN-2 c = pass (le-leb _ _ c.if-first-rest-gt-LAST_DOMAIN.false) (pass (le-leb _ _ c.if-rest-gt-LAST_DOMAIN.false) (stop _ (lt-leb _ _ c.if-rest-gt-LAST_DOMAIN-2.true)))
+returns-then-rest-gt-LAST_DOMAIN-2 c = pass (le-leb _ _ c.if-first-rest-gt-LAST_DOMAIN.false)
+    (pass (le-leb _ _ c.if-rest-gt-LAST_DOMAIN.false) (stop _ (lt-leb _ _ c.if-rest-gt-LAST_DOMAIN-2.true)))
 
 pub returns : goal.returns
 unfolding low_domains
-returns c = pass (le-leb _ _ c.if-first-rest-gt-LAST_DOMAIN.false) (pass (le-leb _ _ c.if-rest-gt-LAST_DOMAIN.false) (pass (le-leb _ _ c.if-rest-gt-LAST_DOMAIN-2.false) refl))
+returns c = pass (le-leb _ _ c.if-first-rest-gt-LAST_DOMAIN.false)
+    (pass (le-leb _ _ c.if-rest-gt-LAST_DOMAIN.false) (pass (le-leb _ _ c.if-rest-gt-LAST_DOMAIN-2.false) refl))

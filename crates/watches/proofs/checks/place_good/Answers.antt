@@ -59,15 +59,18 @@ pub known_sender-requires : goal.known_sender-requires
 known_sender-requires c = c.requires.2
 
 pub returns-then-not-known_sender : goal.returns-then-not-known_sender
-returns-then-not-known_sender c = sym (good-unknown _ _ _ (a-watch (goal.at.returns-then-not-known_sender c).Else-not-used).used (owner-known (goal.at.returns-then-not-known_sender c).After-known_sender ∙ c.if-not-known_sender.true))
+returns-then-not-known_sender c =
+    let places = goal.at.returns-then-not-known_sender c in
+    sym (good-unknown _ _ _ (a-watch places.Else-not-used).used (owner-known places.After-known_sender ∙ c.if-not-known_sender.true))
 
 pub token-t-requires : goal.token-t-requires
 token-t-requires c = a-watch (goal.at.token-t-requires c).Else-not-used
 
 pub returns-then-not-no_nul : goal.returns-then-not-no_nul
 returns-then-not-no_nul c =
-    let is_Known = owner-known (goal.at.returns-then-not-no_nul c).After-known_sender ∙ c.if-not-known_sender.false in
-    sym (good-nul _ _ _ (a-watch (goal.at.returns-then-not-no_nul c).Else-not-used).used is_Known (token-clean (goal.at.returns-then-not-no_nul c).After-no_nul ∙ c.if-not-no_nul.true))
+    let places = goal.at.returns-then-not-no_nul c in
+    let is_Known = owner-known places.After-known_sender ∙ c.if-not-known_sender.false in
+    sym (good-nul _ _ _ (a-watch places.Else-not-used).used is_Known (token-clean places.After-no_nul ∙ c.if-not-no_nul.true))
 
 pub path-p-requires : goal.path-p-requires
 path-p-requires c = a-watch (goal.at.path-p-requires c).Else-not-used
@@ -80,15 +83,17 @@ relative-requires c = a-watch (goal.at.relative-requires c).Else-not-used
 
 pub good_place-requires : goal.good_place-requires
 good_place-requires c =
-    let w = a-watch (goal.at.good_place-requires c).Else-not-used in
-    read_same _ _ w.below (bytes (goal.at.good_place-requires c).Else-not-used) w.kept w.used c.relative.ensures c.path-p.ensures
+    let places = goal.at.good_place-requires c in
+    let w = a-watch places.Else-not-used in
+    read_same _ _ w.below (bytes places.Else-not-used) w.kept w.used c.relative.ensures c.path-p.ensures
 
 pub returns-then-not-good_place : goal.returns-then-not-good_place
 returns-then-not-good_place c =
-    let watch = a-watch (goal.at.returns-then-not-good_place c).Else-not-used in
-    let is_Known = owner-known (goal.at.returns-then-not-good_place c).After-known_sender ∙ c.if-not-known_sender.false in
-    let is-clean = token-clean (goal.at.returns-then-not-good_place c).After-no_nul ∙ c.if-not-no_nul.false in
-    sym (good_misplaced _ _ _ watch.used is_Known is-clean (place-good (goal.at.returns-then-not-good_place c).After-good_place ∙ c.if-not-good_place.true))
+    let places = goal.at.returns-then-not-good_place c in
+    let watch = a-watch places.Else-not-used in
+    let is_Known = owner-known places.After-known_sender ∙ c.if-not-known_sender.false in
+    let is-clean = token-clean places.After-no_nul ∙ c.if-not-no_nul.false in
+    sym (good_misplaced _ _ _ watch.used is_Known is-clean (place-good places.After-good_place ∙ c.if-not-good_place.true))
 
 pub watched_from-requires : goal.watched_from-requires
 watched_from-requires c =
@@ -97,10 +102,11 @@ watched_from-requires c =
 
 pub returns : goal.returns
 returns c =
-    let watch = a-watch (goal.at.returns c).Else-not-used in
-    let is_Known = owner-known (goal.at.returns c).After-known_sender ∙ c.if-not-known_sender.false in
-    let is-clean = token-clean (goal.at.returns c).After-no_nul ∙ c.if-not-no_nul.false in
-    let is-placed = place-good (goal.at.returns c).After-good_place ∙ c.if-not-good_place.false in
+    let places = goal.at.returns c in
+    let watch = a-watch places.Else-not-used in
+    let is_Known = owner-known places.After-known_sender ∙ c.if-not-known_sender.false in
+    let is-clean = token-clean places.After-no_nul ∙ c.if-not-no_nul.false in
+    let is-placed = place-good places.After-good_place ∙ c.if-not-good_place.false in
     let later = c.watched_from.ensures in
     let path = c.path-p.ensures in
     ap not (rw (c.owner-c.ensures, path, c.token-t.ensures) at later)

@@ -42,14 +42,16 @@ returns-then-s-at-lt128 c =
 
 pub returns-then-n-gt-LONGEST_PATH : goal.returns-then-n-gt-LONGEST_PATH
 returns-then-n-gt-LONGEST_PATH c =
+    let places = goal.at.returns-then-n-gt-LONGEST_PATH c in
     let pre = c.requires in
-    sym (kept-long _ _ pre.0 (bytes (goal.at.returns-then-n-gt-LONGEST_PATH c).Else-s-at-lt128) pre.1 c.if-s-at-lt128.false (rw (← c.path_length-n.ensures) c.if-n-gt-LONGEST_PATH.true))
+    sym (kept-long _ _ pre.0 (bytes places.Else-s-at-lt128) pre.1 c.if-s-at-lt128.false (rw (← c.path_length-n.ensures) c.if-n-gt-LONGEST_PATH.true))
 
 pub returns-then-not-place_same : goal.returns-then-not-place_same
 returns-then-not-place_same c =
+    let places = goal.at.returns-then-not-place_same c in
     let pre = c.requires in
     let place = sym c.place_same.ensures ∙ c.if-not-place_same.true in
-    sym (kept_unplaced _ _ pre.0 (bytes (goal.at.returns-then-not-place_same c).Else-s-at-lt128) pre.1 c.if-s-at-lt128.false (rw c.path_length-n.ensures at place))
+    sym (kept_unplaced _ _ pre.0 (bytes places.Else-s-at-lt128) pre.1 c.if-s-at-lt128.false (rw c.path_length-n.ensures at place))
 
 pub returns-then-not-fields_same : goal.returns-then-not-fields_same
 returns-then-not-fields_same c =
