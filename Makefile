@@ -6,7 +6,7 @@ help:
 	@echo 'make test     the gate: layout, every proof, every must-fail edit, every program, the archive against the model, the daemon; ends in rt'\''s verdict'
 	@echo 'make check    between landings: the same over what changed since BASE=REV (default: since the branch left origin/main), not from nothing'
 	@echo 'make worked   prove the rule book and list the worked lines that hold'
-	@echo 'make programs prove and build target/bin/trace and target/bin/worked, and hold what they print to document 01'
+	@echo 'make programs prove, build and run crates/trace/out/trace and crates/worked/out/worked, and hold what they print to document 01'
 	@echo 'make archive  prove the library and write target/staticlib/libhaabuvilk.a; run, clients, soak and bench do it first where it is missing or old'
 	@echo 'make run      start the daemon on run/socket, guest 1 on run/guest-1; Ctrl-C ends it'
 	@echo 'make clients  drive xenstore'\''s own tools and pyxs against the daemon (installs both from Debian if missing)'
@@ -14,16 +14,13 @@ help:
 	@echo 'make bench    what a call costs, in one table'
 
 test:
-	rt fmt --check
-	sh tests/review-sheet.sh
-	sh tests/rule-edits.sh
-	sh tests/gate.sh
+	@sh tests/gate.sh
 
 check:
 	@sh tests/check.sh $(BASE)
 
 worked:
-	rt check rules
+	@sh tests/prove.sh rules
 	@sed -n 's/.*says = "\([^"]*\)".*/holds: \1/p' crates/rules/specs/Worked.antt
 
 # The proved library, unless HAABUVILK_LIB names a folder that has it.
@@ -46,4 +43,4 @@ bench: archive
 	@sh tests/cargo.sh run -q --release -p bench
 
 programs:
-	rt check trace worked
+	@sh tests/prove.sh trace worked

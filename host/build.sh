@@ -3,7 +3,7 @@
 set -eu
 cd "$(dirname "$0")/.."
 lib=${HAABUVILK_LIB:-target/staticlib}
-[ -f "$lib/libhaabuvilk.a" ] || { echo "$lib/libhaabuvilk.a is missing: rt staticlib haabuvilk writes it"; exit 1; }
+[ -f "$lib/libhaabuvilk.a" ] || { echo "$lib/libhaabuvilk.a is missing: make archive writes it"; exit 1; }
 out=$1
 shift
 mkdir -p "$(dirname "$out")"

@@ -1,8 +1,8 @@
 #!/bin/sh
 # The gate's checks over what changed since a revision, for work between landings: tests/check.sh [REV]. What rt has proved before is not proved again.
 # Without REV: since this branch left origin/main, or since the commit before the last one where there is no origin/main.
-# A crate has changed if one of its files or its line of crates.txt has; the must-fail edits of the changed crates alone are tried, and the rule edits
-# if the rules, the laws or the edits themselves have changed.
+# A crate has changed if one of its files or its line of crates.txt has; the layout and the must-fail edits of the changed crates alone are looked at,
+# and the rule edits are tried if the rules, the laws or the edits themselves have changed.
 set -eu
 cd "$(dirname "$0")/.."
 unset HAABUVILK_LIB
@@ -19,30 +19,35 @@ changed() {
     printf '%s\n' "$files" | grep -q "^$1"
 }
 
-needs() {
-    sed -n "s/#.*//; s/^$1: *//p"
+# A crate's line of crates.txt.
+line_of() {
+    sed -n "s/ *#.*//; /^$1[ :]/p"
 }
 
-# Tries the edits of the changed crates in a copy of the repository that has no others.
-try_edits() {
-    mkdir "$copy/target" "$copy/tests"
-    cp -r crates crates.txt "$copy"
-    cp -r target/rlib target/stamp "$copy/target"
-    cp tests/edit-logs.sh "$copy/tests"
-    for crate in "$copy"/crates/*; do
-        case " $crates " in *" ${crate##*/} "*) ;; *) rm -rf "$crate/must-fail" ;; esac
+# Lays the changed crates out in a copy, and says what moved there.
+look_at_layout() {
+    for crate in $crates; do
+        mkdir "$copy/$crate"
+        for part in src specs proofs; do
+            [ ! -d "crates/$crate/$part" ] || cp -r "crates/$crate/$part" "$copy/$crate"
+        done
+        (cd "$copy/$crate" && rt fmt) > "$copy/said" 2>&1 || { cat "$copy/said"; return 1; }
+        ! grep -q '^rt: formatted' "$copy/said" || { sed -n "s|^rt: formatted |check: not laid out: crates/$crate/|p" "$copy/said"; return 1; }
     done
-    # shellcheck disable=SC2086
-    { (cd "$copy" && rt must-fail $crates) 2>&1 || touch "$copy/failed"; } | sed -u '/unchanged since it was last proved/d'
-    [ ! -e "$copy/failed" ]
-    sh "$copy/tests/edit-logs.sh"
+}
+
+# shellcheck disable=SC2086
+try_edits() {
+    { rt must-fail $crates 2>&1 || touch "$copy/failed"; } | tee "$copy/edits"
+    [ ! -e "$copy/failed" ] || return 1
+    sh tests/edit-logs.sh "$copy/edits" $crates
 }
 
 crates=
 others=0
 edits=0
 for crate in $(sh tests/order.sh); do
-    if changed "crates/$crate/" || [ "$(needs "$crate" < crates.txt)" != "$(git show "$base:crates.txt" | needs "$crate")" ]; then
+    if changed "crates/$crate/" || [ "$(line_of "$crate" < crates.txt)" != "$(git show "$base:crates.txt" | line_of "$crate")" ]; then
         crates="$crates $crate"
         edits=$((edits + $(find "crates/$crate" -path '*/must-fail/*.edit' | wc -l)))
     else
@@ -52,7 +57,7 @@ done
 echo "check: since $since changed:${crates:- no crate}"
 
 step='layout'
-rt fmt --check
+look_at_layout
 step='review sheet'
 sh tests/review-sheet.sh
 checked='layout, review sheet'
@@ -67,7 +72,7 @@ else
 fi
 
 step='proofs'
-sh tests/prove.sh check
+sh tests/prove.sh
 checked="$checked, proofs and programs"
 
 step='must-fail edits'

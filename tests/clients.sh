@@ -5,7 +5,7 @@ set -eu
 cd "$(dirname "$0")/.."
 if ! command -v xenstore-read > /dev/null || ! /usr/bin/python3 -c 'import pyxs' 2> /dev/null; then
     echo 'clients: installing xenstore-utils and python3-pyxs'
-    apt-get install -y -qq xenstore-utils python3-pyxs > /dev/null || { echo 'clients: apt-get cannot install them'; exit 1; }
+    { apt-get -qq update && apt-get install -y -qq xenstore-utils python3-pyxs; } > /dev/null || { echo 'clients: apt-get cannot install them'; exit 1; }
 fi
 sh host/build.sh build/host/haabuvilkd
 folder=$(mktemp -d)

@@ -1,5 +1,5 @@
 #!/bin/sh
-# Prints the crates that NAMES need, themselves among them, in the order in which rt proves them: tests/order.sh NAMES. With no name: all crates.
+# Prints the crates that NAMES need, themselves among them, each after those that it stands on: tests/order.sh NAMES. With no name: all crates.
 set -eu
 cd "$(dirname "$0")/.."
 sed 's/#.*//' crates.txt | awk -F: -v wanted="$*" '
@@ -14,7 +14,8 @@ sed 's/#.*//' crates.txt | awk -F: -v wanted="$*" '
         }
         print level[name] ":" name
     }
-    NF == 2 { needs[$1] = $2; all = all " " $1 }
+    # The name may have a word behind it: staticlib.
+    NF == 2 { split($1, words, " "); needs[words[1]] = $2; all = all " " words[1] }
     END {
         count = split(wanted == "" ? all : wanted, names, " ")
         for (i = 1; i <= count; i++) visit(names[i])

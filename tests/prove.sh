@@ -1,70 +1,50 @@
 #!/bin/sh
-# rt with a line for each crate in place of a page: tests/prove.sh check [NAMES], or tests/prove.sh staticlib NAME.
+# Proves NAMES and the crates that they need, with a line for each in place of a page: tests/prove.sh NAMES. With no name: all crates.
 # A line says which crate is being proved, how far that is, how long its last proof took (build/proof-times keeps it) and how it went.
-# What rt says of a crate is printed only if the crate is not proved.
+# Of a static library the archive is written too, and a program is run and held to its file stdout. What rt has proved before is not proved again.
+# What rt says of a crate is printed only if it fails, and then nothing more is tried.
 set -eu
 cd "$(dirname "$0")/.."
 mkdir -p build
 times=build/proof-times
 output=build/proof.out
 touch $times
-command=$1
-shift
 crates=$(sh tests/order.sh "$@")
 count=$(echo "$crates" | wc -w)
+at=0
 
-# The next crate's line, without its end.
-announce() {
+# Proves the crate $1, and sets `how` if it fails.
+prove() {
+    how='NOT PROVED'
+    if [ ! -f "crates/$1/src/main.rt" ]; then
+        (cd "crates/$1" && rt lib) > $output 2>&1 || return 1
+        return 0
+    fi
+    input="crates/$1/stdin"
+    [ -f "$input" ] || input=/dev/null
+    (cd "crates/$1" && rt run) < "$input" 2> $output > build/printed || return 1
+    how='WRITES SOMETHING ELSE'
+    cmp build/printed "crates/$1/stdout" >> $output 2>&1
+}
+
+for crate in $crates; do
+    at=$((at + 1))
+    seconds=$(sed -n "s/^$crate //p" $times)
+    printf 'proof: %d of %d: %s%s: ' $at "$count" "$crate" "${seconds:+ ($seconds s last time)}"
     began=$(date +%s)
-    : > $output
-    [ "$crates" ] || return 0
-    next=${crates%%[!a-z0-9_]*}
-    seconds=$(sed -n "s/^$next //p" $times)
-    printf 'proof: %d of %d: %s%s: ' $((count - $(echo "$crates" | wc -w) + 1)) "$count" "$next" "${seconds:+ ($seconds s last time)}"
-}
-
-# The end of a crate's line, and the next one's start: ended NAME HOW [SECONDS]
-ended() {
-    [ "$1" = "$next" ] || printf '%s ' "$1"
-    echo "$2"
-    case $2 in NOT*) cat $output ;; esac
-    if [ "${3:-}" ]; then
-        { grep -v "^$1 " $times || true; echo "$1 $3"; } > $times.new
+    if ! prove "$crate"; then
+        echo "$how"
+        cat $output
+        echo "proof: FAILED: $crate"
+        exit 1
+    fi
+    # Where it was proved, rt's verdict is there.
+    if grep -q '^logic=proved' $output; then
+        seconds=$(($(date +%s) - began))
+        echo "proved in $seconds s"
+        { grep -v "^$crate " $times || true; echo "$crate $seconds"; } > $times.new
         mv $times.new $times
+    else
+        echo unchanged
     fi
-    crates=$(echo "$crates" | grep -vx "$1" || true)
-    announce
-}
-
-{
-    status=0
-    rt "$command" "$@" 2>&1 || status=$?
-    echo "status $status"
-} | {
-    announce
-    while IFS= read -r line; do
-        name=${line#rt: }
-        name=${name%%[!a-z0-9_]*}
-        case $line in
-        "rt: $name proved (unchanged"*) ended "$name" unchanged ;;
-        "rt: $name proved ("*)
-            seconds=${line##*(}
-            ended "$name" "proved in ${seconds%)}" "${seconds%% *}"
-            ;;
-        "rt: $name NOT PROVED"*) ended "$name" "${line#"rt: $name "}" ;;
-        'rt: target/staticlib/'*)
-            seconds=$(($(date +%s) - began))
-            ended "$next" "proved in $seconds s" $seconds
-            ;;
-        'rt: FAILED:'*) [ -z "$crates" ] || { echo 'not tried'; crates=; }; echo "$line" ;;
-        'status '[0-9]*) status=${line#status } ;;
-        *) if [ "$crates" ]; then printf '%s\n' "$line" >> $output; else printf '%s\n' "$line"; fi ;;
-        esac
-    done
-    if [ "$crates" ]; then
-        crates=$next
-        ended "$next" 'NOT PROVED'
-        [ "$status" -ne 0 ] || status=1
-    fi
-    exit "$status"
-}
+done

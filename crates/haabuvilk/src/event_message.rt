@@ -7,8 +7,7 @@ use events::Sent;
 use watches::checks::sound_watches;
 
 // Puts the event message to the front of the lent buffer, and answers 0; or 1, 2 or 6 with the buffer unaltered.
-#[unsafe(no_mangle)]
-pub extern "C" fn haabuvilk_event_message<'a>(
+pub fn haabuvilk_event_message<'a>(
     watches: &'a [u8],
     domains: &[u8],
     events: &'a [u8],

@@ -28,8 +28,7 @@ fn root_only(nodes: &mut [u8])
 }
 
 // Fills the tables with the fresh store, and answers 0; or 1 with nothing altered, where a size is wrong.
-#[unsafe(no_mangle)]
-pub extern "C" fn haabuvilk_fresh(
+pub fn haabuvilk_fresh(
     nodes: &mut [u8],
     copies: &mut [u8],
     watches: &mut [u8],

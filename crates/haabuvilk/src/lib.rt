@@ -1,4 +1,4 @@
-// The calls that the daemon's C side makes.
+// The calls that the daemon's C side makes. The crate haabuvilk_c exports them.
 #![tactic(auto)]
 
 pub mod checks;

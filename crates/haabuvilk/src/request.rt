@@ -13,8 +13,7 @@ use senders::Sender;
 const TO_HANDLE: u32 = 0;
 
 // Handles a message and answers 0; or answers another call number with all four results 0 and nothing lent altered.
-#[unsafe(no_mangle)]
-pub extern "C" fn haabuvilk_request(
+pub fn haabuvilk_request(
     nodes: &mut [u8],
     copies: &mut [u8],
     watches: &mut [u8],

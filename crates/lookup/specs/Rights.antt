@@ -21,5 +21,9 @@ ground_meant Owner = R.owner
 ground_meant (Entry k) = R.entry k
 ground_meant Default = R.default
 
+-- the rule book's decision, of its parts
+abbrev pub decided : (access : ℕ) (ground : R.Ground) → R.Access
+decided a g = record { access = a; ground = g }
+
 abbrev pub access_meant : Access → R.Access
-access_meant a = record { access = a.access; ground = ground_meant a.ground }
+access_meant a = decided a.access (ground_meant a.ground)

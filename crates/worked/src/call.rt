@@ -2,7 +2,7 @@
 ghost use Rattle.std.specs.Prelude.{◌≡◌, ◌≤◌, ◌-◌, length};
 ghost use Rattle.rules.specs.Size.{reply_size};
 
-use crate::events::print_events;
+use crate::event_lines::print_events;
 use crate::form::{before_sender, sender, times};
 use crate::print::print_reply;
 use crate::words::{behind, number, type_of, word};

@@ -7,7 +7,7 @@
 ghost use Rattle.std.specs.Prelude.{◌<◌, ◌≤◌, length};
 
 mod call;
-mod events;
+mod event_lines;
 mod form;
 mod print;
 mod words;

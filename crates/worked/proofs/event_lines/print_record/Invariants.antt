@@ -1,6 +1,6 @@
 -- A turn for each of the 16 watches.
 use Rattle.std.proofs.Common.{◌≤◌, ◌-◌}
-use Rattle.worked.proofs.events.print_record.Given as goal
+use Rattle.worked.proofs.event_lines.print_record.Given as goal
 
 abbrev pub invariant-loop-watch : goal.invariant-loop-watch
 invariant-loop-watch g l = l.watch ≤ 16
