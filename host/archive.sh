@@ -1,7 +1,7 @@
 #!/bin/sh
 # The proved library, target/staticlib/libhaabuvilk.a: proved and written, unless it is there and of the crates as they are now.
 # With --after-ci, where rt ci has just passed in a checkout that had nothing of rt's before: over the libraries that it left there, so that they
-# are not proved once more.
+# are not proved once more; where that can't be done, from the beginning.
 set -eu
 cd "$(dirname "$0")/.."
 archive=target/staticlib/libhaabuvilk.a
@@ -44,18 +44,14 @@ build_over_ci() {
         "$kit/bin/rattle" build --crate-name haabuvilk_c src/lib.rt "$@" \
             --antt-project "$kit/rattle/logic/antt-project.json" --logic-built "$kit/logic_built" --jobs 2 \
             --links haabuvilk_c= --crate-type staticlib --toolchain "$kit/toolchain" --backend llvm -o out/libhaabuvilk_c.a
-    ) > build/archive.out 2>&1 || { cat build/archive.out; return 1; }
+    ) > build/archive.out 2>&1
 }
 
 before=$(sources)
 [ "$(cat build/archive.sum 2> /dev/null)" != "$before $(sha256sum $archive 2> /dev/null)" ] || exit 0
 mkdir -p build target/staticlib
 rm -f $made
-if [ "${1:-}" = --after-ci ] && are_of_ci; then
-    build_over_ci
-else
-    sh tests/prove.sh haabuvilk_c
-fi
+{ [ "${1:-}" = --after-ci ] && are_of_ci && build_over_ci; } || sh tests/prove.sh haabuvilk_c
 cp $made $archive
 echo "proof: $archive is written"
 echo "$before $(sha256sum $archive)" > build/archive.sum
