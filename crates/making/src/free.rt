@@ -19,13 +19,5 @@ pub fn free_count(t: &[u8]) -> usize
     requires { length t.now ≡ table_size }
     ensures { result ≡ free_count (table_of t.now) }
 {
-    let mut n: usize = 0;
-    let mut i = 0;
-    while i < SLOTS {
-        if !used(t, i) {
-            n += 1;
-        }
-        i += 1;
-    }
-    n
+    (0..SLOTS).filter(|i| !used(t, *i)).count()
 }

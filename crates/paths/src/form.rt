@@ -79,11 +79,9 @@ pub fn form(s: &[u8]) -> Form
     let classes = CLASSES;
     let steps = STEPS;
     let mut state: u8 = 0;
-    let mut i = 0;
-    while i < s.len() {
-        let class = classes[s[i] as usize];
+    for b in s {
+        let class = classes[*b as usize];
         state = steps[state as usize][class as usize];
-        i += 1;
     }
     verdict(state, s)
 }
