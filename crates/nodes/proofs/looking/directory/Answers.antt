@@ -8,7 +8,7 @@ returns-then-long-gt-LONGEST_PAYLOAD c =
     let d = c.args.domain in
     let t = c.args.t.now in
     let p = c.args.path.now in
-    seen-refused d t p c.requires.standing _ _ (directory_gives d t p) _ c.look-slot.ensures c.args.reply.now _ c.in_ok-slot.was _
+    seen-refused d t p c.requires.standing _ _ (directory_gives d t p) _ c.look.ensures c.args.reply.now _ c.in_ok-slot.was _
     (listed_big _ _ _ c.children-n.ensures.all _ c.names_length-long.ensures
     c.if-long-gt-LONGEST_PAYLOAD.true)
 
@@ -18,7 +18,7 @@ returns-in_err-slot c =
     let t = c.args.t.now in
     let p = c.args.path.now in
     let failed = err_from_is_err_and c.from_residual.result c.from_residual.ensures.1 in
-    rw (failed.1, failed.2) (not_seen d t p c.requires.standing _ _ (directory_gives d t p) _ c.look-slot.ensures _ _ c.in_err-slot.was)
+    rw (failed.1, failed.2) (not_seen d t p c.requires.standing _ _ (directory_gives d t p) _ c.look.ensures _ _ c.in_err-slot.was)
 
 pub returns : goal.returns
 returns c =
@@ -26,6 +26,6 @@ returns c =
     let d = c.args.domain in
     let t = c.args.t.now in
     let p = c.args.path.now in
-    seen d t p c.requires.standing _ _ (directory_gives d t p) _ c.look-slot.ensures c.args.reply.now _ c.in_ok-slot.was _
+    seen d t p c.requires.standing _ _ (directory_gives d t p) _ c.look.ensures c.args.reply.now _ c.in_ok-slot.was _
     (listed_small _ _ _ c.children-n.ensures.all _ long c.if-long-gt-LONGEST_PAYLOAD.false) _ long _
     c.put_names.ensures.bytes _ c.shown.ensures

@@ -11,7 +11,7 @@ use Rattle.nodes.proofs.looking.get_perms.Goals as goal
 
 pub put_entries-to-requires : goal.put_entries-to-requires
 put_entries-to-requires c =
-    (asked-seen _ c.args.t.now _ _ c.look-slot.ensures _ c.in_ok-slot.was, omega (arith, c.requires.long))
+    (asked-seen _ c.args.t.now _ _ c.look.ensures _ c.in_ok-slot.was, omega (arith, c.requires.long))
 
 pub returns-in_err-slot : goal.returns-in_err-slot
 returns-in_err-slot c =
@@ -19,7 +19,7 @@ returns-in_err-slot c =
     let t = c.args.t.now in
     let p = c.args.path.now in
     let failed = err_from_is_err_and c.from_residual.result c.from_residual.ensures.1 in
-    rw (failed.1, failed.2) (not_seen d t p c.requires.standing _ _ (get_perms_gives d t p) _ c.look-slot.ensures _ _ c.in_err-slot.was)
+    rw (failed.1, failed.2) (not_seen d t p c.requires.standing _ _ (get_perms_gives d t p) _ c.look.ensures _ _ c.in_err-slot.was)
 
 pub returns : goal.returns
 unfolding permissions
@@ -29,5 +29,5 @@ returns c =
     let p = c.args.path.now in
     let w = c.put_entries-to.ensures in
     let n = node_at (table_of t) c.in_ok-slot.slot in
-    seen d t p c.requires.standing _ _ (get_perms_gives d t p) _ c.look-slot.ensures c.args.reply.now _ c.in_ok-slot.was
+    seen d t p c.requires.standing _ _ (get_perms_gives d t p) _ c.look.ensures c.args.reply.now _ c.in_ok-slot.was
     (flat_map entry_text (n.owner ∷ n.others)) refl _ (omega (arith, w.behind)) _ w.bytes _ c.shown.ensures

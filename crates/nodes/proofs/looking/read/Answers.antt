@@ -16,7 +16,7 @@ use Rattle.nodes.proofs.looking.read.Goals as goal
 pub value-v-requires : goal.value-v-requires
 value-v-requires c =
     let t = c.args.t.now in
-    let k = asked-seen _ t _ _ c.look-slot.ensures _ c.in_ok-slot.was in
+    let k = asked-seen _ t _ _ c.look.ensures _ c.in_ok-slot.was in
     (k.below, (sound_canonical _ k.sound).whole, k.used, value-short t k.sound _ k.below k.used)
 
 pub copy-requires : goal.copy-requires
@@ -30,7 +30,7 @@ returns-in_err-slot c =
     let t = c.args.t.now in
     let p = c.args.path.now in
     let failed = err_from_is_err_and c.from_residual.result c.from_residual.ensures.1 in
-    rw (failed.1, failed.2) (not_seen d t p c.requires.standing _ _ (read_gives d t p) _ c.look-slot.ensures _ _ c.in_err-slot.was)
+    rw (failed.1, failed.2) (not_seen d t p c.requires.standing _ _ (read_gives d t p) _ c.look.ensures _ _ c.in_err-slot.was)
 
 pub returns : goal.returns
 returns c =
@@ -38,6 +38,6 @@ returns c =
     let t = c.args.t.now in
     let p = c.args.path.now in
     let v = c.value-v.ensures in
-    seen d t p c.requires.standing _ _ (read_gives d t p) _ c.look-slot.ensures c.args.reply.now _ c.in_ok-slot.was
+    seen d t p c.requires.standing _ _ (read_gives d t p) _ c.look.ensures c.args.reply.now _ c.in_ok-slot.was
     (node_at (table_of t) c.in_ok-slot.slot).value refl _ (ap length v) _
     (c.copy.ensures ∙ ap (λ (ys : Octets). paste header_size ys c.args.reply.now) v) _ c.shown.ensures
