@@ -6,10 +6,10 @@ ghost use Rattle.rules.specs.Layout.{table_of, table_bytes};
 ghost use Rattle.slots.specs.Slot.{Canonical};
 ghost use Rattle.making.specs.Marks.{Marked, swept};
 
-use std::array;
 use octets::sizes::{DEEPEST, SLOTS};
 use slots::fields::{parent, used};
 use slots::writing::clear_slot;
+use std::array;
 
 // The slot above; a free slot lies below the root.
 fn above(t: &[u8], i: usize) -> usize
