@@ -44,14 +44,7 @@ pub fn introduced_from(s: &[u8], from: usize, d: u32) -> bool
     requires { (from ≤ most_domains) × (length s.now ≡ domains_size) }
     ensures { result ≡ has (eqb d) (drop from (domains_of s.now)) }
 {
-    let mut i = from;
-    while i < DOMAINS {
-        if holds(s, i, d) {
-            return true;
-        }
-        i += 1;
-    }
-    false
+    (from..DOMAINS).any(|k| holds(s, k, d))
 }
 
 pub fn introduced(s: &[u8], d: u32) -> bool
