@@ -1,7 +1,7 @@
 // What is answered about paths.
 
 // The form of a path in a payload.
-#[derive(Clone, Copy)]
+#[derive(Clone, Copy, Debug, PartialEq, Eq)]
 pub enum Form {
     Absolute,
     Relative,
