@@ -121,14 +121,16 @@ module _ {B : Type 0} (encode : B → Octets) (decode : Octets → B) (k : ℕ) 
   abbrev pub kept_row : Octets → ℕ → Bool
   kept_row s i = row_kept (take k (drop (i * k) s))
 
-  -- n rows re-encode to themselves where each does
-  pub rows_all : (n : ℕ) (s : Octets) → length s ≡ n * k → list_all (kept_row s) (range_with_len 0 n) ≡ same (flat_map encode (map decode (chunks n k s))) s
-  rows_all n s whole =
+  -- n rows re-encode to themselves where a test of each says so
+  pub rows_all : (n : ℕ) (s : Octets) → length s ≡ n * k → (test : ℕ → Bool) → ((i : ℕ) → i < n → test i ≡ kept_row s i)
+      → list_all test (range_with_len 0 n) ≡ same (flat_map encode (map decode (chunks n k s))) s
+  rows_all n s whole test each =
       let rows = map row_kept (chunks n k s) in
       let itself : Bool → Bool = λ b. b in
       let so_many : length rows ≡ n = length-map (chunks n k s) row_kept ∙ length-chunks n k s in
-      sym (list_all-map itself (kept_row s) (range_with_len 0 n))
-      ∙ ap (list_all itself) (sym (fill_by_all (kept_row s) rows n false so_many (λ i h. decoded_at row_kept n k i s false h)))
+      let they_are = fill_by_all test rows n false so_many (λ i h. decoded_at row_kept n k i s false h ∙ sym (each i h)) in
+      sym (list_all-map itself test (range_with_len 0 n))
+      ∙ ap (list_all itself) (sym they_are)
       ∙ list_all-map itself row_kept (chunks n k s)
       ∙ sym (kept_each n s whole)
 

@@ -16,4 +16,4 @@ returns c =
     let s = c.args.s.now in
     all_from_yields_List (kept_row domain_bytes domain_in domain_size wide s) _ _ c.all.result c.all.ensures.ran
     (YieldsList-from_range 0 most_domains most_domains refl refl) (λ x b q k. search (rules, tests))
-    ∙ rows_all domain_bytes domain_in domain_size wide most_domains s c.requires
+    ∙ rows_all domain_bytes domain_in domain_size wide most_domains s c.requires _ (λ i h. refl)

@@ -16,4 +16,4 @@ returns c =
     let s = c.args.s.now in
     all_from_yields_List (kept_row watch_bytes watch_in watch_size watch-wide s) _ _ c.all.result c.all.ensures.ran
     (YieldsList-from_range 0 most_watches most_watches refl refl) (λ x b q k. search (rules, tests))
-    ∙ rows_all watch_bytes watch_in watch_size watch-wide most_watches s c.requires
+    ∙ rows_all watch_bytes watch_in watch_size watch-wide most_watches s c.requires _ (λ i h. refl)
