@@ -2,14 +2,14 @@
 use mathlib.Core.Path.{◌≡◌, refl, sym, ◌∙◌}
 use mathlib.Core.Bool.{Bool, true, false}
 use Prim.Native.Nat.{ℕ, zero, suc, ◌+◌, ◌*◌, ◌/◌, ◌%◌, ◌^◌, ◌≤◌, ◌<◌}
-use native.Mathlib.Nat.{add_assoc}
+use native.Mathlib.Nat.{add_assoc, pow-le-pow_right}
 use native.Mathlib.Omega.{arith}
-use lib.Dec.{eqb}
+use lib.Dec.{eqb, lit<}
 use lib.ListN.{length, get_or}
 use mir.Val.{Fits}
 use mir.Syntax.{w8}
-use Rattle.rules.specs.Octets.{Octets, bit, field}
-use Rattle.rules.proofs.Fields.{field-split, field_two, field_bound}
+use Rattle.rules.specs.Octets.{Octets, bit, big_from, field}
+use Rattle.rules.proofs.Fields.{field-split, field_one, field_two, field_bound}
 use Rattle.octets.specs.Read.{Read}
 use Rattle.octets.specs.Two.{Bytes}
 
@@ -19,6 +19,22 @@ bytes-known s f j = omega (arith, f j)
 -- a number that was read is below the bound of its bytes
 pub read_bound : {s : Octets} {at n r : ℕ} → Read s at n r → at + n ≤ length s → r < 256 ^ n
 read_bound {s} {at} {n} got h = rw got.value (field_bound s got.bytes n at h)
+
+pub field_none : (s : Octets) (at : ℕ) → 0 ≡ field s at 0
+unfolding field big_from
+field_none s at = refl
+
+-- a field of one byte more, and that it is within 64 bits where there are no more than eight
+pub field_more : (s : Octets) (at i : ℕ) → at + i < length s → field s at i * 256 + get_or s (at + i) 0 ≡ field s at (i + 1)
+field_more s at i h =
+    let split : field s at (i + 1) ≡ field s at i * 256 ^ 1 + field s (at + i) 1 = field-split s at i 1 (omega arith) in
+    rw (split, field_one s (at + i) h) (omega arith)
+
+pub field_within : (s : Octets) → Bytes s → (at i : ℕ) → i < 8 → at + i < length s → field s at i * 256 + 255 < 2 ^ 64
+field_within s bytes at i few h =
+    let below : field s at i < 256 ^ i = field_bound s bytes i at (omega arith) in
+    let seven : 256 ^ i ≤ 256 ^ 7 = pow-le-pow_right (lit< tt) {i = i} {j = 7} (omega arith) in
+    omega arith
 
 -- a field of four bytes, and one of eight by two of four
 pub field_four : (s : Octets) (at : ℕ) → at + 4 ≤ length s →

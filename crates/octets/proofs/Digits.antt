@@ -8,7 +8,7 @@ use native.Mathlib.Omega.{arith}
 use lib.ListN.{length, get_or, take, drop, set, length-drop, drop_of_length-le}
 use Rattle.rules.specs.Octets.{Octets, paste, decimal, is_digit, all_digits, value_from, plain_form}
 use Rattle.rules.proofs.Decimals.{digit_count, last_digits, decimal_last, length-decimal, count_one, count_more, digit_turn, digits_next, digits_at}
-use Rattle.rules.proofs.Decimals.{digit_bounds, bounds_digit, ten_mono, plain_pos, plain_digits, value_last}
+use Rattle.rules.proofs.Decimals.{digit_bounds, ten_mono, plain_pos, plain_digits, value_last}
 use Rattle.rules.proofs.Paste.{paste_nil, paste-before}
 
 -- ── counting: k counted, l left, m in all ──
@@ -84,8 +84,8 @@ plain_last s e =
 pub no_digit : (s : Octets) (i : ℕ) → i < length s → (is_digit (get_or s i 0) ≡ false) → all_digits (drop i s) ≡ false
 no_digit s i h e = digits_next s i h ∙ ap (λ (b : Bool). b && all_digits (drop (i + 1) s)) e
 
-pub one_digit : (s : Octets) (i : ℕ) → i < length s → 48 ≤ get_or s i 0 → get_or s i 0 ≤ 57 → all_digits (drop i s) ≡ all_digits (drop (i + 1) s)
-one_digit s i h low high = digits_next s i h ∙ ap (λ (b : Bool). b && all_digits (drop (i + 1) s)) (bounds_digit (get_or s i 0) low high)
+pub one_digit : (s : Octets) (i : ℕ) → i < length s → is_digit (get_or s i 0) ≡ true → all_digits (drop i s) ≡ all_digits (drop (i + 1) s)
+one_digit s i h e = digits_next s i h ∙ ap (λ (b : Bool). b && all_digits (drop (i + 1) s)) e
 
 pub digits_end : (s : Octets) (i : ℕ) → length s ≤ i → all_digits (drop i s) ≡ true
 unfolding all_digits

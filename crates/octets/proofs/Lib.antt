@@ -4,3 +4,4 @@ pub mod Ranges
 pub mod Padding
 pub mod Bytes
 pub mod PlaceLaws
+pub mod Library

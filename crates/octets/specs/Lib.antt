@@ -2,3 +2,4 @@ pub mod Numbers
 pub mod Read
 pub mod Two
 pub mod Places
+pub mod Options

@@ -3,20 +3,12 @@ ghost use Rattle.std.specs.Prelude.{◌≡◌, ◌+◌, ◌≤◌, length};
 ghost use Rattle.rules.specs.Octets.{same, less, begins, all_zero};
 ghost use Rattle.octets.specs.Numbers.{rest_zero};
 
-// Whether a and b are the same bytes. Every byte is looked at, with one test at the end.
+// Whether a and b are the same bytes.
+#[tactic(auto, using(crate::proofs::Library::same_bytes))]
 pub fn same(a: &[u8], b: &[u8]) -> bool
     ensures { result ≡ same a.now b.now }
 {
-    if a.len() != b.len() {
-        return false;
-    }
-    let mut differ: u8 = 0;
-    let mut i = 0;
-    while i < a.len() {
-        differ = differ | (a[i] ^ b[i]);
-        i += 1;
-    }
-    differ == 0
+    a == b
 }
 
 // Whether every byte of s is 0. Every byte is looked at, with one test at the end.
@@ -24,10 +16,8 @@ pub fn all_zero(s: &[u8]) -> bool
     ensures { result ≡ all_zero s.now }
 {
     let mut all: u8 = 0;
-    let mut i = 0;
-    while i < s.len() {
-        all = all | s[i];
-        i += 1;
+    for b in s {
+        all = all | *b;
     }
     all == 0
 }
@@ -52,28 +42,13 @@ pub fn rest_zero(s: &[u8], at: usize, n: usize, size: usize) -> bool
 pub fn less(a: &[u8], b: &[u8]) -> bool
     ensures { result ≡ less a.now b.now }
 {
-    let mut i = 0;
-    while i < a.len() {
-        if b.len() <= i {
-            return false;
-        }
-        let x = a[i];
-        let y = b[i];
-        if x != y {
-            return x < y;
-        }
-        i += 1;
-    }
-    a.len() < b.len()
+    a < b
 }
 
 // Whether a begins b.
+#[tactic(auto, using(crate::proofs::Library::begins_with))]
 pub fn begins(a: &[u8], b: &[u8]) -> bool
     ensures { result ≡ begins a.now b.now }
 {
-    let n = a.len();
-    if b.len() < n {
-        return false;
-    }
-    same(a, &b[..n])
+    b.starts_with(a)
 }

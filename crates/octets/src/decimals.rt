@@ -1,9 +1,10 @@
 // Decimals read: plain ones, those within a range, and signed ones.
 ghost use Rattle.std.specs.Prelude.{true, ◌≡◌, ◌≤◌, length};
 ghost use Rattle.rules.specs.Octets.{all_digits, plain_form, value_from, number_in, signed};
-ghost use Rattle.octets.specs.Numbers.{meant, decimal_of, within};
+ghost use Rattle.octets.specs.Numbers.{decimal_of, within};
+ghost use Rattle.octets.specs.Options.{meant};
 
-use crate::{Decimal, Number};
+use crate::DecimalError;
 
 // The digits of 2^64 - 1.
 const MOST_DIGITS: usize = 20;
@@ -12,16 +13,10 @@ const MOST_DIGITS: usize = 20;
 pub fn all_digits(s: &[u8]) -> bool
     ensures { result ≡ all_digits s.now }
 {
-    let mut i = 0;
-    while i < s.len() {
-        let c = s[i];
-        if c < 48 {
+    for c in s {
+        if !c.is_ascii_digit() {
             return false;
         }
-        if 57 < c {
-            return false;
-        }
-        i += 1;
     }
     true
 }
@@ -34,8 +29,7 @@ pub fn plain_form(s: &[u8]) -> bool
     if len == 0 {
         return false;
     }
-    let first = s[0];
-    if first == 48 {
+    if s[0] == b'0' {
         return len == 1;
     }
     all_digits(s)
@@ -47,74 +41,62 @@ fn value(s: &[u8]) -> u64
     ensures { result ≡ value_from 0 s.now }
 {
     let mut n: u64 = 0;
-    let mut i = 0;
-    while i < s.len() {
-        let digit = s[i] - 48;
+    for c in s {
+        let digit = *c - b'0';
         n = n * 10 + digit as u64;
-        i += 1;
     }
     n
 }
 
 // The value of a decimal of any length. One of more than 20 digits is too large, so only the last of 20 can take it past 64 bits.
-pub fn decimal(s: &[u8]) -> Decimal
+pub fn decimal(s: &[u8]) -> Result<u64, DecimalError>
     ensures { result ≡ decimal_of s.now }
 {
     if !plain_form(s) {
-        return Decimal::Malformed;
+        return Err(DecimalError::Malformed);
     }
     let len = s.len();
     if MOST_DIGITS < len {
-        return Decimal::TooLarge;
+        return Err(DecimalError::TooLarge);
     }
     let last = len - 1;
     let front = value(&s[..last]);
-    let digit = s[last] - 48;
+    let digit = s[last] - b'0';
     let unit = digit as u64;
-    if (18446744073709551615 - unit) / 10 < front {
-        return Decimal::TooLarge;
+    if (u64::MAX - unit) / 10 < front {
+        return Err(DecimalError::TooLarge);
     }
-    Decimal::Value(front * 10 + unit)
+    Ok(front * 10 + unit)
 }
 
 // n, if it is from low to high.
-fn within(n: u64, low: u64, high: u64) -> Number
+fn within(n: u64, low: u64, high: u64) -> Option<u64>
     ensures { meant result ≡ within low high n }
 {
-    if n < low {
-        return Number::Not;
-    }
-    if high < n {
-        return Number::Not;
-    }
-    Number::Is(n)
+    if low <= n && n <= high { Some(n) } else { None }
 }
 
 // The value of a decimal from low to high.
-pub fn number_in(s: &[u8], low: u64, high: u64) -> Number
+pub fn number_in(s: &[u8], low: u64, high: u64) -> Option<u64>
     ensures { meant result ≡ number_in low high s.now }
 {
     match decimal(s) {
-        Decimal::Value(n) => within(n, low, high),
-        Decimal::Malformed => Number::Not,
-        Decimal::TooLarge => Number::Not,
+        Ok(n) => within(n, low, high),
+        Err(_) => None,
     }
 }
 
 // The value of a signed decimal of 64 bits, in two's complement.
-pub fn signed(s: &[u8]) -> Number
+pub fn signed(s: &[u8]) -> Option<u64>
     ensures { meant result ≡ signed s.now }
 {
     let len = s.len();
     if len == 0 {
-        return Number::Not;
+        return None;
     }
-    let first = s[0];
-    if first != 45 {
-        return number_in(s, 0, 9223372036854775807);
+    if s[0] != b'-' {
+        return number_in(s, 0, i64::MAX as u64);
     }
-    match number_in(&s[1..], 1, 9223372036854775808) {
-        Number::Is(n) => Number::Is(18446744073709551615 - n + 1),
-        Number::Not => Number::Not,
-    }
+    let n = number_in(&s[1..], 1, 9223372036854775808)?;
+    Some(u64::MAX - n + 1)
 }

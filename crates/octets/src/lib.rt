@@ -9,19 +9,11 @@ pub mod places;
 pub mod sizes;
 pub mod written;
 
-// What a decimal says.
-#[derive(Drop)]
-pub enum Decimal {
-    Value(u64),
+// Why a text is not the decimal of a 64-bit number.
+#[derive(Clone, Copy, Debug, PartialEq, Eq)]
+pub enum DecimalError {
     // It has a sign, a blank, a spare leading zero or another byte that is no digit, or is empty.
     Malformed,
     // It is plain, and 2^64 or more.
     TooLarge,
-}
-
-// A number, or none.
-#[derive(Drop)]
-pub enum Number {
-    Is(u64),
-    Not,
 }

@@ -7,11 +7,7 @@ pub fn copy(into: &mut [u8], at: usize, from: &[u8])
     requires { at + length from.now ≤ length into.old }
     ensures { into.new ≡ paste at from.now into.old }
 {
-    let mut i = 0;
-    while i < from.len() {
-        into[at + i] = from[i];
-        i += 1;
-    }
+    into[at..at + from.len()].copy_from_slice(from);
 }
 
 // Puts n zeros into the buffer, from `at` on.
@@ -19,11 +15,7 @@ pub fn clear(into: &mut [u8], at: usize, n: usize)
     requires { at + n ≤ length into.old }
     ensures { into.new ≡ paste at (replicate n 0) into.old }
 {
-    let mut i = 0;
-    while i < n {
-        into[at + i] = 0;
-        i += 1;
-    }
+    into[at..at + n].fill(0);
 }
 
 // Puts a text into the `size` bytes from `at` on, with zeros behind it.

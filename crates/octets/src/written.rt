@@ -23,10 +23,8 @@ pub fn put_decimal(into: &mut [u8], at: usize, n: u64) -> usize
 {
     let count = digits(n);
     let mut left = n;
-    let mut i = count;
-    while 0 < i {
-        i -= 1;
-        into[at + i] = (48 + left % 10) as u8;
+    for i in (0..count).rev() {
+        into[at + i] = b'0' + (left % 10) as u8;
         left = left / 10;
     }
     at + count

@@ -7,8 +7,8 @@ use Rattle.octets.proofs.decimals.plain_form.Goals as goal
 pub returns-then-len-eq0 : goal.returns-then-len-eq0
 returns-then-len-eq0 c = sym (plain_empty _ c.if-len-eq0.true)
 
-pub returns-then-first-eq48 : goal.returns-then-first-eq48
-returns-then-first-eq48 c = sym (plain-zero c.args.s.now (omega arith) c.if-first-eq48.true)
+pub returns-then-s-eq48 : goal.returns-then-s-eq48
+returns-then-s-eq48 c = sym (plain-zero c.args.s.now (omega arith) c.if-s-eq48.true)
 
 pub returns : goal.returns
-returns c = c.all_digits.ensures ∙ sym (plain_other c.args.s.now (omega arith) c.if-first-eq48.false)
+returns c = c.all_digits.ensures ∙ sym (plain_other c.args.s.now (omega arith) c.if-s-eq48.false)

@@ -1,19 +1,6 @@
--- After i turns the first i bytes of the text are in place.
-use mathlib.Core.Path.{refl, sym}
 use native.Mathlib.Omega.{arith}
-use lib.ListN.{length-set}
-use Rattle.rules.proofs.Paste.{paste_nil, paste_next, paste_all}
+use Rattle.octets.proofs.Library.{pasted}
 use Rattle.octets.proofs.parts.copy.Goals as goal
 
-pub loop-i-init : goal.loop-i-init
-loop-i-init c = (omega arith, (refl, sym (paste_nil _ _)))
-
-pub loop-i-preserved : goal.loop-i-preserved
-loop-i-preserved c =
-    (omega arith, (simp length-set (omega arith), paste_next _ _ _ c.loop-i.i c.loop-i.invariant.1.1 (omega arith) (omega arith)))
-
-pub shape_of-into : goal.shape_of-into
-shape_of-into c = omega arith
-
 pub returns : goal.returns
-returns c = paste_all _ _ _ _ c.loop-i-test.false c.loop-i.invariant.1.1
+returns c = rw c.copy_from_slice.ensures.after (pasted _ _ _ _ (omega arith))

@@ -1,4 +1,5 @@
 -- A place whose first byte is below 128 is free, and those before it are not.
+use mathlib.Core.Path.{◌≡◌, ◌∙◌}
 use native.Mathlib.Omega.{arith}
 use Rattle.octets.proofs.PlaceLaws.{place-begins, searched_none, searched_more, found_free, none_free}
 use Rattle.octets.proofs.places.lowest_free.Goals as goal
@@ -18,11 +19,19 @@ bounds-s-i c =
 
 pub returns-then-s-i-lt128 : goal.returns-then-s-i-lt128
 returns-then-s-i-lt128 c =
-    found_free _ _ _ _ c.requires.0 c.loop-i.invariant c.loop-i-test.true c.if-s-i-lt128.true
+    record {
+      found = found_free _ _ _ _ c.requires.0 c.loop-i.invariant c.loop-i-test.true c.if-s-i-lt128.true;
+      below = c.loop-i-test.true;
+    }
 
 pub loop-i-preserved : goal.loop-i-preserved
 loop-i-preserved c =
     searched_more _ _ _ _ c.requires.0 c.loop-i.invariant c.loop-i-test.true c.if-s-i-lt128.false
 
 pub returns : goal.returns
-returns c = none_free _ _ _ _ c.requires.0 c.loop-i.invariant c.loop-i-test.false
+returns c =
+    let all : c.args.count ≡ c.loop-i.i = omega arith in
+    record {
+      found = all ∙ none_free _ _ _ c.loop-i.i c.requires.0 c.loop-i.invariant c.loop-i-test.false;
+      below = tt;
+    }
