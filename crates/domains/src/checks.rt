@@ -63,8 +63,5 @@ pub fn sound_domains(s: &[u8]) -> bool
     if s.len() != DOMAINS_SIZE {
         return false;
     }
-    if !kept(s) {
-        return false;
-    }
-    good(s)
+    kept(s) && good(s)
 }
