@@ -17,17 +17,15 @@ use Rattle.handlers.proofs.introducing.introduce.Goals as goal
 pub returns-then-introduced : goal.returns-then-introduced
 returns-then-introduced c =
     let pre = c.requires in
-    λ w l events. refused_so w _ _ _ _ _ _
-    (introduce_twice w _ _ _ _ l.domains (length-domains_of _) (sym c.introduced.ensures ∙ c.if-introduced.true))
-    c.with_events.ensures (same_tables_lem refl refl refl refl (domains-alone w _ pre.1 l.domains))
+    λ w l events. refused_so w _ _ _ _ _
+    (introduce_twice w _ _ _ _ l.domains (length-domains_of _) (sym c.introduced.ensures ∙ c.if-introduced.true)) (same_tables_lem refl refl refl refl (domains-alone w _ pre.1 l.domains))
 
 pub returns-then-k-ge-DOMAINS : goal.returns-then-k-ge-DOMAINS
 returns-then-k-ge-DOMAINS c =
     let pre = c.requires in
     let fresh = sym c.introduced.ensures ∙ c.if-introduced.false in
-    λ w l events. refused_so w _ _ _ _ _ _
-    (introduce-full w _ _ _ _ l.domains (length-domains_of _) fresh _ c.lowest_free-k.ensures c.if-k-ge-DOMAINS.true)
-    c.with_events-then-k-ge-DOMAINS.ensures (same_tables_lem refl refl refl refl (domains-alone w _ pre.1 l.domains))
+    λ w l events. refused_so w _ _ _ _ _
+    (introduce-full w _ _ _ _ l.domains (length-domains_of _) fresh _ c.lowest_free-k.ensures c.if-k-ge-DOMAINS.true) (same_tables_lem refl refl refl refl (domains-alone w _ pre.1 l.domains))
 
 pub returns : goal.returns
 unfolding event_name

@@ -1,4 +1,6 @@
 -- A free place takes the new transaction and its copy, and the reply its id; without one every table stays.
+use mathlib.Core.Path.{ap}
+use Rattle.std.specs.Prelude.{Ok}
 use Prim.Native.Nat.{◌+◌}
 use native.Mathlib.Omega.{arith}
 use Rattle.rules.proofs.Decimals.{length-decimal_le}
@@ -11,8 +13,8 @@ use Rattle.handlers.proofs.transacting.start.Goals as goal
 pub returns-then-k-ge-TRANSACTIONS : goal.returns-then-k-ge-TRANSACTIONS
 returns-then-k-ge-TRANSACTIONS c =
     let pre = c.requires in
-    λ w l events. refused_so w _ _ _ events _ _
-    (start-full w _ _ l.transactions (three_transactions _) _ c.lowest_free-k.ensures c.if-k-ge-TRANSACTIONS.true) c.with_events.ensures
+    λ w l events. refused_so w _ _ events _ _
+    (start-full w _ _ l.transactions (three_transactions _) _ c.lowest_free-k.ensures c.if-k-ge-TRANSACTIONS.true)
     (same_tables_lem refl (copies-alone w _ pre.1 l.copies) refl (transactions-alone w _ pre.2 l.transactions) refl)
 
 pub bounds-reply-end : goal.bounds-reply-end
@@ -30,7 +32,7 @@ returns c =
     let pre = c.requires in
     let below = c.if-k-ge-TRANSACTIONS.false in
     λ w l events. done_so w _ _ _ events _ _ _ _ _
-    (start-done w _ _ l.transactions (three_transactions _) _ c.lowest_free-k.ensures below) c.with_events-2.ensures
+    (start-done w _ _ l.transactions (three_transactions _) _ c.lowest_free-k.ensures below) (ap Ok c.with_events-2.ensures)
     (id_told _ _ _ _ pre.4 c.put_decimal-end.ensures (omega (arith, length-decimal_le (c.lowest_free-k.result + 1))))
     (same_tables_lem refl (copied w _ _ _ _ pre.1 pre.0 l.nodes l.copies below
     c.copy.ensures)

@@ -1,4 +1,5 @@
 -- A free place takes the watch if it is new and short, and its first event is recorded; otherwise every table stays.
+use Rattle.std.specs.Prelude.{Ok}
 use Rattle.watches.specs.Watch.{watch_given}
 use lib.ListN.{length}
 use mathlib.Core.List.{List, flat_map}
@@ -19,7 +20,8 @@ returns-then-watched c =
     let args = c.args in
     let pre = c.requires in
     let twice = watched-place args.special _ _ args.relative _ _ _ pre.2 (sym c.watched.ensures ∙ c.if-watched.true) in
-    λ w l events. refused_so w _ _ _ _ _ _ (watch_twice w _ _ _ _ _ l.watches (length-watches_of _) twice) c.with_events.ensures
+    λ w l events. refused_so w _ _ _ _ _
+    (watch_twice w _ _ _ _ _ l.watches (length-watches_of _) twice)
     (same_tables_lem refl refl (watches-alone w _ pre.0 l.watches) refl refl)
 
 pub returns-then-not-is_short : goal.returns-then-not-is_short
@@ -28,10 +30,9 @@ returns-then-not-is_short c =
     let pre = c.requires in
     let fresh = watched-place args.special _ _ args.relative _ _ _ pre.2
     (sym c.watched.ensures ∙ c.if-watched.false) in
-    λ w l events. refused_so w _ _ _ _ _ _
+    λ w l events. refused_so w _ _ _ _ _
     (watch-long w _ _ _ _ _ l.watches (length-watches_of _) fresh
-    (sym (c.is_short.ensures w args.relative) ∙ c.if-not-is_short.true))
-    c.with_events-then-not-is_short.ensures (same_tables_lem refl refl (watches-alone w _ pre.0 l.watches) refl refl)
+    (sym (c.is_short.ensures w args.relative) ∙ c.if-not-is_short.true)) (same_tables_lem refl refl (watches-alone w _ pre.0 l.watches) refl refl)
 
 pub returns-then-k-ge-WATCHES : goal.returns-then-k-ge-WATCHES
 returns-then-k-ge-WATCHES c =
@@ -39,11 +40,10 @@ returns-then-k-ge-WATCHES c =
     let pre = c.requires in
     let fresh = watched-place args.special _ _ args.relative _ _ _ pre.2
     (sym c.watched.ensures ∙ c.if-watched.false) in
-    λ w l events. refused_so w _ _ _ _ _ _
+    λ w l events. refused_so w _ _ _ _ _
     (watch-full w _ _ _ _ _ l.watches (length-watches_of _) fresh
     (sym (c.is_short.ensures w args.relative) ∙ c.if-not-is_short.false) _
-    c.lowest_free-k.ensures c.if-k-ge-WATCHES.true)
-    c.with_events-then-k-ge-WATCHES.ensures (same_tables_lem refl refl (watches-alone w _ pre.0 l.watches) refl refl)
+    c.lowest_free-k.ensures c.if-k-ge-WATCHES.true) (same_tables_lem refl refl (watches-alone w _ pre.0 l.watches) refl refl)
 
 pub add-requires : goal.add-requires
 add-requires c =
@@ -82,6 +82,6 @@ returns c =
     λ w l events. heard_so w _ _ _ _ _ _ _ _ _ _ _ _
     (watch-done w _ _ _ _ _ l.watches (length-watches_of _) fresh (sym (measured w args.relative) ∙ short) _
     c.lowest_free-k.ensures below)
-    c.with_events-2.ensures c.okay.ensures
+    (ap Ok c.with_events-2.ensures) c.okay.ensures
     (f.0 ∙ ap (λ (rs : List Record). paste 0 (flat_map record_bytes rs) args.events.now) same) (f.1 ∙ ap length same)
     (same_tables_lem refl refl c.add.ensures refl refl)
