@@ -2,11 +2,11 @@
 use mathlib.Core.Path.{◌≡◌, refl, sym, ap, ap₂, ◌∙◌}
 use mathlib.Core.Bool.{Bool}
 use mathlib.Core.List.{List, [], ◌∷◌, ◌++◌, flat_map, append-nil}
-use Prim.Native.Nat.{ℕ, ◌+◌, ◌*◌, ◌-◌, ◌/◌, ◌%◌, ◌^◌, ◌≤◌, ◌<◌}
+use Prim.Native.Nat.{ℕ, ◌+◌, ◌*◌, ◌-◌, ◌/◌, ◌%◌, ◌≤◌, ◌<◌}
 use native.Mathlib.Nat.{add-zero}
 use native.Mathlib.Omega.{arith}
 use lib.ListN.{length, set, replicate, take, drop, length-append}
-use lib.Dec.{eqb, lit≤}
+use lib.Dec.{lit≤}
 use Rattle.rules.specs.Size.{longest_path, mask_size, record_path_at, record_size, most_records, events_size}
 use Rattle.rules.specs.Octets.{Octets, ◌bits◌, pack, pack_from, big_endian, padded, paste, field, bits_at}
 use Rattle.rules.specs.Event.{Record, kept}
@@ -19,7 +19,7 @@ use Rattle.rules.proofs.Slots.{length-padded}
 use Rattle.rules.proofs.Tables.{flat_append}
 use Rattle.octets.specs.Two.{Two}
 use Rattle.domains.proofs.Rows.{text-part}
-use Rattle.events.specs.Records.{record_of, Recorded, Room, Mask}
+use Rattle.events.specs.Records.{record_of, Recorded, Room, Mask, number_bit}
 use Rattle.events.proofs.MaskLaws.{pack_append, empty_mask, some-mask}
 
 -- ── one record, as it is put ──
@@ -62,9 +62,9 @@ module _ (s : Octets) (i : ℕ) (below : i < most_records) (whole : length s ≡
       let inside : i * record_size + at + 1 < length s = omega (arith, whole, below) in
       field-part s (i * record_size) record_size at 2 (omega arith) ∙ field_two s (i * record_size + at) inside ∙ sym t.value
 
-  pub mask-read : (k r : ℕ) → Two s (i * record_size) r → eqb (r / 2 ^ (15 - k) % 2) 1 ≡ mask_bit (record_at s i) k
-  unfolding mask_bit bits_at
-  mask-read k r t = ap (λ (n : ℕ). eqb (n / 2 ^ (15 - k) % 2) 1) (sym (two_read 0 r (omega arith) (rw add-zero t)))
+  pub mask-read : (k r : ℕ) → Two s (i * record_size) r → number_bit r k ≡ mask_bit (record_at s i) k
+  unfolding mask_bit
+  mask-read k r t = ap (λ (n : ℕ). number_bit n k) (sym (two_read 0 r (omega arith) (rw add-zero t)))
 
   pub length-read : (r : ℕ) → Two s (i * record_size + mask_size) r → r / 128 ≡ path_length (record_at s i)
   unfolding path_length bits_at

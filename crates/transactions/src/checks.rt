@@ -27,12 +27,7 @@ use paths::names::{depth, fits};
 fn is_full(x: &[u8]) -> bool
     ensures { result ≡ is_full x.now }
 {
-    match form(x) {
-        Form::Absolute => true,
-        Form::Special => false,
-        Form::Relative => false,
-        Form::Malformed => false,
-    }
+    matches!(form(x), Form::Absolute)
 }
 
 // Whether the bytes of a change from `at` on are those of what they mean.
@@ -60,14 +55,7 @@ fn changes_kept(s: &[u8], at: usize, n: usize) -> bool
     requires { (n ≤ most_changes) × (at + n * change_size ≤ length s.now) }
     ensures { result ≡ changes_kept n (take (n * change_size) (drop at s.now)) }
 {
-    let mut j = 0;
-    while j < n {
-        if !change_kept(s, at + j * CHANGE_SIZE) {
-            return false;
-        }
-        j += 1;
-    }
-    true
+    (0..n).all(|j| change_kept(s, at + j * CHANGE_SIZE))
 }
 
 // Whether the bytes of place k are.
@@ -97,14 +85,7 @@ fn kept(s: &[u8]) -> bool
     requires { length s.now ≡ transactions_size }
     ensures { result ≡ same (transactions_bytes (transactions_of s.now)) s.now }
 {
-    let mut i = 0;
-    while i < TRANSACTIONS {
-        if !place_kept(s, i) {
-            return false;
-        }
-        i += 1;
-    }
-    true
+    (0..TRANSACTIONS).all(|k| place_kept(s, k))
 }
 
 // ── what is asked of each transaction ──
@@ -143,15 +124,7 @@ fn changes_good(s: &[u8], k: usize) -> bool
     requires { OpenTransaction s.now k }
     ensures { result ≡ good_changes (transaction_of s.now k).changes }
 {
-    let n = changes(s, k);
-    let mut j = 0;
-    while j < n {
-        if !change_good(s, k, j) {
-            return false;
-        }
-        j += 1;
-    }
-    true
+    (0..changes(s, k)).all(|j| change_good(s, k, j))
 }
 
 // Whether place k is closed, or its holder is known and its changes are good.
@@ -172,14 +145,7 @@ fn good(s: &[u8], domains: &[u8]) -> bool
     requires { KeptTransactions s.now × (length domains.now ≡ domains_size) }
     ensures { result ≡ all_open_good (domains_of domains.now) (transactions_of s.now) }
 {
-    let mut i = 0;
-    while i < TRANSACTIONS {
-        if !place_good(s, domains, i) {
-            return false;
-        }
-        i += 1;
-    }
-    true
+    (0..TRANSACTIONS).all(|k| place_good(s, domains, k))
 }
 
 // Whether the bytes of transactions are sound beside those of the domains, whatever the copies are.

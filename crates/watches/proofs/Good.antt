@@ -10,6 +10,7 @@ use lib.ListN.{length, get_or, take, drop, length-append}
 use lib.Seq.{take_at}
 use lib.Dec.{eqb}
 use borrow.Author.Tests.{le-leb}
+use Rattle.std.specs.List.{list_any}
 use Rattle.rules.specs.Size.{longest_absolute, most_watches}
 use Rattle.rules.specs.Octets.{Octets, same, begins, paste, text}
 use Rattle.rules.specs.Domain.{Domain, Connection, domain_of, is_control}
@@ -37,16 +38,14 @@ use Rattle.watches.proofs.Kept.{same_place, special-long, place-malformed}
 
 -- ── a token ──
 
-pub nul-none : no_nul [] ≡ true
-unfolding no_nul
-nul-none = refl
+neither : (a b : Bool) → not (a || b) ≡ (not a && not b)
+neither true b = refl
+neither false b = refl
 
-pub nul_cons : (x : ℕ) (t : Octets) → no_nul (x ∷ t) ≡ (not (eqb x 0) && no_nul t)
+pub nul_absent : (t : Octets) → not (list_any (λ c. eqb c 0) t) ≡ no_nul t
 unfolding no_nul
-nul_cons x t = refl
-
-abbrev pub nul_check : ListCheck ℕ
-nul_check = record { stand = 0; all = no_nul; one = λ x t. not (eqb x 0); empty = nul-none; next = nul_cons }
+nul_absent [] = refl
+nul_absent (c ∷ t) = neither (eqb c 0) _ ∙ ap (◌&&◌ (not (eqb c 0))) (nul_absent t)
 
 -- ── below the base ──
 

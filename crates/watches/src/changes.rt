@@ -87,10 +87,8 @@ pub fn remove_twin(s: &mut [u8], c: u32, p: &[u8], t: &[u8])
     requires { KeptWatches s.old }
     ensures { s.new ≡ watches_bytes (without (twin c p.now t.now) (watches_of s.old)) }
 {
-    let mut i = 0;
-    while i < WATCHES {
-        free_twin(s, i, c, p, t);
-        i += 1;
+    for k in 0..WATCHES {
+        free_twin(s, k, c, p, t);
     }
 }
 
@@ -109,9 +107,7 @@ pub fn remove_of(s: &mut [u8], c: u32)
     requires { KeptWatches s.old }
     ensures { s.new ≡ watches_bytes (without_watches (eqb c) (watches_of s.old)) }
 {
-    let mut i = 0;
-    while i < WATCHES {
-        free_owned(s, i, c);
-        i += 1;
+    for k in 0..WATCHES {
+        free_owned(s, k, c);
     }
 }

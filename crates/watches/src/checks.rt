@@ -105,14 +105,7 @@ fn kept(s: &[u8]) -> bool
     requires { length s.now ≡ watches_size }
     ensures { result ≡ same (watches_bytes (watches_of s.now)) s.now }
 {
-    let mut i = 0;
-    while i < WATCHES {
-        if !place_kept(s, i) {
-            return false;
-        }
-        i += 1;
-    }
-    true
+    (0..WATCHES).all(|k| place_kept(s, k))
 }
 
 // ── what is asked of each watch ──
@@ -120,14 +113,7 @@ fn kept(s: &[u8]) -> bool
 fn no_nul(t: &[u8]) -> bool
     ensures { result ≡ no_nul t.now }
 {
-    let mut i = 0;
-    while i < t.len() {
-        if t[i] == 0 {
-            return false;
-        }
-        i += 1;
-    }
-    true
+    !t.contains(&0)
 }
 
 // Whether a full path lies below the base of domain d, not at it.
@@ -194,14 +180,7 @@ fn good(s: &[u8], domains: &[u8]) -> bool
     requires { KeptWatches s.now × (length domains.now ≡ domains_size) }
     ensures { result ≡ good_watches (domains_of domains.now) (watches_of s.now) }
 {
-    let mut i = 0;
-    while i < WATCHES {
-        if !place_good(s, domains, i) {
-            return false;
-        }
-        i += 1;
-    }
-    true
+    (0..WATCHES).all(|k| place_good(s, domains, k))
 }
 
 // Whether the bytes of watches are sound beside those of the domains.

@@ -122,14 +122,7 @@ pub fn watched_from(s: &[u8], from: usize, c: u32, p: &[u8], t: &[u8]) -> bool
     requires { (from ≤ most_watches) × KeptWatches s.now }
     ensures { result ≡ watched c p.now t.now (drop from (watches_of s.now)) }
 {
-    let mut i = from;
-    while i < WATCHES {
-        if is_twin(s, i, c, p, t) {
-            return true;
-        }
-        i += 1;
-    }
-    false
+    (from..WATCHES).any(|k| is_twin(s, k, c, p, t))
 }
 
 // Whether connection c has a watch with a path and a token.
