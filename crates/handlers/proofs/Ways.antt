@@ -14,7 +14,8 @@ use Rattle.rules.specs.Call.{Tables, tables_of}
 use Rattle.rules.proofs.Paste.{paste_nil}
 use Rattle.replies.specs.Meant.{Reply, errno_meant}
 use Rattle.replies.specs.declared.kinds.Errno.{Errno}
-use Rattle.std.specs.Prelude.{Ok, Err}
+use Rattle.std.specs.Prelude.{Ok, Err, Option, None, Some, IfSome, ◌<◌}
+use Rattle.std.specs.Option.{unwrap_or}
 use Rattle.replies.specs.Framed.{Told}
 use Rattle.replies.specs.Handled.{Outcome, Handled, reply_of, with_events}
 use Rattle.replies.specs.Does.{tables, its_nodes, its_copies, its_watches, its_transactions, its_domains}
@@ -25,6 +26,17 @@ same_tables_lem p q r s t = λ i. record { nodes = p i; copies = q i; watches = 
 
 abbrev pub its_tables : World → Tables
 its_tables w = tables (its_nodes w) (its_copies w) (its_watches w) (its_transactions w) (its_domains w)
+
+-- the lowest free place, where there is one
+module _ (o : Option ℕ) (n m : ℕ) (e : unwrap_or o n ≡ m) where
+  pub none-free : o ≡ None → n ≡ m
+  none-free h = rw h at e
+
+  pub some_free : (k : ℕ) → o ≡ Some k → k ≡ m
+  some_free k h = rw h at e
+
+pub free-below : (o : Option ℕ) (n : ℕ) → IfSome o (λ k. k < n) → (k : ℕ) → o ≡ Some k → k < n
+free-below o n e k h = rw h at e
 
 -- the outcome by another name
 pub handled_as : {o o' : W.Outcome} {t : Tables} {reply reply' events events' : Octets} {r : Outcome} → o ≡ o' → Handled o' t reply reply' events events' r →

@@ -20,4 +20,4 @@ returns c =
     let known = sym c.introduced.ensures
     ∙ c.if-not-introduced.false in
     λ w l events. released-handled _ _ _ _ _ _ _ _ _ _ _ _ c.clear_out-n.ensures w l.nodes l.watches l.transactions l.domains
-    c.requires.1 c.requires.2 known _ _ _ _ c.okay.ensures (ap Ok c.with_events-2.ensures)
+    c.requires.1 c.requires.2 known _ _ _ _ c.okay.ensures (ap Ok c.with_events.ensures)

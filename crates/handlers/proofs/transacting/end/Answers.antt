@@ -39,7 +39,7 @@ returns-then-not-commits c =
     let ends = c.if-not-commits.true in
     λ w l events. done_so w _ _ _ _ _ _ _ _ _
     (ap (ending w args.c args.tx) ends ∙ end_dropped w _ _ _ (h.found w l.transactions))
-    (ap Ok c.with_events-then-not-commits.ensures) c.okay.ensures
+    (ap Ok c.with_events.ensures) c.okay.ensures
     (same_tables_lem (nodes-alone w _ c.requires.sound l.nodes) refl refl
     (c.close.ensures
     ∙ ap (λ (y : Transactions). transactions_bytes (set y (args.tx - 1) none)) (sym l.transactions)) refl)
@@ -64,7 +64,7 @@ returns-then-stale c =
     let stale = sym c.stale.ensures ∙ c.if-stale.true in
     λ w l events. done_so w _ _ _ _ _ _ _ _ _
     (ap (ending w args.c args.tx) commits ∙ end-stale w _ _ _ (h.found w l.transactions) stale)
-    (ap Ok c.with_events-then-stale.ensures) (refl, refl)
+    refl (refl, refl)
     (same_tables_lem (nodes-alone w _ c.requires.sound l.nodes) refl refl
     (c.close-then-stale.ensures ∙ ap (λ (y : Transactions). transactions_bytes (set y (args.tx - 1) none)) (sym l.transactions)) refl)
 

@@ -19,6 +19,6 @@ pub returns : goal.returns
 returns c =
     let known = sym c.watched.ensures
     ∙ c.if-not-watched.false in
-    λ p q w l events. done_so w _ _ _ events _ _ _ _ _ (unwatch-done w _ p _ _ _ l.watches q known) (ap Ok c.with_events-2.ensures)
+    λ p q w l events. done_so w _ _ _ events _ _ _ _ _ (unwatch-done w _ p _ _ _ l.watches q known) (ap Ok c.with_events.ensures)
     c.okay.ensures
     (same_tables_lem refl refl c.remove_twin.ensures refl refl)
