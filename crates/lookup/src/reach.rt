@@ -44,12 +44,10 @@ pub fn child(t: &[u8], p: usize, n: &[u8]) -> Found
     requires { sound_table t.now ≡ true }
     ensures { found_meant result ≡ child (table_of t.now) p n.now }
 {
-    let mut i = 0;
-    while i < SLOTS {
+    for i in 0..SLOTS {
         if is_child(t, i, p, n) {
             return Found::At(i);
         }
-        i += 1;
     }
     Found::Nowhere
 }

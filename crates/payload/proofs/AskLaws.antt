@@ -10,6 +10,8 @@ use lib.Dec.{eqb}
 use lib.ListN.{length, take, drop}
 use lib.Seq.{length-take-le}
 use borrow.Author.Tests.{ne_eqb}
+use Rattle.std.specs.Prelude.{Some, None, unwrap_or}
+use Rattle.std.specs.Prelude as std
 use Rattle.rules.specs.Octets.{Octets}
 use Rattle.rules.specs.Path.{Domain, Connection, domain_of, Names, Given, malformed, absolute, relative, special, given, base, path_text, slashed}
 use Rattle.rules.specs.Path.{all_names}
@@ -20,11 +22,10 @@ use Rattle.paths.specs.Form.{form_of}
 use Rattle.paths.specs.declared.answer.Form.{Form}
 use Rattle.paths.specs.declared.answer.Form.TheVariants.{Absolute, Relative, Special, Malformed}
 use Rattle.payload.specs.Parts.{parts_of}
-use Rattle.payload.specs.Meaning.{names_from, names_at, ask_meant, meant, PathSound, AskSound, Means, Sound}
-use Rattle.payload.specs.Answers.{named_of, is_root, ask_of, AskIs, asking_of}
+use Rattle.payload.specs.Meaning.{names_from, names_at, ask_meant, meant, PathSound, AskSound, Means, Parses, Sound}
+use Rattle.payload.specs.Answers.{named_of, is_root, asking_of}
 use Rattle.payload.specs.declared.answer.Path.{Path}
 use Rattle.payload.specs.declared.answer.Entries.{Entries}
-use Rattle.payload.specs.declared.answer.Named.TheVariants.{At, Not}
 use Rattle.payload.specs.declared.answer.Ask.{Ask}
 use Rattle.payload.specs.declared.answer.Ask.TheVariants as ask
 use Rattle.payload.specs.declared.answer.Request.{Request}
@@ -42,19 +43,19 @@ pub record IsNamed (s : Octets) (e : ℕ) (p : Path) : Type 0 where
   pub form : form_of (given (take e s)) ≡ p.form
   pub names : (d : Domain) → names_of d (given (take e s)) ≡ some (names_from d (given (take e s)))
 
-pub at_path : {p : Path} {e : ℕ} {f : Form} → At (record { end = e; form = f }) ≡ At p → (p.end ≡ e) × (f ≡ p.form)
+pub at_path : {p : Path} {e : ℕ} {f : Form} → Some (record { end = e; form = f }) ≡ Some p → (p.end ≡ e) × (f ≡ p.form)
 at_path {p} {e} {f} h =
     let q : ◌≡◌ {A = Path} (record { end = e; form = f }) p = cc in
     (sym (ap (λ (x : Path). x.end) q), ap (λ (x : Path). x.form) q)
 
-named_by : (s : Octets) (e : ℕ) (p : Path) (g : Given) → given (take e s) ≡ g → named_of e (form_of g) ≡ At p → IsNamed s e p
+named_by : (s : Octets) (e : ℕ) (p : Path) (g : Given) → given (take e s) ≡ g → named_of e (form_of g) ≡ Some p → IsNamed s e p
 unfolding named_of form_of names_of names_from
 named_by s e p malformed f h = absurd (let z : ◌≡◌ {A = ℕ} 0 1 = cc in omega arith)
 named_by s e p (absolute ns) f h = record { end = (at_path h).0; form = rw f (at_path h).1; names = λ d. rw f }
 named_by s e p (relative ns) f h = record { end = (at_path h).0; form = rw f (at_path h).1; names = λ d. rw f }
 named_by s e p (special t) f h = absurd (let z : ◌≡◌ {A = ℕ} 0 1 = cc in omega arith)
 
-pub named-told : (s : Octets) (e : ℕ) (p : Path) → named_of e (form_of (given (take e s))) ≡ At p → IsNamed s e p
+pub named-told : (s : Octets) (e : ℕ) (p : Path) → named_of e (form_of (given (take e s))) ≡ Some p → IsNamed s e p
 named-told s e p h = named_by s e p (given (take e s)) refl h
 
 asking-named : (d : Domain) (a : rules.Ask) (s : Octets) (e : ℕ) (p : Path) → IsNamed s e p →
@@ -62,14 +63,14 @@ asking-named : (d : Domain) (a : rules.Ask) (s : Octets) (e : ℕ) (p : Path) �
 unfolding asking
 asking-named d a s e p h = rw (h.names d, asking)
 
-unnamed_by : (d : Domain) (e : ℕ) (g : Given) → named_of e (form_of g) ≡ Not → names_of d g ≡ none
+unnamed_by : (d : Domain) (e : ℕ) (g : Given) → named_of e (form_of g) ≡ None → names_of d g ≡ none
 unfolding named_of form_of names_of
 unnamed_by d e malformed h = refl
 unnamed_by d e (absolute ns) h = absurd (let z : ◌≡◌ {A = ℕ} 0 1 = cc in omega arith)
 unnamed_by d e (relative ns) h = absurd (let z : ◌≡◌ {A = ℕ} 0 1 = cc in omega arith)
 unnamed_by d e (special t) h = refl
 
-pub asking_not : (d : Domain) (a : rules.Ask) (s : Octets) (e : ℕ) → named_of e (form_of (given (take e s))) ≡ Not → asking d a (take e s) ≡ invalid
+pub asking_not : (d : Domain) (a : rules.Ask) (s : Octets) (e : ℕ) → named_of e (form_of (given (take e s))) ≡ None → asking d a (take e s) ≡ invalid
 unfolding asking
 asking_not d a s e h = rw (unnamed_by d e (given (take e s)) h, asking)
 
@@ -94,7 +95,7 @@ root-text t a (n ∷ ns) f =
     let g : length t ≡ length (path_text (n ∷ ns)) = ap length full.text in
     rw (ne_eqb (length t) 1 (λ k. omega arith))
 
-root_by : (d : Domain) (a : rules.Ask) (s : Octets) (e : ℕ) (p : Path) (g : Given) → e ≤ length s → given (take e s) ≡ g → named_of e (form_of g) ≡ At p →
+root_by : (d : Domain) (a : rules.Ask) (s : Octets) (e : ℕ) (p : Path) (g : Given) → e ≤ length s → given (take e s) ≡ g → named_of e (form_of g) ≡ Some p →
     proper a (names_from d g) ≡ cond (is_root p) (on_root a) true
 unfolding named_of form_of names_from proper base
 root_by d a s e p malformed k f h = absurd (let z : ◌≡◌ {A = ℕ} 0 1 = cc in omega arith)
@@ -104,7 +105,7 @@ root_by d a s e p (absolute ns) k f h =
 root_by d a s e p (relative ns) k f h = rw (is_root_lem p Relative (sym (at_path h).1))
 root_by d a s e p (special t) k f h = absurd (let z : ◌≡◌ {A = ℕ} 0 1 = cc in omega arith)
 
-pub root-proper : (d : Domain) (a : rules.Ask) (s : Octets) (e : ℕ) (p : Path) → e ≤ length s → named_of e (form_of (given (take e s))) ≡ At p →
+pub root-proper : (d : Domain) (a : rules.Ask) (s : Octets) (e : ℕ) (p : Path) → e ≤ length s → named_of e (form_of (given (take e s))) ≡ Some p →
     proper a (names_from d (given (take e s))) ≡ cond (is_root p) (on_root a) true
 root-proper d a s e p k h = root_by d a s e p (given (take e s)) k refl h
 
@@ -138,7 +139,7 @@ open_else s ask.Mkdir f g = refl
 open_else s ask.Rm f g = absurd (f refl)
 open_else s (ask.SetPerms es) f g = absurd (g es refl)
 
-module _ (s : Octets) (e : ℕ) (p : Path) (k : e < length s) (h : named_of e (form_of (given (take e s))) ≡ At p) where
+module _ (s : Octets) (e : ℕ) (p : Path) (k : e < length s) (h : named_of e (form_of (given (take e s))) ≡ Some p) where
   told : IsNamed s e p
   told = named-told s e p h
 
@@ -156,35 +157,36 @@ module _ (s : Octets) (e : ℕ) (p : Path) (k : e < length s) (h : named_of e (f
     is_proper : (d : Domain) → proper (ask_meant s a) (names_at d s p) ≡ b
     is_proper d = root_at d (ask_meant s a) ∙ o
 
-    by_open : (c : Bool) → b ≡ c → (d : Domain) → meant d s (cond c (Asked a p) Invalid) ≡ asked_for (ask_meant s a) (names_at d s p)
+    abbrev asked : Bool → Request
+    asked c = unwrap_or (cond c (Some (Asked a p)) None) Invalid
+
+    by_open : (c : Bool) → b ≡ c → (d : Domain) → meant d s (asked c) ≡ asked_for (ask_meant s a) (names_at d s p)
     unfolding meant
     by_open true f d = sym (rw (is_proper d ∙ f))
     by_open false f d = sym (rw (is_proper d ∙ f))
 
-    sound_open : AskSound s a → (c : Bool) → b ≡ c → Sound s (cond c (Asked a p) Invalid)
+    sound_open : AskSound s a → (c : Bool) → b ≡ c → Sound s (asked c)
     sound_open x true f = record { path = path-sound; ask = x; proper = λ d. is_proper d ∙ f }
     sound_open x false f = tt
 
-  pub asking_means : (a : Ask) (r : Request) → AskSound s a → r ≡ asking_of s a p →
-      Means s r (λ (c : Connection). asking (domain_of c) (ask_meant s a) (take e s))
+  pub asking_means : (a : Ask) (r : std.Option Request) → AskSound s a → r ≡ asking_of s a p →
+      Parses s r (λ (c : Connection). asking (domain_of c) (ask_meant s a) (take e s))
   unfolding asking_of
   asking_means a r x t =
       record {
         meaning = λ c.
-            ap (meant (domain_of c) s) t ∙ (by_open a _ refl _ refl (domain_of c) ∙ asking_at (domain_of c) (ask_meant s a));
-        sound = subst⁻¹ (Sound s) t (sound_open a _ refl x _ refl);
+            ap (λ (o : std.Option Request). meant (domain_of c) s (unwrap_or o Invalid)) t
+            ∙ (by_open a _ refl _ refl (domain_of c) ∙ asking_at (domain_of c) (ask_meant s a));
+        sound = subst⁻¹ (λ (o : std.Option Request). Sound s (unwrap_or o Invalid)) t (sound_open a _ refl x _ refl);
       }
 
-  pub plain_means : (type : ℕ) (a : Ask) (r : Request) → strings s ≡ some (take e s ∷ []) → AskIs a (ask_of type) → r ≡ asking_of s a p →
-      Means s r (λ (c : Connection). plain (domain_of c) (ask_of type) (strings s))
+  pub plain_means : (a : Ask) (r : std.Option Request) → strings s ≡ some (take e s ∷ []) → AskSound s a → r ≡ asking_of s a p →
+      Parses s r (λ (c : Connection). plain (domain_of c) (ask_meant s a) (strings s))
   unfolding plain
-  plain_means type a r all i t =
-      means_as _ (asking_means a r (i.sound s) t)
-      (λ c.
-      ap (λ (q : rules.Ask). asking (domain_of c) q (take e s)) (i.meaning s) ∙ sym (ap (plain (domain_of c) (ask_of type)) all))
+  plain_means a r all x t = means_as _ (asking_means a r x t) (λ c. sym (ap (plain (domain_of c) (ask_meant s a)) all))
 
-  pub write_means : (rest : ℕ) (r : Request) → rest ≡ e + 1 → first_string s ≡ some (record { first = take e s; rest = drop (e + 1) s }) →
-      r ≡ asking_of s (ask.Write rest) p → Means s r (λ (c : Connection). writing (domain_of c) (first_string s))
+  pub write_means : (rest : ℕ) (r : std.Option Request) → rest ≡ e + 1 → first_string s ≡ some (record { first = take e s; rest = drop (e + 1) s }) →
+      r ≡ asking_of s (ask.Write rest) p → Parses s r (λ (c : Connection). writing (domain_of c) (first_string s))
   unfolding writing
   write_means rest r n f t =
       means_as _ (asking_means (ask.Write rest) r (omega arith) t)
@@ -203,7 +205,7 @@ plain_other s a h = invalid_means s _ (λ c. by (domain_of c) (strings s) h)
     by d (some (x ∷ [])) h = absurd (h (length x) refl)
     by d (some (x ∷ y ∷ ys)) h = refl
 
-module _ (s : Octets) (e : ℕ) (h : named_of e (form_of (given (take e s))) ≡ Not) where
+module _ (s : Octets) (e : ℕ) (h : named_of e (form_of (given (take e s))) ≡ None) where
   pub plain_not : (a : rules.Ask) → strings s ≡ some (take e s ∷ []) → Means s Invalid (λ (c : Connection). plain (domain_of c) a (strings s))
   unfolding plain
   plain_not a all = invalid_means s _ (λ c. ap (plain (domain_of c) a) all ∙ asking_not (domain_of c) a s e h)

@@ -1,24 +1,22 @@
 -- What requests about a domain, and those of a fixed payload, mean.
-use mathlib.Core.Path.{◌≡◌, refl, ap, sym, subst⁻¹, ◌∙◌}
+use mathlib.Core.Path.{◌≡◌, refl, ap, sym, ◌∙◌}
 use mathlib.Core.Bool.{Bool, true, false, cond}
 use mathlib.Core.List.{List, [], ◌∷◌, ◌++◌}
 use mathlib.Core.Option.{Option, none, some}
 use Prim.Native.Nat.{ℕ, ◌+◌, ◌-◌, ◌^◌, ◌≤◌}
 use native.Mathlib.Omega.{arith}
-use lib.Dec.{eqb}
 use lib.ListN.{length, take}
 use borrow.Author.Tests.{eq-eqb, ne_eqb}
 use Rattle.rules.specs.Size.{last_domain}
 use Rattle.rules.specs.Octets.{Octets, text, nul, same, number_in, signed}
-use Rattle.rules.specs.Path.{Domain, Connection, domain_of}
+use Rattle.rules.specs.Path.{Domain, Connection}
 use Rattle.rules.specs.Payload as rules
 use Rattle.rules.specs.Payload.{invalid, request, strings, of_domain, introduce_payload, introducing_of, bare, start_payload, end_payload}
 use Rattle.rules.proofs.Decimals.{range_bounds}
 use Rattle.payload.specs.Strings.{part}
 use Rattle.payload.specs.Parts.{parts_of}
-use Rattle.payload.specs.Meaning.{meant, Means, Sound}
-use Rattle.payload.specs.Answers.{low_of, about_of, told_of}
-use Rattle.payload.specs.declared.answer.Request.{Request}
+use Rattle.payload.specs.Meaning.{meant, Means}
+use Rattle.payload.specs.Answers.{domain_in}
 use Rattle.payload.specs.declared.answer.Request.TheVariants.{Invalid, Start, End, Introduce, Release, DomainPath, IsIntroduced, Reset}
 use Rattle.payload.specs.declared.parts.Parts.TheVariants.{One, Three}
 use Rattle.payload.proofs.PartsLaws.{OneString, ThreeStrings}
@@ -29,53 +27,50 @@ use Rattle.payload.proofs.AskLaws.{invalid_means}
 abbrev answered : (Domain → rules.Request) → Option ℕ → rules.Parsed
 answered f o = elim o [ none ↦ invalid | some i ↦ request (f i) ]
 
-of_one : (low : ℕ) (f : Domain → rules.Request) (x : Octets) → of_domain low f (some (x ∷ [])) ≡ answered f (number_in low last_domain x)
-unfolding of_domain
-of_one low f x = refl
+of_domain_in : (low : ℕ) (f : Domain → rules.Request) (o : Option (List Octets)) → of_domain low f o ≡ answered f (domain_in low o)
+unfolding of_domain domain_in
+of_domain_in low f none = refl
+of_domain_in low f (some []) = refl
+of_domain_in low f (some (x ∷ [])) = refl
+of_domain_in low f (some (x ∷ y ∷ ys)) = refl
 
-pub domain_other : (s : Octets) (low : ℕ) (f : Domain → rules.Request) → ((e : ℕ) → parts_of (strings s) ≡ One e → ⊥) →
+pub domain_other : (low : ℕ) (o : Option (List Octets)) → ((e : ℕ) → parts_of o ≡ One e → ⊥) → none ≡ domain_in low o
+unfolding parts_of domain_in
+domain_other low none h = refl
+domain_other low (some []) h = refl
+domain_other low (some (x ∷ [])) h = absurd (h (length x) refl)
+domain_other low (some (x ∷ y ∷ ys)) h = refl
+
+pub domain_one : (s : Octets) (e : ℕ) → OneString s e → (low : ℕ) → number_in low last_domain (take e s) ≡ domain_in low (strings s)
+unfolding domain_in
+domain_one s e one low = sym (ap (domain_in low) one.all)
+
+domain_bounds : (low i : ℕ) (o : Option (List Octets)) → domain_in low o ≡ some i → (low ≤ i) × (i ≤ last_domain)
+unfolding domain_in
+domain_bounds low i none h = absurd (let z : ◌≡◌ {A = ℕ} 0 1 = cc in omega arith)
+domain_bounds low i (some []) h = absurd (let z : ◌≡◌ {A = ℕ} 0 1 = cc in omega arith)
+domain_bounds low i (some (x ∷ [])) h = range_bounds _ _ _ _ h
+domain_bounds low i (some (x ∷ y ∷ ys)) h = absurd (let z : ◌≡◌ {A = ℕ} 0 1 = cc in omega arith)
+
+pub domain_not : (s : Octets) (low : ℕ) (f : Domain → rules.Request) → domain_in low (strings s) ≡ none →
     Means s Invalid (λ (c : Connection). of_domain low f (strings s))
-unfolding parts_of of_domain
-domain_other s low f h = invalid_means s _ (λ _. by (strings s) h)
-  where
-    by : (o : Option (List Octets)) → ((e : ℕ) → parts_of o ≡ One e → ⊥) → of_domain low f o ≡ invalid
-    by none h = refl
-    by (some []) h = refl
-    by (some (x ∷ [])) h = absurd (h (length x) refl)
-    by (some (x ∷ y ∷ ys)) h = refl
+domain_not s low f h = invalid_means s _ (λ _. of_domain_in low f (strings s) ∙ ap (answered f) h)
 
-module _ (s : Octets) (e : ℕ) (one : OneString s e) where
-  of_domain_at : (low : ℕ) (f : Domain → rules.Request) (o : Option ℕ) → number_in low last_domain (take e s) ≡ o → of_domain low f (strings s) ≡ answered f o
-  of_domain_at low f o h = ap (of_domain low f) one.all ∙ (of_one low f (take e s) ∙ ap (answered f) h)
+module _ (s : Octets) (i : ℕ) where
+  domain_at : (low : ℕ) (f : Domain → rules.Request) → domain_in low (strings s) ≡ some i → of_domain low f (strings s) ≡ request (f i)
+  domain_at low f h = of_domain_in low f (strings s) ∙ ap (answered f) h
 
-  pub domain_not : (low : ℕ) (f : Domain → rules.Request) → number_in low last_domain (take e s) ≡ none →
-      Means s Invalid (λ (c : Connection). of_domain low f (strings s))
-  domain_not low f h = invalid_means s _ (λ _. of_domain_at low f none h)
-
-  told_by : (d : Domain) (a b : Bool) (i : ℕ) →
-      meant d s (cond a (Release i) (cond b (DomainPath i) (IsIntroduced i)))
-      ≡ request (cond a (rules.release i) (cond b (rules.domain_path i) (rules.is_introduced i)))
+  pub release_means : domain_in 1 (strings s) ≡ some i → Means s (Release i) (λ (c : Connection). of_domain 1 rules.release (strings s))
   unfolding meant
-  told_by d true b i = refl
-  told_by d false true i = refl
-  told_by d false false i = refl
+  release_means h = record { meaning = λ _. sym (domain_at 1 rules.release h); sound = domain_bounds 1 i (strings s) h }
 
-  told-sound : (a b : Bool) (i : ℕ) → cond a 1 0 ≤ i → i ≤ last_domain → Sound s (cond a (Release i) (cond b (DomainPath i) (IsIntroduced i)))
-  told-sound true b i l h = (l, h)
-  told-sound false true i l h = h
-  told-sound false false i l h = h
+  pub domain-path_means : domain_in 0 (strings s) ≡ some i → Means s (DomainPath i) (λ (c : Connection). of_domain 0 rules.domain_path (strings s))
+  unfolding meant
+  domain-path_means h = record { meaning = λ _. sym (domain_at 0 rules.domain_path h); sound = (domain_bounds 0 i (strings s) h).1 }
 
-  pub domain_means : (type i : ℕ) (r : Request) → number_in (low_of type) last_domain (take e s) ≡ some i → r ≡ told_of type i →
-      Means s r (λ (c : Connection). of_domain (low_of type) (about_of type) (strings s))
-  unfolding told_of about_of low_of
-  domain_means type i r h t =
-      let b = range_bounds _ _ _ _ h in
-      record {
-        meaning = λ c.
-            ap (meant (domain_of c) s) t
-            ∙ (told_by (domain_of c) (eqb type 9) (eqb type 10) i ∙ sym (of_domain_at (low_of type) (about_of type) (some i) h));
-        sound = subst⁻¹ (Sound s) t (told-sound (eqb type 9) (eqb type 10) i b.0 b.1);
-      }
+  pub introduced_means : domain_in 0 (strings s) ≡ some i → Means s (IsIntroduced i) (λ (c : Connection). of_domain 0 rules.is_introduced (strings s))
+  unfolding meant
+  introduced_means h = record { meaning = λ _. sym (domain_at 0 rules.is_introduced h); sound = (domain_bounds 0 i (strings s) h).1 }
 
 -- ── INTRODUCE ──
 

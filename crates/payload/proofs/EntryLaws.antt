@@ -3,13 +3,12 @@ use mathlib.Core.Path.{◌≡◌, refl, ap, sym, ◌∙◌}
 use mathlib.Core.Bool.{cond}
 use mathlib.Core.List.{List, [], ◌∷◌}
 use mathlib.Core.Option.{Option, none, some}
-use mathlib.Core.Logic.{◌⊎◌, inl, inr}
-use Prim.Native.Nat.{ℕ, suc, ◌+◌, ◌-◌}
+use Prim.Native.Nat.{ℕ, ◌+◌}
 use native.Mathlib.Omega.{arith}
 use lib.Dec.{eqb}
-use lib.ListN.{length, get_or, take, drop}
-use lib.Seq.{take_all}
+use lib.ListN.{length, drop}
 use borrow.Author.Tests.{ne_eqb}
+use Rattle.std.specs.Prelude.{Some, None}
 use Rattle.rules.specs.Size.{last_domain}
 use Rattle.rules.specs.Octets.{Octets, number_in}
 use Rattle.rules.specs.Node as nodes
@@ -20,7 +19,6 @@ use Rattle.payload.specs.Meaning.{entry_meant}
 use Rattle.payload.specs.Answers.{with_entry, added, added_to, entries_in}
 use Rattle.payload.specs.declared.answer.Entry.{Entry}
 use Rattle.payload.specs.declared.answer.Entries.{Entries}
-use Rattle.payload.specs.declared.answer.Permissions.TheVariants.{Are, Not}
 use Rattle.payload.specs.declared.cursor.Cursor.{Cursor}
 use Rattle.payload.specs.declared.cursor.Taken.TheVariants.{String, Left, End}
 use Rattle.payload.proofs.CursorLaws.{Told, string-told, left-told, end-told}
@@ -60,19 +58,15 @@ module _ (s : Octets) where
       by [] h = refl
       by (c ∷ cs) h = absurd (omega arith)
 
-  pub entry-told : (a n : Option ℕ) → (length s ≡ 0 → ⊥) → access_letter (get_or s 0 0) ≡ a →
-      (n ≡ number_in 0 last_domain (take (length s - 1) (drop 1 s))) ⊎ (a ≡ none) → entry_by a n ≡ entry_of s
-  unfolding entry_of
-  entry-told a n h e f = by s h e f
-    where
-      by : (t : Octets) → (length t ≡ 0 → ⊥) → access_letter (get_or t 0 0) ≡ a →
-          (n ≡ number_in 0 last_domain (take (length t - 1) (drop 1 t))) ⊎ (a ≡ none) → entry_by a n ≡ entry_of t
-      by [] h e f = absurd (h refl)
-      by (c ∷ cs) h e (inl g) =
-          ap (λ (x : Option ℕ). entry_by x n) (sym e)
-          ∙ ap (entry_by (access_letter c)) (g ∙ ap (number_in 0 last_domain) (take_all (suc (length cs) - 1) cs (omega arith)))
-      by (c ∷ cs) h e (inr g) =
-          ap (λ (x : Option ℕ). entry_by x n) g ∙ sym (ap (λ (x : Option ℕ). entry_by x (number_in 0 last_domain cs)) (e ∙ g))
+  module _ (c : ℕ) (cs : Octets) (e : s ≡ c ∷ cs) where
+    pub entry_no_letter : none ≡ access_letter c → none ≡ entry_of s
+    unfolding entry_of
+    entry_no_letter f = ap (λ (x : Option ℕ). entry_by x (number_in 0 last_domain cs)) f ∙ sym (ap entry_of e)
+
+    pub entry-told : (a : ℕ) (n : Option ℕ) → some a ≡ access_letter c → n ≡ number_in 0 last_domain cs → entry_by (some a) n ≡ entry_of s
+    unfolding entry_of
+    entry-told a n f g =
+        ap (λ (x : Option ℕ). entry_by x n) f ∙ (ap (entry_by (access_letter c)) g ∙ sym (ap entry_of e))
 
 -- ── the entries of some strings ──
 
@@ -90,17 +84,17 @@ module _ (k : Entries) where
       by none = refl
       by (some es) = refl
 
-  entries_bad : (t : Octets) (o : Option (List Octets)) → entry_of t ≡ none → added_to k (entries_in (prepended t o)) ≡ Not
+  entries_bad : (t : Octets) (o : Option (List Octets)) → entry_of t ≡ none → added_to k (entries_in (prepended t o)) ≡ None
   unfolding added_to entries_in prepended entries_of
   entries_bad t none h = refl
   entries_bad t (some ts) h = ap (λ (x : Option nodes.Entry). added_to k (cons_by x (entries_of ts))) h
 
   module _ (s : Octets) (at : ℕ) where
-    pub entries_end : taken_at s at ≡ End → added_to k (entries_in (strings (drop at s))) ≡ Are k
+    pub entries_end : taken_at s at ≡ End → added_to k (entries_in (strings (drop at s))) ≡ Some k
     unfolding added_to entries_in entries_of added
     entries_end e = rw (end-told s at e).all
 
-    pub entries_left : taken_at s at ≡ Left → added_to k (entries_in (strings (drop at s))) ≡ Not
+    pub entries_left : taken_at s at ≡ Left → added_to k (entries_in (strings (drop at s))) ≡ None
     unfolding added_to entries_in
     entries_left e = rw (left-told s at e).all
 
@@ -114,7 +108,7 @@ module _ (k : Entries) where
           ∙ (ap (λ (n : ℕ). prepended (part n end s) (strings (drop (end + 1) s))) (sym told.begins)
           ∙ ap (λ (n : ℕ). prepended (part start end s) (strings (drop n s))) (sym told.goes_on))
 
-      pub entries_not : none ≡ entry_of (part start end s) → added_to k (entries_in (strings (drop at s))) ≡ Not
+      pub entries_not : none ≡ entry_of (part start end s) → added_to k (entries_in (strings (drop at s))) ≡ None
       entries_not e = rw all (entries_bad (part start end s) (strings (drop next.at s)) (sym e))
 
       pub entries_more : (e : Entry) → some (entry_meant e) ≡ entry_of (part start end s) →

@@ -2,6 +2,7 @@ pub mod Strings
 pub mod CursorLaws
 pub mod PartsLaws
 pub mod EntryLaws
+pub mod Forms
 pub mod AskLaws
 pub mod DomainLaws
 pub mod WatchLaws

@@ -3,22 +3,29 @@ use mathlib.Core.Path.{◌≡◌, refl, ap, sym, ◌∙◌}
 use mathlib.Core.List.{List, [], ◌∷◌, ◌++◌}
 use Prim.Native.Nat.{ℕ, zero, suc, ◌-◌}
 use native.Mathlib.Omega.{arith}
+use mathlib.Core.Bool.{false}
+use lib.Dec.{eqb}
 use lib.ListN.{length, take, replicate, length-replicate}
 use lib.Seq.{take_all}
 use borrow.Author.Tests.{ne_eqb}
+use Rattle.std.specs.Prelude.{None}
 use Rattle.rules.specs.Size.{most_entries}
 use Rattle.rules.specs.Octets.{Octets}
 use Rattle.rules.specs.Path.{Domain, Connection, domain_of}
 use Rattle.rules.specs.Node as nodes
 use Rattle.rules.specs.Payload as rules
-use Rattle.rules.specs.Payload.{Parsed, request, strings, plain, of_domain, parse}
+use Rattle.rules.specs.Payload.{Parsed, request, parse}
 use Rattle.payload.specs.Meaning.{names_at, entry_meant, blank, others_meant, first_others, ask_meant, meant, kept, request_kept, ask_kept, Means}
-use Rattle.payload.specs.Answers.{ask_of, low_of, about_of}
+use Rattle.payload.specs.Kinds.{number_of, IsKind}
+use Rattle.payload.specs.declared.kind.Kind.{Kind}
+use Rattle.payload.specs.declared.kind.Kind.TheVariants as kind
+use Rattle.payload.specs.declared.kind.Kind.TheVariants.{Directory, Read, GetPerms, Write, Mkdir, Rm, SetPerms}
 use Rattle.payload.specs.declared.answer.Ask.{Ask}
 use Rattle.payload.specs.declared.answer.Ask.TheVariants as ask
 use Rattle.payload.specs.declared.answer.Request.{Request}
 use Rattle.payload.specs.declared.answer.Request.TheVariants.{Unknown, Invalid, Ask as Asked, Watch, Unwatch, Start, End, Introduce, Release}
 use Rattle.payload.specs.declared.answer.Request.TheVariants.{DomainPath, IsIntroduced, Reset}
+use Rattle.payload.proofs.AskLaws.{means_as}
 
 -- ── what is kept stays so ──
 
@@ -67,61 +74,56 @@ kept-meant d s (DomainPath i) = refl
 kept-meant d s (IsIntroduced i) = refl
 kept-meant d s Reset = refl
 
--- ── by type ──
+-- ── by kind ──
 
-module _ (s : Octets) (r : Request) (type tx n : ℕ) (e : type ≡ n) where
-  -- a type's own meaning, of what is kept already
-  pub parsed_kept : (q : Connection → Parsed) → Means s r (λ (c : Connection). kept (q c)) → ((c : Connection) → parse c n tx s ≡ q c) →
-      Means s r (λ (c : Connection). kept (parse c type tx s))
+module _ (s : Octets) (r : Request) (kind : Kind) (tx : ℕ) (k : Kind) (e : kind ≡ k) where
+  -- a kind's own meaning, of what is kept already
+  pub parsed_kept : (q : Connection → Parsed) → Means s r (λ (c : Connection). kept (q c)) → ((c : Connection) → parse c (number_of k) tx s ≡ q c) →
+      Means s r (λ (c : Connection). kept (parse c (number_of kind) tx s))
   parsed_kept q m f =
       record {
-        meaning = λ c. m.meaning c ∙ sym (ap (λ (k : ℕ). kept (parse c k tx s)) e ∙ ap kept (f c));
+        meaning = λ c. m.meaning c ∙ sym (ap (λ (j : Kind). kept (parse c (number_of j) tx s)) e ∙ ap kept (f c));
         sound = m.sound;
       }
 
   -- the same of a meaning that is kept whole
-  pub parsed : (q : Connection → Parsed) → Means s r q → ((c : Connection) → parse c n tx s ≡ q c) → Means s r (λ (c : Connection). kept (parse c type tx s))
+  pub parsed : (q : Connection → Parsed) → Means s r q → ((c : Connection) → parse c (number_of k) tx s ≡ q c) →
+      Means s r (λ (c : Connection). kept (parse c (number_of kind) tx s))
   parsed q m f =
       parsed_kept q (record { meaning = λ c. sym (kept-meant (domain_of c) s r) ∙ ap kept (m.meaning c); sound = m.sound }) f
 
-  pub plain_parsed : Means s r (λ (c : Connection). plain (domain_of c) (ask_of type) (strings s)) →
-      ((c : Connection) → parse c n tx s ≡ plain (domain_of c) (ask_of n) (strings s)) → Means s r (λ (c : Connection). kept (parse c type tx s))
-  plain_parsed m f = parsed _ m (λ c. f c ∙ ap (λ (k : ℕ). plain (domain_of c) (ask_of k) (strings s)) (sym e))
-
-  pub domain_parsed : Means s r (λ (c : Connection). of_domain (low_of type) (about_of type) (strings s)) →
-      ((c : Connection) → parse c n tx s ≡ of_domain (low_of n) (about_of n) (strings s)) → Means s r (λ (c : Connection). kept (parse c type tx s))
-  domain_parsed m f = parsed _ m (λ c. f c ∙ ap (λ (k : ℕ). of_domain (low_of k) (about_of k) (strings s)) (sym e))
-
-abbrev Not : ℕ → ℕ → Type 0
-Not type n = type ≡ n → ⊥
+-- a kind's number is the type
+pub numbered : (s : Octets) (r : Request) (kind : Kind) (type tx : ℕ) → number_of kind ≡ type →
+    Means s r (λ (c : Connection). kept (parse c (number_of kind) tx s)) → Means s r (λ (c : Connection). kept (parse c type tx s))
+numbered s r kind type tx e m = means_as _ m (λ c. ap (λ (n : ℕ). kept (parse c n tx s)) e)
 
 -- no type that the box handles
-pub unknown_parsed : (s : Octets) (type tx : ℕ) →
-    Not type 1 → Not type 2 → Not type 3 → Not type 4 → Not type 5 → Not type 6 → Not type 7 → Not type 8 →
-    Not type 9 → Not type 10 → Not type 11 → Not type 12 → Not type 13 → Not type 14 → Not type 17 → Not type 21 →
-    Means s Unknown (λ (c : Connection). kept (parse c type tx s))
+pub unknown_parsed : (s : Octets) (type tx : ℕ) → IsKind type None → Means s Unknown (λ (c : Connection). kept (parse c type tx s))
 unfolding parse meant kept
-unknown_parsed s type tx a b c d e f g h i j k l m n o p =
+unknown_parsed s type tx h =
     record {
       meaning = λ _.
           sym
           (rw (
-            ne_eqb _ _ a,
-            ne_eqb _ _ b,
-            ne_eqb _ _ c,
-            ne_eqb _ _ d,
-            ne_eqb _ _ e,
-            ne_eqb _ _ f,
-            ne_eqb _ _ g,
-            ne_eqb _ _ h,
-            ne_eqb _ _ i,
-            ne_eqb _ _ j,
-            ne_eqb _ _ k,
-            ne_eqb _ _ l,
-            ne_eqb _ _ m,
-            ne_eqb _ _ n,
-            ne_eqb _ _ o,
-            ne_eqb _ _ p,
+            other Directory,
+            other Read,
+            other GetPerms,
+            other kind.Watch,
+            other kind.Unwatch,
+            other kind.Start,
+            other kind.End,
+            other kind.Introduce,
+            other kind.Release,
+            other kind.DomainPath,
+            other Write,
+            other Mkdir,
+            other Rm,
+            other SetPerms,
+            other kind.IsIntroduced,
+            other kind.Reset,
           ));
       sound = tt;
     }
+  where
+    other : (k : Kind) → eqb type (number_of k) ≡ false
+    other k = ne_eqb _ _ (λ e. h k (sym e))

@@ -12,6 +12,7 @@ use Rattle.payload.specs.Strings.{part, prepended}
 use Rattle.payload.specs.Cursor.{taken_at}
 use Rattle.payload.specs.Parts.{parts_of}
 use Rattle.payload.specs.declared.cursor.Cursor.{Cursor}
+use Rattle.payload.specs.declared.cursor.Taken.{Taken}
 use Rattle.payload.specs.declared.cursor.Taken.TheVariants.{String, Left, End}
 use Rattle.payload.specs.declared.parts.Parts.{Parts}
 use Rattle.payload.specs.declared.parts.Parts.TheVariants.{One, Two, Three, Other}
@@ -58,13 +59,14 @@ module _ (s : Octets) (a b : ℕ) (low : a < b) (high : b < length s) where
     all_three : (o : Strings) → strings (drop next.at s) ≡ o → strings (drop (b + 1) s) ≡ prepended (part (b + 1) end s) o
     all_three o f = third.string.all ∙ ap (prepended (part (b + 1) end s)) (sym at_end ∙ f)
 
-    pub three_left : taken_at s next.at ≡ Left → Other ≡ two (strings (drop (b + 1) s))
+    pub three_other : (taken_at s next.at ≡ End → ⊥) → Other ≡ two (strings (drop (b + 1) s))
     unfolding parts_of prepended
-    three_left f = first_two _ (all_three _ (left-told s next.at f).all) _ refl
-
-    pub three_more : (start₂ end₂ : ℕ) (next₂ : Cursor) → taken_at s next.at ≡ String start₂ end₂ next₂ → Other ≡ two (strings (drop (b + 1) s))
-    three_more start₂ end₂ next₂ f =
-        first_two _ (all_three _ (string-told s next.at start₂ end₂ next₂ f).string.all) _ (more _ _ _ _ _)
+    three_other f = by (taken_at s next.at) refl
+      where
+        by : (t : Taken) → taken_at s next.at ≡ t → Other ≡ two (strings (drop (b + 1) s))
+        by Left e = first_two _ (all_three _ (left-told s next.at e).all) _ refl
+        by (String start₂ end₂ next₂) e = first_two _ (all_three _ (string-told s next.at start₂ end₂ next₂ e).string.all) _ (more _ _ _ _ _)
+        by End e = absurd (f e)
 
     pub three_end : taken_at s next.at ≡ End → Three a b end ≡ two (strings (drop (b + 1) s))
     unfolding parts_of prepended

@@ -8,6 +8,8 @@ use Prim.Native.Nat.{ℕ, ◌+◌}
 use native.Mathlib.Omega.{arith}
 use lib.ListN.{take, drop}
 use borrow.Author.Tests.{ne_eqb}
+use Rattle.std.specs.Prelude.{Some, None, unwrap_or}
+use Rattle.std.specs.Prelude as std
 use Rattle.rules.specs.Octets.{Octets}
 use Rattle.rules.specs.Path.{Domain, Connection, domain_of, Names, given}
 use Rattle.rules.specs.Node as nodes
@@ -16,14 +18,12 @@ use Rattle.rules.specs.Payload.{invalid, request, strings, names_of, on_root, pr
 use Rattle.paths.specs.Form.{form_of}
 use Rattle.payload.specs.Strings.{prepended}
 use Rattle.payload.specs.Cursor.{taken_at}
-use Rattle.payload.specs.Meaning.{entry_meant, others_meant, ask_meant, kept, request_kept, ask_kept, Means}
+use Rattle.payload.specs.Meaning.{entry_meant, others_meant, ask_meant, kept, request_kept, ask_kept, Means, Parses}
 use Rattle.payload.specs.Answers.{named_of, no_entries, added, added_to, entries_in, asking_of, setting_of}
 use Rattle.payload.specs.declared.answer.Path.{Path}
 use Rattle.payload.specs.declared.answer.Entry.{Entry}
 use Rattle.payload.specs.declared.answer.Entries.{Entries}
 use Rattle.payload.specs.declared.answer.Ask.TheVariants.{SetPerms}
-use Rattle.payload.specs.declared.answer.Named.TheVariants as named
-use Rattle.payload.specs.declared.answer.Permissions.TheVariants as permissions
 use Rattle.payload.specs.declared.answer.Request.{Request}
 use Rattle.payload.specs.declared.answer.Request.TheVariants.{Invalid}
 use Rattle.payload.specs.declared.cursor.Cursor.{Cursor}
@@ -96,29 +96,29 @@ module _ (s : Octets) where
         ∙ ap (λ (n : ℕ). prepended (take end s) (strings (drop n s))) (sym told.goes_on)))
         ∙ all-setting d (take end s) (strings (drop next.at s))
 
-    added_none : (o : Option (List nodes.Entry)) → added_to no_entries o ≡ permissions.Not → o ≡ none
+    added_none : (o : Option (List nodes.Entry)) → added_to no_entries o ≡ None → o ≡ none
     unfolding added_to
     added_none none h = refl
     added_none (some es) h = absurd (let z : ◌≡◌ {A = ℕ} 0 1 = cc in omega arith)
 
-    pub setting_not : added_to no_entries (entries_in (strings (drop next.at s))) ≡ permissions.Not →
+    pub setting_not : added_to no_entries (entries_in (strings (drop next.at s))) ≡ None →
         Means s Invalid (λ (c : Connection). kept (setting_all (domain_of c) (strings s)))
     unfolding kept setting
     setting_not h =
         invalid_means s _ (λ c. ap kept (setting_at (domain_of c) ∙ ap (setting (domain_of c) (take end s)) (added_none _ h)))
 
-    unnamed : (d : Domain) (o : Option (List nodes.Entry)) → named_of end (form_of (given (take end s))) ≡ named.Not → setting d (take end s) o ≡ invalid
+    unnamed : (d : Domain) (o : Option (List nodes.Entry)) → named_of end (form_of (given (take end s))) ≡ None → setting d (take end s) o ≡ invalid
     unfolding setting
     unnamed d none h = refl
     unnamed d (some []) h = refl
     unnamed d (some (e ∷ es)) h = asking_not d (rules.set_perms e es) s end h
 
-    pub setting_unnamed : named_of end (form_of (given (take end s))) ≡ named.Not →
+    pub setting_unnamed : named_of end (form_of (given (take end s))) ≡ None →
         Means s Invalid (λ (c : Connection). kept (setting_all (domain_of c) (strings s)))
     unfolding kept
     setting_unnamed h = invalid_means s _ (λ c. ap kept (setting_at (domain_of c) ∙ unnamed (domain_of c) _ h))
 
-    module _ (p : Path) (h : named_of end (form_of (given (take end s))) ≡ named.At p) where
+    module _ (p : Path) (h : named_of end (form_of (given (take end s))) ≡ Some p) where
       module _ (o : nodes.Entry) (os : List nodes.Entry) where
         abbrev es : Entries
         es = added no_entries (o ∷ os)
@@ -136,8 +136,8 @@ module _ (s : Octets) where
             let n : es.count ≡ 0 → ⊥ = λ z. omega arith in
             rw (ne_eqb es.count 0 n)
 
-        some_means : (r : Request) → entries_in (strings (drop next.at s)) ≡ some (o ∷ os) → r ≡ setting_of s p es →
-            Means s r (λ (c : Connection). kept (setting_all (domain_of c) (strings s)))
+        some_means : (r : std.Option Request) → entries_in (strings (drop next.at s)) ≡ some (o ∷ os) → r ≡ setting_of s p es →
+            Parses s r (λ (c : Connection). kept (setting_all (domain_of c) (strings s)))
         unfolding setting
         some_means r e t =
             means_as _ (asking_means s end p told.string.high h (SetPerms es) r (entries_sound _ o os e) (t ∙ some-set))
@@ -146,20 +146,20 @@ module _ (s : Octets) where
             ap (λ (a : rules.Ask). asking d a (take end s)) set-ask
             ∙ (sym (kept-asking d (rules.set_perms o os) (take end s)) ∙ sym (ap kept (setting_at d ∙ ap (setting d (take end s)) e))))
 
-      none_means : (r : Request) → entries_in (strings (drop next.at s)) ≡ some [] → r ≡ setting_of s p no_entries →
-          Means s r (λ (c : Connection). kept (setting_all (domain_of c) (strings s)))
+      none_means : (r : std.Option Request) → entries_in (strings (drop next.at s)) ≡ some [] → r ≡ setting_of s p no_entries →
+          Parses s r (λ (c : Connection). kept (setting_all (domain_of c) (strings s)))
       unfolding setting setting_of kept
       none_means r e t =
-          subst⁻¹ (λ (x : Request). Means s x (λ (c : Connection). kept (setting_all (domain_of c) (strings s)))) t
+          subst⁻¹ (λ (x : std.Option Request). Parses s x (λ (c : Connection). kept (setting_all (domain_of c) (strings s)))) t
           (invalid_means s _ (λ c. ap kept (setting_at (domain_of c) ∙ ap (setting (domain_of c) (take end s)) e)))
 
-      pub setting_means : (k : Entries) (r : Request) → added_to no_entries (entries_in (strings (drop next.at s))) ≡ permissions.Are k →
-          r ≡ setting_of s p k → Means s r (λ (c : Connection). kept (setting_all (domain_of c) (strings s)))
+      pub setting_means : (k : Entries) (r : std.Option Request) → added_to no_entries (entries_in (strings (drop next.at s))) ≡ Some k →
+          r ≡ setting_of s p k → Parses s r (λ (c : Connection). kept (setting_all (domain_of c) (strings s)))
       unfolding added_to added
       setting_means k r f t = by (entries_in (strings (drop next.at s))) refl f
         where
-          by : (o : Option (List nodes.Entry)) → entries_in (strings (drop next.at s)) ≡ o → added_to no_entries o ≡ permissions.Are k →
-              Means s r (λ (c : Connection). kept (setting_all (domain_of c) (strings s)))
+          by : (o : Option (List nodes.Entry)) → entries_in (strings (drop next.at s)) ≡ o → added_to no_entries o ≡ Some k →
+              Parses s r (λ (c : Connection). kept (setting_all (domain_of c) (strings s)))
           by none e f = absurd (let z : ◌≡◌ {A = ℕ} 0 1 = cc in omega arith)
           by (some []) e f = none_means r e (t ∙ ap (setting_of s p) (let g : no_entries ≡ k = cc in sym g))
           by (some (o ∷ os)) e f = some_means o os r e (t ∙ ap (setting_of s p) (let g : added no_entries (o ∷ os) ≡ k = cc in sym g))

@@ -3,3 +3,4 @@ pub mod Cursor
 pub mod Parts
 pub mod Meaning
 pub mod Answers
+pub mod Kinds

@@ -1,16 +1,15 @@
 -- What a request means: its places in the payload, read as the rule book's texts.
 use Rattle.std.specs.Prelude.{true, false, List, [], ◌∷◌, ◌++◌, ◌≡◌, ℕ, ◌-◌, ◌^◌, ◌<◌, ◌≤◌, length, take, drop, replicate}
-use Rattle.std.proofs.Math.Option.{Option, none, some}
+use Rattle.std.specs.Prelude.{Option, Some, None, unwrap_or}
 use Rattle.rules.specs.Size.{last_domain, deepest_watch, most_entries}
 use Rattle.rules.specs.Octets.{Octets}
 use Rattle.rules.specs.Path.{Domain, Connection, domain_of, Names, Given, malformed, absolute, relative, special, given, base}
 use Rattle.rules.specs.Node as nodes
 use Rattle.rules.specs.Payload as rules
+use Rattle.octets.specs.Options as options
 use Rattle.paths.specs.Form.{form_of}
 use Rattle.payload.specs.Strings.{part}
 use Rattle.payload.specs.declared.answer.Path.{Path}
-use Rattle.payload.specs.declared.answer.Depth.{Depth}
-use Rattle.payload.specs.declared.answer.Depth.TheVariants as depth
 use Rattle.payload.specs.declared.answer.Entry.{Entry}
 use Rattle.payload.specs.declared.answer.Entries.{Entries}
 use Rattle.payload.specs.declared.answer.Ask.{Ask}
@@ -77,16 +76,12 @@ ask_meant s (ask.SetPerms es) = rules.set_perms (entry_meant es.first) (others_m
 
 -- ── requests ──
 
-abbrev pub depth_meant : Depth → Option ℕ
-depth_meant (depth.Given k) = some k
-depth_meant depth.None = none
-
 -- what a request of domain d with payload s means
 unfoldable pub meant : Domain → Octets → Request → rules.Parsed
 meant d s Unknown = rules.unknown
 meant d s Invalid = rules.invalid
 meant d s (Asked a p) = rules.request (rules.ask (ask_meant s a) (names_at d s p))
-meant d s (Watch p a e k) = rules.request (rules.watch (place_at d s p) (part a e s) (depth_meant k))
+meant d s (Watch p a e k) = rules.request (rules.watch (place_at d s p) (part a e s) (options.meant k))
 meant d s (Unwatch p a e) = rules.request (rules.unwatch (place_at d s p) (part a e s))
 meant d s Start = rules.request rules.start
 meant d s (End b) = rules.request (rules.end b)
@@ -162,11 +157,11 @@ pub record AskedSound (s : Octets) (a : Ask) (p : Path) : Type 0 where
   pub ask : AskSound s a
   pub proper : (d : Domain) → rules.proper (ask_meant s a) (names_at d s p) ≡ true
 
-abbrev pub DepthSound : Depth → Type 0
-DepthSound (depth.Given k) = k ≤ deepest_watch
-DepthSound depth.None = Unit
+abbrev pub DepthSound : Option ℕ → Type 0
+DepthSound (Some k) = k ≤ deepest_watch
+DepthSound None = Unit
 
-pub record WatchSound (s : Octets) (p : Path) (a e : ℕ) (k : Depth) : Type 0 where
+pub record WatchSound (s : Octets) (p : Path) (a e : ℕ) (k : Option ℕ) : Type 0 where
   pub path : PathSound s p
   pub token : TextSound s a e
   pub depth : DepthSound k
@@ -182,7 +177,7 @@ Sound s Unknown = Unit
 Sound s Invalid = Unit
 Sound s (Asked a p) = AskedSound s a p
 Sound s (Watch p a e k) = WatchSound s p a e k
-Sound s (Unwatch p a e) = WatchSound s p a e depth.None
+Sound s (Unwatch p a e) = WatchSound s p a e None
 Sound s Start = Unit
 Sound s (End b) = Unit
 Sound s (Introduce i page channel) = IntroduceSound i channel
@@ -195,3 +190,7 @@ Sound s Reset = Unit
 pub record Means (s : Octets) (r : Request) (q : Connection → rules.Parsed) : Type 0 where
   pub meaning : (c : Connection) → meant (domain_of c) s r ≡ q c
   pub sound : Sound s r
+
+-- the same of a request or none; none is what a malformed payload gives
+abbrev pub Parses : Octets → Option Request → (Connection → rules.Parsed) → Type 0
+Parses s o q = Means s (unwrap_or o Invalid) q

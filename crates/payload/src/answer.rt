@@ -2,28 +2,21 @@
 use paths::answer::Form;
 
 // A path: the payload's first string, which ends at `end`, and its form.
-#[derive(Clone, Copy)]
+#[derive(Clone, Copy, Debug, PartialEq, Eq)]
 pub struct Path {
     pub end: usize,
     pub form: Form,
 }
 
-// A watch's depth, if one is given.
-#[derive(Clone, Copy)]
-pub enum Depth {
-    Given(u32),
-    None,
-}
-
 // A permission entry: the access (none 0, read 1, write 2, both 3) of a domain.
-#[derive(Clone, Copy)]
+#[derive(Clone, Copy, Debug, PartialEq, Eq)]
 pub struct Entry {
     pub access: u32,
     pub domain: u32,
 }
 
 // The permission entries of a payload: how many there are, and the first four.
-#[derive(Clone, Copy)]
+#[derive(Clone, Copy, Debug, PartialEq, Eq)]
 pub struct Entries {
     pub count: usize,
     pub first: Entry,
@@ -33,7 +26,7 @@ pub struct Entries {
 }
 
 // What is asked of a node.
-#[derive(Clone, Copy)]
+#[derive(Clone, Copy, Debug, PartialEq, Eq)]
 pub enum Ask {
     Directory,
     Read,
@@ -45,7 +38,7 @@ pub enum Ask {
     SetPerms(Entries),
 }
 
-#[derive(Drop)]
+#[derive(Drop, Debug, PartialEq, Eq)]
 pub enum Request {
     // no type that the box handles
     Unknown,
@@ -57,7 +50,7 @@ pub enum Request {
         path: Path,
         start: usize,
         end: usize,
-        depth: Depth,
+        depth: Option<u32>,
     },
     Unwatch {
         path: Path,
@@ -75,32 +68,4 @@ pub enum Request {
     DomainPath(u32),
     IsIntroduced(u32),
     Reset,
-}
-
-// A number, or none.
-#[derive(Drop)]
-pub enum Small {
-    Is(u32),
-    Not,
-}
-
-// A path, or none.
-#[derive(Drop)]
-pub enum Named {
-    At(Path),
-    Not,
-}
-
-// A permission entry, or none.
-#[derive(Drop)]
-pub enum Permission {
-    Is(Entry),
-    Not,
-}
-
-// Permission entries, or a string that is none.
-#[derive(Drop)]
-pub enum Permissions {
-    Are(Entries),
-    Not,
 }

@@ -3,10 +3,10 @@ ghost use Rattle.std.specs.Prelude.{◌≡◌};
 ghost use Rattle.rules.specs.Octets.{Octets};
 ghost use Rattle.rules.specs.Path.{Connection, domain_of};
 ghost use Rattle.rules.specs.Payload.{on_root, strings, first_string, plain, writing};
-ghost use Rattle.payload.specs.Meaning.{ask_meant, Means};
-ghost use Rattle.payload.specs.Answers.{ask_of, AskIs, asking_of};
+ghost use Rattle.payload.specs.Meaning.{ask_meant, AskSound, Parses};
+ghost use Rattle.payload.specs.Answers.{asking_of};
 
-use crate::answer::{Ask, Named, Path, Request};
+use crate::answer::{Ask, Path, Request};
 use crate::cursor::{Cursor, Taken};
 use crate::given::{is_root, named};
 use crate::parts::{Parts, apart};
@@ -24,57 +24,31 @@ fn on_root(ask: Ask) -> bool
 }
 
 // What is asked of a path, if the path may be asked so.
-pub fn asking(ask: Ask, path: Path) -> Request
+pub fn asking(ask: Ask, path: Path) -> Option<Request>
     ensures { (s : Octets) → result ≡ asking_of s ask path }
 {
-    if is_root(path) {
-        if !on_root(ask) {
-            return Request::Invalid;
-        }
+    if is_root(path) && !on_root(ask) {
+        return None;
     }
-    Request::Ask(ask, path)
+    Some(Request::Ask(ask, path))
 }
 
-// The ask of a type whose payload is a path alone.
-fn ask_of(kind: u32) -> Ask
-    ensures { AskIs result (ask_of kind) }
-{
-    match kind {
-        1 => Ask::Directory,
-        2 => Ask::Read,
-        3 => Ask::GetPerms,
-        12 => Ask::Mkdir,
-        _ => Ask::Rm,
-    }
-}
-
-// DIRECTORY, READ, GET_PERMS, MKDIR and RM: a path alone.
-pub fn plain(kind: u32, s: &[u8]) -> Request
-    ensures { Means s.now result (λ (c : Connection). plain (domain_of c) (ask_of kind) (strings s.now)) }
+// A path alone: DIRECTORY, READ, GET_PERMS, MKDIR and RM.
+pub fn plain(ask: Ask, s: &[u8]) -> Option<Request>
+    ensures { AskSound s.now ask → Parses s.now result (λ (c : Connection). plain (domain_of c) (ask_meant s.now ask) (strings s.now)) }
 {
     let Parts::One(end) = apart(s) else {
-        return Request::Invalid;
+        return None;
     };
-    let Named::At(path) = named(s, end) else {
-        return Request::Invalid;
-    };
-    asking(ask_of(kind), path)
+    asking(ask, named(s, end)?)
 }
 
 // WRITE: a path, and the rest is the value.
-pub fn write(s: &[u8]) -> Request
-    ensures { Means s.now result (λ (c : Connection). writing (domain_of c) (first_string s.now)) }
+pub fn write(s: &[u8]) -> Option<Request>
+    ensures { Parses s.now result (λ (c : Connection). writing (domain_of c) (first_string s.now)) }
 {
-    let Taken::String {
-        start: _,
-        end,
-        next,
-    } = Cursor::new().next(s)
-    else {
-        return Request::Invalid;
+    let Taken::String { end, next, .. } = Cursor::new().next(s) else {
+        return None;
     };
-    let Named::At(path) = named(s, end) else {
-        return Request::Invalid;
-    };
-    asking(Ask::Write(next.at), path)
+    asking(Ask::Write(next.at), named(s, end)?)
 }

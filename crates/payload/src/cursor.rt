@@ -35,8 +35,7 @@ impl Cursor {
         ensures { result ≡ taken_at s.now self.at }
     {
         let start = self.at;
-        let mut i = start;
-        while i < s.len() {
+        for i in start..s.len() {
             if s[i] == 0 {
                 return Taken::String {
                     start,
@@ -44,7 +43,6 @@ impl Cursor {
                     next: Cursor { at: i + 1 },
                 };
             }
-            i += 1;
         }
         if start < s.len() {
             return Taken::Left;

@@ -8,6 +8,7 @@ pub mod cursor;
 pub mod domain;
 pub mod entries;
 pub mod given;
+pub mod kind;
 pub mod numbers;
 pub mod parse;
 pub mod parts;

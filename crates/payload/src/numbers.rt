@@ -2,32 +2,30 @@
 ghost use Rattle.std.specs.Prelude.{◌≡◌, ◌^◌, ◌<◌};
 ghost use Rattle.rules.specs.Octets.{number_in};
 ghost use Rattle.rules.specs.Payload.{access_letter};
-ghost use Rattle.payload.specs.Answers.{small_meant};
+ghost use Rattle.octets.specs.Options.{meant};
 
-use crate::answer::Small;
-use octets::Number;
 use octets::decimals::number_in;
 
+// The last number that a domain has.
+pub const LAST_DOMAIN: u64 = octets::sizes::LAST_DOMAIN as u64;
+
 // The value of a decimal from low to high, which 32 bits hold.
-pub fn small(s: &[u8], low: u64, high: u64) -> Small
+pub fn small(s: &[u8], low: u64, high: u64) -> Option<u32>
     requires { high < 2 ^ 32 }
-    ensures { small_meant result ≡ number_in low high s.now }
+    ensures { meant result ≡ number_in low high s.now }
 {
-    match number_in(s, low, high) {
-        Number::Is(n) => Small::Is(n as u32),
-        Number::Not => Small::Not,
-    }
+    Some(number_in(s, low, high)? as u32)
 }
 
 // The access that a letter names.
-pub fn letter(c: u8) -> Small
-    ensures { small_meant result ≡ access_letter c }
+pub fn letter(c: u8) -> Option<u32>
+    ensures { meant result ≡ access_letter c }
 {
     match c {
-        b'n' => Small::Is(0),
-        b'r' => Small::Is(1),
-        b'w' => Small::Is(2),
-        b'b' => Small::Is(3),
-        _ => Small::Not,
+        b'n' => Some(0),
+        b'r' => Some(1),
+        b'w' => Some(2),
+        b'b' => Some(3),
+        _ => None,
     }
 }

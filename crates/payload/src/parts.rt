@@ -7,7 +7,7 @@ ghost use Rattle.payload.specs.Parts.{parts_of};
 use crate::cursor::{Cursor, Taken};
 
 // The ends of a payload's strings, where the nul of each stands. The first starts at 0, each other after the nul before it.
-#[derive(Drop)]
+#[derive(Clone, Copy, Debug, PartialEq, Eq)]
 pub enum Parts {
     One(usize),
     Two(usize, usize),
@@ -23,18 +23,9 @@ fn after_two(s: &[u8], a: usize, b: usize, rest: Cursor) -> Parts
         (prepended (part (a + 1) b s.now) (strings (drop (b + 1) s.now)))) }
 {
     match rest.next(s) {
-        Taken::String {
-            start: _,
-            end,
-            next,
-        } => match next.next(s) {
+        Taken::String { end, next, .. } => match next.next(s) {
             Taken::End => Parts::Three(a, b, end),
-            Taken::String {
-                start: _,
-                end: _,
-                next: _,
-            } => Parts::Other,
-            Taken::Left => Parts::Other,
+            _ => Parts::Other,
         },
         Taken::End => Parts::Two(a, b),
         Taken::Left => Parts::Other,
@@ -47,11 +38,7 @@ fn after_one(s: &[u8], a: usize, rest: Cursor) -> Parts
     ensures { result ≡ parts_of (prepended (part 0 a s.now) (strings (drop (a + 1) s.now))) }
 {
     match rest.next(s) {
-        Taken::String {
-            start: _,
-            end,
-            next,
-        } => after_two(s, a, end, next),
+        Taken::String { end, next, .. } => after_two(s, a, end, next),
         Taken::End => Parts::One(a),
         Taken::Left => Parts::Other,
     }
@@ -62,12 +49,7 @@ pub fn apart(s: &[u8]) -> Parts
     ensures { result ≡ parts_of (strings s.now) }
 {
     match Cursor::new().next(s) {
-        Taken::String {
-            start: _,
-            end,
-            next,
-        } => after_one(s, end, next),
-        Taken::End => Parts::Other,
-        Taken::Left => Parts::Other,
+        Taken::String { end, next, .. } => after_one(s, end, next),
+        Taken::End | Taken::Left => Parts::Other,
     }
 }

@@ -10,17 +10,16 @@ one : (c : In-One) → OneString c.args.s.now c.in-One.end
 one c = one_told _ _ (sym c.apart.ensures ∙ c.in-One.is)
 
 pub returns-in_default : goal.returns-in_default
-returns-in_default c = plain_other _ _ (λ e h. c.in_default.not-One e (c.apart.ensures ∙ h))
+returns-in_default c x = plain_other _ _ (λ e h. c.in_default.not-One e (c.apart.ensures ∙ h))
 
 pub named-requires : goal.named-requires
 named-requires c = omega (arith, (one (goal.at.named-requires c).In-One).high)
 
-pub returns-in_default-named : goal.returns-in_default-named
-returns-in_default-named c =
-    plain_not _ _ (sym c.named.ensures ∙ c.in_default-named.is) _ (one (goal.at.returns-in_default-named c).In-One).all
+pub returns-in_err-named : goal.returns-in_err-named
+returns-in_err-named c x =
+    rw c.from_residual.ensures (plain_not _ _ (sym c.in_err-named.ensures) _ (one (goal.at.returns-in_err-named c).In-One).all)
 
 pub returns : goal.returns
-returns c =
+returns c x =
     let o = one (goal.at.returns c).In-One in
-    let is-path = sym c.named.ensures ∙ c.in-At.is in
-    plain_means _ _ _ o.high is-path _ _ _ o.all c.ask_of.ensures (c.asking.ensures _)
+    plain_means _ _ _ o.high (sym c.in_ok-named.ensures) _ _ o.all x (c.asking.ensures _)

@@ -21,13 +21,13 @@ returns-in_default c =
 pub named-requires : goal.named-requires
 named-requires c = omega (arith, (string-told _ _ _ _ _ (found (goal.at.named-requires c).In-String)).string.high)
 
-pub returns-in_default-named : goal.returns-in_default-named
-returns-in_default-named c =
-    write_not _ _ (sym c.named.ensures ∙ c.in_default-named.is) (first-told _ _ _ _ (found (goal.at.returns-in_default-named c).In-String))
+pub returns-in_err-named : goal.returns-in_err-named
+returns-in_err-named c =
+    rw c.from_residual.ensures
+    (write_not _ _ (sym c.in_err-named.ensures) (first-told _ _ _ _ (found (goal.at.returns-in_err-named c).In-String)))
 
 pub returns : goal.returns
 returns c =
     let f = found (goal.at.returns c).In-String in
     let t = string-told _ _ _ _ _ f in
-    let is-path = sym c.named.ensures ∙ c.in-At.is in
-    write_means _ _ _ t.string.high is-path _ _ t.goes_on (first-told _ _ _ _ f) (c.asking.ensures _)
+    write_means _ _ _ t.string.high (sym c.in_ok-named.ensures) _ _ t.goes_on (first-told _ _ _ _ f) (c.asking.ensures _)

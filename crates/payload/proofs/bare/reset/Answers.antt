@@ -6,5 +6,5 @@ use Rattle.payload.proofs.bare.reset.Goals as goal
 pub returns-then-same : goal.returns-then-same
 returns-then-same c = reset_means _ (sym c.same.ensures ∙ c.if-same.true)
 
-pub returns-else-same : goal.returns-else-same
-returns-else-same c = reset_not _ (sym c.same.ensures ∙ c.if-same.false)
+pub returns : goal.returns
+returns c = reset_not _ (sym c.same.ensures ∙ c.if-same.false)

@@ -1,25 +1,20 @@
 -- The first byte is the access's letter, and what is behind it the domain id.
-use mathlib.Core.Path.{refl, ap, sym, ◌∙◌}
-use mathlib.Core.Logic.{inl, inr}
-use mathlib.Core.Option.{none}
-use Rattle.payload.specs.Answers.{small_meant}
-use Rattle.payload.proofs.EntryLaws.{entry_empty, entry-told}
+use mathlib.Core.Path.{ap, ◌∙◌}
+use Rattle.payload.specs.Answers.{permission_meant}
+use Rattle.payload.proofs.EntryLaws.{entry_empty, entry_no_letter, entry-told}
 use Rattle.payload.proofs.entries.permission.Goals as goal
 
-pub returns-then-len-eq0 : goal.returns-then-len-eq0
-returns-then-len-eq0 c = entry_empty _ c.if-len-eq0.true
+pub returns-in_err-first : goal.returns-in_err-first
+returns-in_err-first c = ap permission_meant c.from_residual.ensures ∙ entry_empty _ c.in_err-first.ensures.cases
 
-pub returns-in_default : goal.returns-in_default
-returns-in_default c = entry-told _ _ none c.if-len-eq0.false
-    (sym c.letter.ensures ∙ ap small_meant c.in_default.is) (inr refl)
+pub returns-in_err-access : goal.returns-in_err-access
+returns-in_err-access c =
+    ap permission_meant c.from_residual-in_err-access.ensures ∙ entry_no_letter _ _ _ c.in_ok-first.ensures.cases.0 c.in_err-access.ensures
 
-pub returns-in_default-small : goal.returns-in_default-small
-returns-in_default-small c =
-    entry-told _ _ _ c.if-len-eq0.false (sym c.letter.ensures
-    ∙ ap small_meant c.in-Is.is) (inl (sym (ap small_meant c.in_default-small.is) ∙ c.small.ensures))
+pub returns-in_err-domain : goal.returns-in_err-domain
+returns-in_err-domain c =
+    ap permission_meant c.from_residual-in_err-domain.ensures
+    ∙ entry-told _ _ _ c.in_ok-first.ensures.cases.0 _ _ c.in_ok-access.ensures c.in_err-domain.ensures
 
 pub returns : goal.returns
-returns c =
-    entry-told _ _ _ c.if-len-eq0.false (sym c.letter.ensures
-    ∙ ap small_meant c.in-Is.is)
-    (inl (sym (ap small_meant c.in-Is-small.is) ∙ c.small.ensures))
+returns c = entry-told _ _ _ c.in_ok-first.ensures.cases.0 _ _ c.in_ok-access.ensures c.in_ok-domain.ensures

@@ -1,6 +1,5 @@
 -- The entries of the strings passed, and those of the strings to come, are the entries of all.
-use Rattle.payload.specs.Answers.{permission_meant}
-use mathlib.Core.Path.{ap, sym, ◌∙◌}
+use mathlib.Core.Path.{sym, ◌∙◌}
 use native.Mathlib.Omega.{arith}
 use Rattle.payload.proofs.CursorLaws.{Told, string-told}
 use Rattle.payload.proofs.EntryLaws.{with_count, entries_end, entries_left, entries_not, entries_more}
@@ -32,11 +31,11 @@ slice_bounds-permission-start c = let t = told (goal.at.slice_bounds-permission-
 pub slice_bounds-permission-end : goal.slice_bounds-permission-end
 slice_bounds-permission-end c = let t = told (goal.at.slice_bounds-permission-end c).In-String in omega arith
 
-pub returns-in-Not : goal.returns-in-Not
-returns-in-Not c =
-    sym (c.loop-start.invariant.2
-    ∙ entries_not _ _ _ _ _ _ (sym c.next.ensures ∙ c.in-String.is)
-    (sym (ap permission_meant c.in-Not.is) ∙ c.permission.ensures))
+pub returns-in_err-e-in-String : goal.returns-in_err-e-in-String
+returns-in_err-e-in-String c =
+    c.from_residual.ensures
+    ∙ sym (c.loop-start.invariant.2
+    ∙ entries_not _ _ _ _ _ _ (sym c.next.ensures ∙ c.in-String.is) c.in_err-e-in-String.ensures)
 
 pub with-entries-requires : goal.with-entries-requires
 with-entries-requires c =
@@ -54,7 +53,6 @@ loop-start-preserved c =
       omega arith,
       omega arith,
       i.2
-          ∙ (entries_more _ _ _ _ _ _ (sym c.next.ensures ∙ c.in-String.is) _
-          (sym (ap permission_meant c.in-Is.is) ∙ c.permission.ensures)
+          ∙ (entries_more _ _ _ _ _ _ (sym c.next.ensures ∙ c.in-String.is) _ c.in_ok-e-in-String.ensures
           ∙ rw c.with-entries.ensures),
     )

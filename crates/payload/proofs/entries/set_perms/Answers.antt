@@ -21,18 +21,20 @@ returns-in_default c =
 pub permissions-requires : goal.permissions-requires
 permissions-requires c = let t = string-told _ _ _ _ _ (found (goal.at.permissions-requires c).In-String) in omega arith
 
-pub returns-in_default-permissions : goal.returns-in_default-permissions
-returns-in_default-permissions c =
-    setting_not _ _ _ _ (found (goal.at.returns-in_default-permissions c).In-String) (sym c.permissions.ensures ∙ c.in_default-permissions.is)
+pub returns-in_err-entries : goal.returns-in_err-entries
+returns-in_err-entries c =
+    rw c.from_residual.ensures
+    (setting_not _ _ _ _ (found (goal.at.returns-in_err-entries c).In-String) (sym c.in_err-entries.ensures))
 
 pub named-requires : goal.named-requires
 named-requires c = let t = string-told _ _ _ _ _ (found (goal.at.named-requires c).In-String) in omega arith
 
-pub returns-in_default-named : goal.returns-in_default-named
-returns-in_default-named c =
-    setting_unnamed _ _ _ _ (found (goal.at.returns-in_default-named c).In-String) (sym c.named.ensures ∙ c.in_default-named.is)
+pub returns-in_err-named : goal.returns-in_err-named
+returns-in_err-named c =
+    rw c.from_residual-in_err-named.ensures
+    (setting_unnamed _ _ _ _ (found (goal.at.returns-in_err-named c).In-String) (sym c.in_err-named.ensures))
 
 pub returns : goal.returns
 returns c =
-    let are-entries = sym c.permissions.ensures ∙ c.in-Are.is in
-    setting_means _ _ _ _ (found (goal.at.returns c).In-String) _ (sym c.named.ensures ∙ c.in-At.is) _ _ are-entries (c.setting.ensures _)
+    setting_means _ _ _ _ (found (goal.at.returns c).In-String) _ (sym c.in_ok-named.ensures) _ _
+    (sym c.in_ok-entries.ensures) (c.setting.ensures _)

@@ -1,20 +1,10 @@
 -- The rule has a limit for an event's name alone, and that is the depth 1.
-use mathlib.Core.Path.{sym}
-use Rattle.payload.specs.Answers.{depth_fits}
+use mathlib.Core.Path.{sym, ◌∙◌}
+use Rattle.payload.proofs.Forms.{fits-form}
 use Rattle.payload.proofs.given.depth_fits.Goals as goal
 
-pub returns-in-Absolute : goal.returns-in-Absolute
-unfolding depth_fits
-returns-in-Absolute c = sym (rw c.in-Absolute.is)
+pub returns-then-ne : goal.returns-then-ne
+returns-then-ne c = c.if-ne.true ∙ sym (fits-form _ _ ∙ rw (sym c.ne.ensures ∙ c.if-ne.true))
 
-pub returns-in-Relative : goal.returns-in-Relative
-unfolding depth_fits
-returns-in-Relative c = sym (rw c.in-Relative.is)
-
-pub returns-in-Special : goal.returns-in-Special
-unfolding depth_fits
-returns-in-Special c = sym (rw c.in-Special.is)
-
-pub returns-in-Malformed : goal.returns-in-Malformed
-unfolding depth_fits
-returns-in-Malformed c = sym (rw c.in-Malformed.is)
+pub returns-else-ne : goal.returns-else-ne
+returns-else-ne c = sym (fits-form _ _ ∙ rw (sym c.ne.ensures ∙ c.if-ne.false))

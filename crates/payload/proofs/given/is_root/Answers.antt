@@ -1,20 +1,10 @@
 -- The root is the absolute path of one byte.
-use mathlib.Core.Path.{sym}
-use Rattle.payload.specs.Answers.{is_root}
+use mathlib.Core.Path.{sym, ◌∙◌}
+use Rattle.payload.proofs.Forms.{root-form}
 use Rattle.payload.proofs.given.is_root.Goals as goal
 
-pub returns-in-Absolute : goal.returns-in-Absolute
-unfolding is_root
-returns-in-Absolute c = sym (rw c.in-Absolute.is)
+pub returns-then-eq : goal.returns-then-eq
+returns-then-eq c = sym (root-form _ ∙ rw (sym c.eq.ensures ∙ c.if-eq.true))
 
-pub returns-in-Relative : goal.returns-in-Relative
-unfolding is_root
-returns-in-Relative c = sym (rw c.in-Relative.is)
-
-pub returns-in-Special : goal.returns-in-Special
-unfolding is_root
-returns-in-Special c = sym (rw c.in-Special.is)
-
-pub returns-in-Malformed : goal.returns-in-Malformed
-unfolding is_root
-returns-in-Malformed c = sym (rw c.in-Malformed.is)
+pub returns-else-eq : goal.returns-else-eq
+returns-else-eq c = c.if-eq.false ∙ sym (root-form _ ∙ rw (sym c.eq.ensures ∙ c.if-eq.false))

@@ -1,24 +1,13 @@
--- A node's path is absolute or relative; an event's name is none.
+-- A node's path is a place that is no event's name.
 use mathlib.Core.Path.{ap, sym, ◌∙◌}
-use lib.Seq.{length-take-le}
-use Rattle.payload.specs.Answers.{named_of}
+use Rattle.payload.proofs.Forms.{no_event, named-form}
 use Rattle.payload.proofs.given.named.Goals as goal
 
-pub slice_bounds-form-end : goal.slice_bounds-form-end
-slice_bounds-form-end c = sym (length-take-le _ _ c.requires)
+pub returns-in_err-path : goal.returns-in_err-path
+returns-in_err-path c = c.from_residual.ensures ∙ (ap no_event c.in_err-path.ensures ∙ sym (named-form _ _))
 
-pub returns-in-Absolute : goal.returns-in-Absolute
-unfolding named_of
-returns-in-Absolute c = ap (named_of _) (sym c.in-Absolute.is ∙ c.form.ensures)
+pub returns-then-eq : goal.returns-then-eq
+returns-then-eq c = sym (rw (sym c.eq.ensures ∙ c.if-eq.true)) ∙ (ap no_event c.in_ok-path.ensures ∙ sym (named-form _ _))
 
-pub returns-in-Relative : goal.returns-in-Relative
-unfolding named_of
-returns-in-Relative c = ap (named_of _) (sym c.in-Relative.is ∙ c.form.ensures)
-
-pub returns-in-Special : goal.returns-in-Special
-unfolding named_of
-returns-in-Special c = ap (named_of _) (sym c.in-Special.is ∙ c.form.ensures)
-
-pub returns-in-Malformed : goal.returns-in-Malformed
-unfolding named_of
-returns-in-Malformed c = ap (named_of _) (sym c.in-Malformed.is ∙ c.form.ensures)
+pub returns : goal.returns
+returns c = sym (rw (sym c.eq.ensures ∙ c.if-eq.false)) ∙ (ap no_event c.in_ok-path.ensures ∙ sym (named-form _ _))

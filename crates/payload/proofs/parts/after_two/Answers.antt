@@ -3,7 +3,7 @@ use mathlib.Core.Path.{◌≡◌, ap, sym, ◌∙◌}
 use Prim.Native.Nat.{◌+◌}
 use Rattle.payload.specs.Cursor.{taken_at}
 use Rattle.payload.specs.declared.cursor.Taken.{Taken}
-use Rattle.payload.proofs.PartsLaws.{two_left, two_end, three_left, three_more, three_end}
+use Rattle.payload.proofs.PartsLaws.{two_left, two_end, three_other, three_end}
 use Rattle.payload.proofs.parts.after_two.Goals as goal
 use Rattle.payload.proofs.parts.after_two.Goals.{After-next}
 
@@ -15,15 +15,10 @@ returns-in-End-next c =
     three_end _ _ _ c.requires.0 c.requires.1 _ _ _ (found (goal.at.returns-in-End-next c).After-next _ c.in-String.is)
     (sym c.next-in-String.ensures ∙ c.in-End-next.is)
 
-pub returns-in-String-next : goal.returns-in-String-next
-returns-in-String-next c =
-    three_more _ _ _ c.requires.0 c.requires.1 _ _ _ (found (goal.at.returns-in-String-next c).After-next _ c.in-String.is) _ _ _
-    (sym c.next-in-String.ensures ∙ c.in-String-next.is)
-
-pub returns-in-Left-next : goal.returns-in-Left-next
-returns-in-Left-next c =
-    three_left _ _ _ c.requires.0 c.requires.1 _ _ _ (found (goal.at.returns-in-Left-next c).After-next _ c.in-String.is)
-    (sym c.next-in-String.ensures ∙ c.in-Left-next.is)
+pub returns-in_default : goal.returns-in_default
+returns-in_default c =
+    three_other _ _ _ c.requires.0 c.requires.1 _ _ _ (found (goal.at.returns-in_default c).After-next _ c.in-String.is)
+    (λ h. c.in_default.not-End (c.next-in-String.ensures ∙ h))
 
 pub returns-in-End : goal.returns-in-End
 returns-in-End c =

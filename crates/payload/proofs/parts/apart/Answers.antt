@@ -1,7 +1,9 @@
 -- A payload begins with a string, or there is none in it.
 use mathlib.Core.Path.{◌≡◌, ap, sym, ◌∙◌}
+use mathlib.Core.Logic.{⊎_elim}
 use Rattle.payload.specs.Cursor.{taken_at}
 use Rattle.payload.specs.declared.cursor.Taken.{Taken}
+use Rattle.payload.specs.declared.cursor.Taken.TheVariants.{Left, End}
 use Rattle.payload.proofs.CursorLaws.{string-told}
 use Rattle.payload.proofs.PartsLaws.{none_left, none_end, none_more}
 use Rattle.payload.proofs.parts.apart.Goals as goal
@@ -19,7 +21,6 @@ pub returns-in-String : goal.returns-in-String
 returns-in-String c = none_more _ _ _ _ _ (found (goal.at.returns-in-String c).After-next _ c.in-String.is) c.after_one.ensures
 
 pub returns-in-End : goal.returns-in-End
-returns-in-End c = none_end _ (found (goal.at.returns-in-End c).After-next _ c.in-End.is)
-
-pub returns-in-Left : goal.returns-in-Left
-returns-in-Left c = none_left _ (found (goal.at.returns-in-Left c).After-next _ c.in-Left.is)
+returns-in-End c =
+    let f = found (goal.at.returns-in-End c).After-next in
+    ⊎_elim (λ (e : c.next.result ≡ End). none_end _ (f _ e)) (λ (e : c.next.result ≡ Left). none_left _ (f _ e)) c.in-End.is

@@ -15,8 +15,9 @@ returns-in_default c = unwatch_other _ (λ a b h. c.in_default.not-Two a b (c.ap
 pub placed-requires : goal.placed-requires
 placed-requires c = let t = two (goal.at.placed-requires c).In-Two in omega arith
 
-pub returns-in_default-placed : goal.returns-in_default-placed
-returns-in_default-placed c = unwatch_not _ _ (sym c.placed.ensures ∙ c.in_default-placed.is) _ (two (goal.at.returns-in_default-placed c).In-Two).all
+pub returns-in_err-placed : goal.returns-in_err-placed
+returns-in_err-placed c =
+    rw c.from_residual.ensures (unwatch_not _ _ (sym c.in_err-placed.ensures) _ (two (goal.at.returns-in_err-placed c).In-Two).all)
 
 pub overflow_add-result : goal.overflow_add-result
 overflow_add-result c =
@@ -26,4 +27,4 @@ overflow_add-result c =
 pub returns : goal.returns
 returns c =
     let t = two (goal.at.returns c).In-Two in
-    unwatch_means _ _ _ _ t.low t.high (sym c.placed.ensures ∙ c.in-At.is) t.all
+    unwatch_means _ _ _ _ t.low t.high (sym c.in_ok-placed.ensures) t.all

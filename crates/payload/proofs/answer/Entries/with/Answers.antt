@@ -1,7 +1,7 @@
 -- The first four have places of their own; every other is only counted.
 use mathlib.Core.Path.{sym}
 use Rattle.payload.proofs.EntryLaws.{with_at, with_more}
-use Rattle.payload.proofs.entries.with.Goals as goal
+use Rattle.payload.proofs.answer.Entries.with.Goals as goal
 
 pub returns-in-0 : goal.returns-in-0
 returns-in-0 c = sym (with_at _ _ _ c.in-0.is)
