@@ -29,8 +29,12 @@ its_tables w = tables (its_nodes w) (its_copies w) (its_watches w) (its_transact
 
 -- the lowest free place, where there is one
 module _ (o : Option ℕ) (n m : ℕ) (e : unwrap_or o n ≡ m) where
-  pub none-free : o ≡ None → n ≡ m
-  none-free h = rw h at e
+  pub none-free : ((k : ℕ) → o ≡ Some k → ⊥) → n ≡ m
+  none-free h = go o refl
+    where
+      go : (x : Option ℕ) → o ≡ x → n ≡ m
+      go None q = rw q at e
+      go (Some k) q = absurd (h k q)
 
   pub some_free : (k : ℕ) → o ≡ Some k → k ≡ m
   some_free k h = rw h at e
