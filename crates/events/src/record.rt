@@ -5,7 +5,7 @@ ghost use Rattle.rules.specs.Event.{kept};
 ghost use Rattle.rules.specs.Message.{record_at, mask_bit, path_length, path_in};
 ghost use Rattle.events.specs.Records.{record_of, Recorded, Room, Mask, number_bit};
 
-use octets::numbers::two;
+use octets::numbers::number;
 use octets::parts::{clear, copy};
 use octets::sizes::{LONGEST_PATH, MASK_SIZE, RECORD_PATH_AT, RECORD_SIZE};
 
@@ -53,7 +53,8 @@ pub fn heard(events: &[u8], i: usize, k: u32) -> bool
     requires { (i < most_records) × (k < most_watches) × (length events.now ≡ events_size) }
     ensures { result ≡ mask_bit (record_at events.now i) k }
 {
-    has_bit(two(events, i * RECORD_SIZE), k as usize)
+    let mask = number::<2>(events, i * RECORD_SIZE) as u32;
+    has_bit(mask, k as usize)
 }
 
 // The length of record i's path, as its field has it.
@@ -61,7 +62,7 @@ pub fn path_length(events: &[u8], i: usize) -> usize
     requires { (i < most_records) × (length events.now ≡ events_size) }
     ensures { result ≡ path_length (record_at events.now i) }
 {
-    (two(events, i * RECORD_SIZE + MASK_SIZE) / 128) as usize
+    (number::<2>(events, i * RECORD_SIZE + MASK_SIZE) / 128) as usize
 }
 
 // The path of record i, where its length is within the size.

@@ -157,9 +157,19 @@ entries_low m c first rest b h k r e =
     domain-none : m % 65536 ≡ rest % 65536
     domain-none = omega arith
 
--- what is past a count that is known
-pub past_count : {count k : ℕ} (rest : ℕ) → count ≡ k → eqb (rest % 2 ^ (18 * (4 - k))) 0 ≡ eqb (rest % 2 ^ (18 * (4 - count))) 0
-past_count rest e = ap (λ (n : ℕ). eqb (rest % 2 ^ (18 * (4 - n))) 0) (sym e)
+-- the shift that the bits past a count are taken by
+pub shifted : (c : ℕ) → 1 ≤ c → c ≤ 4 → 1 * 2 ^ (18 * (4 - c)) % 2 ^ 64 ≡ 2 ^ (18 * (4 - c))
+shifted zero h k = absurd (omega arith)
+shifted (suc zero) h k = refl
+shifted (suc (suc zero)) h k = refl
+shifted (suc (suc (suc zero))) h k = refl
+shifted (suc (suc (suc (suc zero)))) h k = refl
+shifted (suc (suc (suc (suc (suc c))))) h k = absurd (omega arith)
 
-pub past_none : (rest : ℕ) {count : ℕ} → count ≡ 4 → true ≡ eqb (rest % 2 ^ (18 * (4 - count))) 0
-past_none rest e = sym (ap (λ (n : ℕ). eqb (rest % 2 ^ (18 * (4 - n))) 0) e ∙ eq-eqb (rest % 1) 0 (omega arith))
+pub shift_some : (c : ℕ) → 1 ≤ c → c ≤ 4 → 0 < 1 * 2 ^ (18 * (4 - c)) % 2 ^ 64
+shift_some zero h k = absurd (omega arith)
+shift_some (suc zero) h k = omega arith
+shift_some (suc (suc zero)) h k = omega arith
+shift_some (suc (suc (suc zero))) h k = omega arith
+shift_some (suc (suc (suc (suc zero)))) h k = omega arith
+shift_some (suc (suc (suc (suc (suc c))))) h k = absurd (omega arith)

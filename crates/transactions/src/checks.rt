@@ -13,7 +13,7 @@ ghost use Rattle.transactions.specs.Checks.{change_kept, changes_kept, good_open
 use crate::places::{changes, holder, is_open, parents, path, removed};
 use domains::places::known_sender;
 use octets::compare::{all_zero, rest_zero};
-use octets::numbers::two;
+use octets::numbers::number;
 use octets::sizes::{
     CHANGE_FIELDS_SIZE, CHANGE_SIZE, CHANGES_AT, CHANGES_SIZE, LONGEST_PATH, MOST_CHANGES,
     TRANSACTION_SIZE, TRANSACTIONS, TRANSACTIONS_SIZE,
@@ -35,7 +35,7 @@ fn change_kept(s: &[u8], at: usize) -> bool
     requires { at + change_size ≤ length s.now }
     ensures { result ≡ change_kept (take change_size (drop at s.now)) }
 {
-    let fields = two(s, at);
+    let fields = number::<2>(s, at);
     if fields / 4096 % 8 != 0 {
         return false;
     }
@@ -44,10 +44,7 @@ fn change_kept(s: &[u8], at: usize) -> bool
         return false;
     }
     let from = at + CHANGE_FIELDS_SIZE;
-    if !is_full(&s[from..from + n]) {
-        return false;
-    }
-    rest_zero(s, from, n, LONGEST_PATH)
+    is_full(&s[from..from + n]) && rest_zero(s, from, n, LONGEST_PATH)
 }
 
 // Whether the bytes of n changes from `at` on are.
@@ -74,10 +71,8 @@ fn place_kept(s: &[u8], k: usize) -> bool
     if MOST_CHANGES < n {
         return false;
     }
-    if !changes_kept(s, at + CHANGES_AT, n) {
-        return false;
-    }
-    rest_zero(s, at + CHANGES_AT, n * CHANGE_SIZE, CHANGES_SIZE)
+    changes_kept(s, at + CHANGES_AT, n)
+        && rest_zero(s, at + CHANGES_AT, n * CHANGE_SIZE, CHANGES_SIZE)
 }
 
 // Whether the bytes are those of what they mean.
@@ -97,15 +92,9 @@ fn parents_good(removed: bool, parents: usize, path: &[u8]) -> bool
     ensures { result ≡ good_change (change_given removed parents path.now) }
 {
     if removed {
-        if parents != 0 {
-            return false;
-        }
-        return 0 < depth(path);
+        return parents == 0 && 0 < depth(path);
     }
-    if parents == 0 {
-        return true;
-    }
-    parents < depth(path)
+    parents == 0 || parents < depth(path)
 }
 
 // Whether change j is on a path within the sizes, and its new parents and its removal go with that path.
@@ -114,10 +103,7 @@ fn change_good(s: &[u8], k: usize, j: usize) -> bool
     ensures { result ≡ good_change (change_of s.now k j) }
 {
     let p = path(s, k, j);
-    if !fits(p) {
-        return false;
-    }
-    parents_good(removed(s, k, j), parents(s, k, j), p)
+    fits(p) && parents_good(removed(s, k, j), parents(s, k, j), p)
 }
 
 fn changes_good(s: &[u8], k: usize) -> bool
@@ -135,10 +121,7 @@ fn place_good(s: &[u8], domains: &[u8], k: usize) -> bool
     if !is_open(s, k) {
         return true;
     }
-    if !known_sender(domains, holder(s, k)) {
-        return false;
-    }
-    changes_good(s, k)
+    known_sender(domains, holder(s, k)) && changes_good(s, k)
 }
 
 fn good(s: &[u8], domains: &[u8]) -> bool
@@ -156,8 +139,5 @@ pub fn sound_entries(s: &[u8], domains: &[u8]) -> bool
     if s.len() != TRANSACTIONS_SIZE {
         return false;
     }
-    if !kept(s) {
-        return false;
-    }
-    good(s, domains)
+    kept(s) && good(s, domains)
 }

@@ -5,4 +5,4 @@ use Rattle.events.proofs.record.heard.Goals as goal
 
 pub returns : goal.returns
 returns c =
-    c.has_bit.ensures ∙ mask-read c.args.events.now c.args.i c.requires.0 c.requires.2 c.args.k c.two.result c.two.ensures
+    c.has_bit.ensures ∙ mask-read c.args.events.now c.args.i c.requires.0 c.requires.2 c.args.k _ c.number-mask.ensures.read
