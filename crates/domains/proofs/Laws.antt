@@ -16,10 +16,11 @@ use Rattle.rules.specs.Entries.{without}
 use Rattle.rules.specs.Layout.{Domains, domain_in, domain_bytes, domains_bytes, domains_of}
 use Rattle.rules.specs.Sound.{introduced, good_domains, sound_domains}
 use Rattle.rules.proofs.Paste.{paste_sets}
-use Rattle.rules.proofs.Fields.{length_big, field-part, field_three}
-use Rattle.rules.proofs.EntryLayouts.{domain-read, domain_at}
+use Rattle.rules.proofs.Fields.{length_big, field-part, field_two, field_three}
+use Rattle.rules.proofs.EntryLayouts.{domain-read as domain_back, domain_at}
 use Rattle.domains.specs.Entry.{taken, passes, entry_or, dropped_if}
-use Rattle.octets.specs.Two.{Bytes, Two}
+use Rattle.octets.specs.Two.{Bytes}
+use Rattle.octets.specs.Read.{Read}
 use Rattle.domains.specs.Kept.{kept_at, KeptDomains}
 use Rattle.domains.specs.Checks.{good_domain}
 use Rattle.domains.proofs.Tests.{taken-cond, entry_is}
@@ -66,10 +67,10 @@ module _ (s : Octets) (bytes : Bytes s) (whole : length s ≡ domains_size) (k :
       let d = bytes (at k + 2) in
       omega (arith, head_bytes, entry_is (eqb (bits_at head 23 1) 1) (bits_at head 0 16) 0 place_is u)
 
-  pub domain_two : (r : ℕ) → Two s (at k + 1) r → taken (get_or (domains_of s) k none) ≡ true → r ≡ entry_or 0 (get_or (domains_of s) k none)
-  domain_two r w u =
+  pub domain-read : (r : ℕ) → Read s (at k + 1) 2 r → taken (get_or (domains_of s) k none) ≡ true → r ≡ entry_or 0 (get_or (domains_of s) k none)
+  domain-read r w u =
       let e : at k + 1 + 1 ≡ at k + 2 = omega arith in
-      (rw e at w.value) ∙ domain-bytes u
+      w.value ∙ field_two s (at k + 1) (omega arith) ∙ rw e (domain-bytes u)
 
 -- ── whether the bytes are those of what they mean ──
 
@@ -81,7 +82,7 @@ unfolding domain_bytes
 none-bytes = refl
 
 empty : Writable domain_bytes domain_in domain_size wide none
-empty = record { width = domain-wide none; back = domain-read none tt }
+empty = record { width = domain-wide none; back = domain_back none tt }
 
 -- the bytes of a domain
 pub three_bytes_lem : (d : ℕ) → d < 65536 → domain_bytes (some d) ≡ 128 ∷ (d / 256 % 256) ∷ (d % 256) ∷ []

@@ -1,6 +1,6 @@
 -- Tables of places of one width: their parts, whether the bytes re-encode to themselves, and what a written place leaves of bytes that do.
 use mathlib.Core.Path.{◌≡◌, refl, sym, ap, ◌∙◌}
-use mathlib.Core.Bool.{Bool, true, false, not, ◌&&◌, and-true}
+use mathlib.Core.Bool.{Bool, true, false, ◌&&◌, and-true}
 use mathlib.Core.List.{List, [], ◌∷◌, ◌++◌, map, flat_map}
 use mathlib.Core.Option.{Option, none, some}
 use Prim.Native.Nat.{ℕ, zero, suc, ◌+◌, ◌*◌, ◌-◌, ◌≤◌, ◌<◌, zero-le, suc-le-suc}
@@ -10,6 +10,9 @@ use native.Mathlib.Omega.{arith}
 use lib.ListN.{length, get_or, take, drop, set, length-map, length-drop, length-set, take-append-drop, replicate}
 use lib.Seq.{drop-drop, drop-cons, take_at, take-take, length-take-le, set-get_or}
 use lib.Dec.{eqb}
+use Rattle.std.specs.List.{list_all, range_with_len}
+use Rattle.std.proofs.lemmas.List.Folds.{list_all-map}
+use Rattle.std.proofs.lemmas.List.FromFn.{fill_by_all}
 use borrow.Author.Tests.{eq-eqb, ne_eqb, eqb-true, eqb-false}
 use Rattle.rules.specs.Octets.{Octets, same, all_zero, padded, chunks, paste}
 use Rattle.rules.specs.Layout.{text_at}
@@ -24,7 +27,6 @@ use Rattle.octets.specs.Numbers.{rest_zero}
 use Rattle.domains.specs.Entry.{taken, passes, entry_or, dropped_if}
 use Rattle.domains.specs.Kept.{Kept, kept_at}
 use Rattle.octets.proofs.Bytes.{agree}
-use Rattle.domains.proofs.Turns.{Checked, check_failed, check_passed, check_ended, every, every_check}
 use Rattle.domains.proofs.Search.{free_none, taken-some, dropped_is, dropped_not, swept_before, swept_next, swept_all, without-map}
 
 pub eqb_swap : (x y : ℕ) → eqb x y ≡ eqb y x
@@ -103,12 +105,8 @@ module _ {B : Type 0} (encode : B → Octets) (decode : Octets → B) (k : ℕ) 
   abbrev pub row_kept : Octets → Bool
   row_kept r = same (encode (decode r)) r
 
-  -- of n rows of k bytes
-  abbrev pub rows_kept : ℕ → Octets → List Bool
-  rows_kept n s = map row_kept (chunks n k s)
-
-  kept_each : (n : ℕ) (s : Octets) → length s ≡ n * k → same (flat_map encode (map decode (chunks n k s))) s ≡ every (rows_kept n s)
-  unfolding chunks flat_map every same
+  kept_each : (n : ℕ) (s : Octets) → length s ≡ n * k → same (flat_map encode (map decode (chunks n k s))) s ≡ list_all row_kept (chunks n k s)
+  unfolding chunks flat_map same
   kept_each zero [] e = refl
   kept_each zero (x ∷ s) e = absurd (omega (arith, zero-mul k))
   kept_each (suc n) s e =
@@ -119,19 +117,22 @@ module _ {B : Type 0} (encode : B → Octets) (decode : Octets → B) (k : ℕ) 
       ∙ same_append (encode (decode first)) rest first (drop k s) (wide first ∙ sym (length-take-le k s (omega arith)))
       ∙ ap (◌&&◌ (row_kept first)) (kept_each n (drop k s) (rw length-drop (omega arith)))
 
-  module _ (n : ℕ) (s : Octets) (whole : length s ≡ n * k) (i : ℕ) (p : Checked every (rows_kept n s) i) where
-    so_many : length (rows_kept n s) ≡ n
-    so_many = length-map (chunks n k s) row_kept ∙ length-chunks n k s
+  -- the row in place i
+  abbrev pub kept_row : Octets → ℕ → Bool
+  kept_row s i = row_kept (take k (drop (i * k) s))
 
-    pub rows_failed : i < n → {b : Bool} → b ≡ row_kept (take k (drop (i * k) s)) → not b ≡ true → false ≡ same (flat_map encode (map decode (chunks n k s))) s
-    rows_failed h e f =
-        check_failed every_check (rows_kept n s) n so_many i p h (e ∙ sym (decoded_at row_kept n k i s false h)) f ∙ sym (kept_each n s whole)
-
-    pub rows_passed : i < n → {b : Bool} → b ≡ row_kept (take k (drop (i * k) s)) → not b ≡ false → Checked every (rows_kept n s) (i + 1)
-    rows_passed h e f = check_passed every_check (rows_kept n s) n so_many i p h (e ∙ sym (decoded_at row_kept n k i s false h)) f
-
-    pub rows_ended : n ≤ i → true ≡ same (flat_map encode (map decode (chunks n k s))) s
-    rows_ended h = check_ended every_check (rows_kept n s) n so_many i p h ∙ sym (kept_each n s whole)
+  -- n rows re-encode to themselves where a test of each says so
+  pub rows_all : (n : ℕ) (s : Octets) → length s ≡ n * k → (test : ℕ → Bool) → ((i : ℕ) → i < n → test i ≡ kept_row s i)
+      → list_all test (range_with_len 0 n) ≡ same (flat_map encode (map decode (chunks n k s))) s
+  rows_all n s whole test each =
+      let rows = map row_kept (chunks n k s) in
+      let itself : Bool → Bool = λ b. b in
+      let so_many : length rows ≡ n = length-map (chunks n k s) row_kept ∙ length-chunks n k s in
+      let they_are = fill_by_all test rows n false so_many (λ i h. decoded_at row_kept n k i s false h ∙ sym (each i h)) in
+      sym (list_all-map itself test (range_with_len 0 n))
+      ∙ ap (list_all itself) (sym they_are)
+      ∙ list_all-map itself row_kept (chunks n k s)
+      ∙ sym (kept_each n s whole)
 
 -- ── tables of places ──
 

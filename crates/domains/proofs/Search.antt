@@ -1,14 +1,15 @@
--- Searches and sweeps over the places of a table, one place after the other.
+-- Searches and sweeps over the places of a table.
 use mathlib.Core.Path.{◌≡◌, refl, sym, ap, ◌∙◌}
-use mathlib.Core.Bool.{Bool, true, false, cond}
+use mathlib.Core.Bool.{Bool, true, false, cond, ◌||◌}
 use mathlib.Core.List.{List, [], ◌∷◌, map}
 use mathlib.Core.Option.{Option, none, some}
-use Prim.Native.Nat.{ℕ, zero, suc, ◌+◌, ◌≤◌, ◌<◌}
+use Prim.Native.Nat.{ℕ, zero, suc, ◌+◌, ◌≤◌}
 use native.Mathlib.Numerals.{add-one}
 use native.Mathlib.Nat.{not-suc-le-zero, le_of_suc-le-suc}
 use native.Mathlib.Omega.{arith}
 use lib.ListN.{length, get_or, drop, set, drop_of_length-le}
 use lib.Seq.{drop-cons}
+use Rattle.std.specs.List.{list_any, range_with_len}
 use Rattle.rules.specs.Entries.{has, without}
 use Rattle.domains.specs.Entry.{taken, passes, entry_or, dropped_if}
 
@@ -45,31 +46,21 @@ module _ {A : Type 0} where
   dropped_not test none e = refl
   dropped_not test (some x) e = rw e
 
-  -- ── some entry passes a test: those before place i do not ──
+  -- ── some entry passes a test ──
 
-  module _ (test : A → Bool) (xs : List (Option A)) (n : ℕ) (long : length xs ≡ n) (i : ℕ) {whole : Bool} (p : whole ≡ has test (drop i xs)) where
-    turn : i < n → whole ≡ has test (get_or xs i none ∷ drop (i + 1) xs)
-    turn h = p ∙ rw (drop-cons xs i none (rw long h), add-one)
-
-    pub found : i < n → {b : Bool} → b ≡ passes test (get_or xs i none) → b ≡ true → true ≡ whole
+  module _ (test : A → Bool) (xs : List (Option A)) where
+    has-first : (x : Option A) (rest : List (Option A)) → (passes test x || has test rest) ≡ has test (x ∷ rest)
     unfolding passes has
-    found h e t = sym (turn h ∙ go (get_or xs i none) (sym e ∙ t))
-      where
-        go : (x : Option A) → passes test x ≡ true → has test (x ∷ drop (i + 1) xs) ≡ true
-        go none p = let z : ◌≡◌ {A = ℕ} 0 1 = cc in absurd (omega arith)
-        go (some x) p = rw p
+    has-first none rest = refl
+    has-first (some x) rest = refl
 
-    pub passed_by : i < n → {b : Bool} → b ≡ passes test (get_or xs i none) → b ≡ false → whole ≡ has test (drop (i + 1) xs)
-    unfolding passes has
-    passed_by h e f = turn h ∙ go (get_or xs i none) (sym e ∙ f)
-      where
-        go : (x : Option A) → passes test x ≡ false → has test (x ∷ drop (i + 1) xs) ≡ has test (drop (i + 1) xs)
-        go none p = refl
-        go (some x) p = rw p
-
-    pub not_found : n ≤ i → false ≡ whole
+    -- one of m places from place a on has an entry that does
+    pub has_any : (a m : ℕ) → a + m ≡ length xs → list_any (λ k. passes test (get_or xs k none)) (range_with_len a m) ≡ has test (drop a xs)
     unfolding has
-    not_found h = sym (p ∙ rw (drop_of_length-le xs {i = i} (rw long h)))
+    has_any a zero e = sym (ap (has test) (drop_of_length-le xs {i = a} (omega arith)))
+    has_any a (suc m) e =
+        let turn : drop a xs ≡ get_or xs a none ∷ drop (a + 1) xs = rw add-one (drop-cons xs a none (omega arith)) in
+        ap (◌||◌ (passes test (get_or xs a none))) (has_any (a + 1) m (omega arith)) ∙ has-first _ _ ∙ sym (ap (has test) turn)
 
   -- ── each place in turn made what a function makes of it ──
 

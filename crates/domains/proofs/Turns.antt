@@ -1,12 +1,13 @@
--- A check of each element of a list, one after the other: what a turn of the loop leaves.
-use mathlib.Core.Path.{◌≡◌, refl, sym, ap, ◌∙◌}
-use mathlib.Core.Bool.{Bool, true, false, not, ◌&&◌}
+-- A check of a list, place by place: each element with those after it.
+use mathlib.Core.Path.{◌≡◌, sym, ap, ◌∙◌}
+use mathlib.Core.Bool.{Bool, true, ◌&&◌}
 use mathlib.Core.List.{List, [], ◌∷◌}
-use Prim.Native.Nat.{ℕ, ◌+◌, ◌≤◌, ◌<◌}
+use Prim.Native.Nat.{ℕ, zero, suc, ◌+◌}
 use native.Mathlib.Numerals.{add-one}
+use native.Mathlib.Omega.{arith}
 use lib.ListN.{length, get_or, drop, drop_of_length-le}
 use lib.Seq.{drop-cons}
-use borrow.Author.Tests.{not-true, not-false}
+use Rattle.std.specs.List.{list_all, range_with_len}
 
 -- a check of a list, by what it asks of an element and those after it
 pub record ListCheck (A : Type 0) : Type 0 where
@@ -16,35 +17,17 @@ pub record ListCheck (A : Type 0) : Type 0 where
   pub empty : all [] ≡ true
   pub next : (x : A) (xs : List A) → all (x ∷ xs) ≡ (one x xs && all xs)
 
--- the elements before i have passed
-abbrev pub Checked : {A : Type 0} → (List A → Bool) → List A → ℕ → Type 0
-Checked all xs i = all xs ≡ all (drop i xs)
+module _ {A : Type 0} (r : ListCheck A) (xs : List A) where
+  -- what is asked of the element in place k, with those after it
+  abbrev pub asked_at : ℕ → Bool
+  asked_at k = r.one (get_or xs k r.stand) (drop (k + 1) xs)
 
-module _ {A : Type 0} (r : ListCheck A) (xs : List A) (n : ℕ) (long : length xs ≡ n) (i : ℕ) (p : Checked r.all xs i) where
-  turn : i < n → r.all xs ≡ (r.one (get_or xs i r.stand) (drop (i + 1) xs) && r.all (drop (i + 1) xs))
-  turn h = p ∙ ap r.all (drop-cons xs i r.stand (rw long h)) ∙ r.next _ _ ∙ rw add-one
+  asked-from : (a m : ℕ) → a + m ≡ length xs → list_all asked_at (range_with_len a m) ≡ r.all (drop a xs)
+  asked-from a zero e = sym (ap r.all (drop_of_length-le xs {i = a} (omega arith)) ∙ r.empty)
+  asked-from a (suc m) e =
+      let turn : drop a xs ≡ get_or xs a r.stand ∷ drop (a + 1) xs = rw add-one (drop-cons xs a r.stand (omega arith)) in
+      ap (◌&&◌ (asked_at a)) (asked-from (a + 1) m (omega arith)) ∙ sym (ap r.all turn ∙ r.next _ _)
 
-  pub check_failed : i < n → {b : Bool} → b ≡ r.one (get_or xs i r.stand) (drop (i + 1) xs) → not b ≡ true → false ≡ r.all xs
-  check_failed h e f = sym (turn h ∙ rw (sym e ∙ not-true _ f))
-
-  pub check_passed : i < n → {b : Bool} → b ≡ r.one (get_or xs i r.stand) (drop (i + 1) xs) → not b ≡ false → Checked r.all xs (i + 1)
-  check_passed h e f = turn h ∙ rw (sym e ∙ not-false _ f)
-
-  pub check_ended : n ≤ i → true ≡ r.all xs
-  check_ended h = sym (p ∙ ap r.all (drop_of_length-le xs {i = i} (rw long h)) ∙ r.empty)
-
--- all of some answers
-unfoldable pub every : List Bool → Bool
-every [] = true
-every (b ∷ bs) = b && every bs
-
-pub every_empty : every [] ≡ true
-unfolding every
-every_empty = refl
-
-pub every_next : (b : Bool) (bs : List Bool) → every (b ∷ bs) ≡ (b && every bs)
-unfolding every
-every_next b bs = refl
-
-abbrev pub every_check : ListCheck Bool
-every_check = record { stand = false; all = every; one = λ b bs. b; empty = every_empty; next = every_next }
+  -- the list passes where each of its places does
+  pub asked_all : (n : ℕ) → length xs ≡ n → list_all asked_at (range_with_len 0 n) ≡ r.all xs
+  asked_all n long = asked-from 0 n (omega arith)

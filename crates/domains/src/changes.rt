@@ -37,9 +37,7 @@ pub fn remove(s: &mut [u8], d: u32)
     requires { KeptDomains s.old }
     ensures { s.new ≡ domains_bytes (without (eqb d) (domains_of s.old)) }
 {
-    let mut i = 0;
-    while i < DOMAINS {
-        free_if(s, i, d);
-        i += 1;
+    for k in 0..DOMAINS {
+        free_if(s, k, d);
     }
 }

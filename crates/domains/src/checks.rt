@@ -29,14 +29,7 @@ fn kept(s: &[u8]) -> bool
     requires { length s.now ≡ domains_size }
     ensures { result ≡ same (domains_bytes (domains_of s.now)) s.now }
 {
-    let mut i = 0;
-    while i < DOMAINS {
-        if !place_kept(s, i) {
-            return false;
-        }
-        i += 1;
-    }
-    true
+    (0..DOMAINS).all(|k| place_kept(s, k))
 }
 
 // Whether place k is free, or has an id in range that no later place has.
@@ -61,14 +54,7 @@ fn good(s: &[u8]) -> bool
     requires { length s.now ≡ domains_size }
     ensures { result ≡ good_domains (domains_of s.now) }
 {
-    let mut i = 0;
-    while i < DOMAINS {
-        if !place_good(s, i) {
-            return false;
-        }
-        i += 1;
-    }
-    true
+    (0..DOMAINS).all(|k| place_good(s, k))
 }
 
 pub fn sound_domains(s: &[u8]) -> bool
@@ -77,8 +63,5 @@ pub fn sound_domains(s: &[u8]) -> bool
     if s.len() != DOMAINS_SIZE {
         return false;
     }
-    if !kept(s) {
-        return false;
-    }
-    good(s)
+    kept(s) && good(s)
 }

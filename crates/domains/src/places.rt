@@ -1,5 +1,5 @@
 // The introduced domains.
-ghost use Rattle.std.specs.Prelude.{◌≡◌, true, ◌<◌, ◌≤◌, eqb, length, get_or, drop};
+ghost use Rattle.std.specs.Prelude.{◌≡◌, true, ◌<◌, ◌≤◌, eqb, length, get_or, drop, IfSome, unwrap_or};
 ghost use Rattle.std.proofs.Math.Option.{none};
 ghost use Rattle.rules.specs.Size.{most_domains, domains_size};
 ghost use Rattle.rules.specs.Domain.{domain_of};
@@ -8,7 +8,7 @@ ghost use Rattle.rules.specs.Layout.{domains_of};
 ghost use Rattle.rules.specs.Sound.{introduced, known};
 ghost use Rattle.domains.specs.Entry.{taken, passes, entry_or};
 
-use octets::numbers::two;
+use octets::numbers::number;
 use octets::sizes::{DOMAIN_SIZE, DOMAINS};
 use senders::{domain_of, is_control};
 
@@ -25,7 +25,7 @@ pub fn domain(s: &[u8], k: usize) -> u32
     requires { (k < most_domains) × (length s.now ≡ domains_size) × (taken (get_or (domains_of s.now) k none) ≡ true) }
     ensures { result ≡ entry_or 0 (get_or (domains_of s.now) k none) }
 {
-    two(s, k * DOMAIN_SIZE + 1)
+    number::<2>(s, k * DOMAIN_SIZE + 1) as u32
 }
 
 // Whether place k has domain d.
@@ -33,10 +33,7 @@ pub fn holds(s: &[u8], k: usize, d: u32) -> bool
     requires { (k < most_domains) × (length s.now ≡ domains_size) }
     ensures { result ≡ passes (eqb d) (get_or (domains_of s.now) k none) }
 {
-    if !used(s, k) {
-        return false;
-    }
-    d == domain(s, k)
+    used(s, k) && d == domain(s, k)
 }
 
 // Whether domain d is in a place from one on.
@@ -44,14 +41,7 @@ pub fn introduced_from(s: &[u8], from: usize, d: u32) -> bool
     requires { (from ≤ most_domains) × (length s.now ≡ domains_size) }
     ensures { result ≡ has (eqb d) (drop from (domains_of s.now)) }
 {
-    let mut i = from;
-    while i < DOMAINS {
-        if holds(s, i, d) {
-            return true;
-        }
-        i += 1;
-    }
-    false
+    (from..DOMAINS).any(|k| holds(s, k, d))
 }
 
 pub fn introduced(s: &[u8], d: u32) -> bool
@@ -66,10 +56,7 @@ pub fn known(s: &[u8], d: u32) -> bool
     requires { length s.now ≡ domains_size }
     ensures { result ≡ known d (domains_of s.now) }
 {
-    if is_control(d) {
-        return true;
-    }
-    introduced(s, d)
+    is_control(d) || introduced(s, d)
 }
 
 // Whether a connection speaks for a known domain.
@@ -80,10 +67,11 @@ pub fn known_sender(s: &[u8], connection: u32) -> bool
     known(s, domain_of(connection))
 }
 
-// The lowest free place, or the number of places where none is free.
-pub fn lowest_free(s: &[u8]) -> usize
+// The lowest free place.
+pub fn lowest_free(s: &[u8]) -> Option<usize>
     requires { length s.now ≡ domains_size }
-    ensures { result ≡ lowest (domains_of s.now) }
+    ensures found { unwrap_or result most_domains ≡ lowest (domains_of s.now) }
+    ensures below { IfSome result (λ k. k < most_domains) }
 {
     octets::places::lowest_free(s, DOMAIN_SIZE, DOMAINS)
 }

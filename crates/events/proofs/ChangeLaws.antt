@@ -6,7 +6,7 @@ use Prim.Native.Nat.{ℕ, zero, suc, ◌+◌, ◌-◌, ◌≤◌, ◌<◌}
 use native.Mathlib.Numerals.{add-one}
 use native.Mathlib.Omega.{arith}
 use lib.ListN.{length, get_or, take, length-map, get_or-map}
-use lib.Seq.{take_all, get_or-take, length-take-le}
+use lib.Seq.{take_all, length-take-le}
 use Rattle.rules.specs.Size.{longest_path, longest_absolute, deepest, events_size}
 use Rattle.rules.specs.Octets.{Octets}
 use Rattle.rules.specs.Domain.{Domain}
@@ -172,5 +172,5 @@ module _ (t : Table) (list : List ℕ) (count : ℕ) (h : count ≤ length list)
   pub removals_length : length (map (removal_of t) (take count list)) ≡ count
   removals_length = length-map (take count list) (removal_of t) ∙ length-take-le count list h
 
-  pub removal_at : (i : ℕ) → i < count → removal_of t (get_or list i 0) ≡ get_or (map (removal_of t) (take count list)) i (removal_of t 0)
-  removal_at i l = sym (get_or-map (removal_of t) (take count list) i 0 ∙ ap (removal_of t) (get_or-take count list i 0 l))
+  pub removal_at : (i s : ℕ) → s ≡ get_or (take count list) i 0 → removal_of t s ≡ get_or (map (removal_of t) (take count list)) i (removal_of t 0)
+  removal_at i s e = ap (removal_of t) e ∙ sym (get_or-map (removal_of t) (take count list) i 0)

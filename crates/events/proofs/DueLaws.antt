@@ -20,7 +20,7 @@ use Rattle.domains.specs.Entry.{taken, passes, entry_or}
 use Rattle.watches.specs.Watch.{nobody, watch_of}
 use Rattle.domains.proofs.Search.{passes_free, passes-taken}
 use Rattle.events.specs.Messages.{due_for, due, sent_as, sent_over}
-use Rattle.events.specs.declared.Sent.TheVariants.{Message, Nothing}
+use Rattle.std.specs.Prelude.{Some, None}
 
 passes_is : {A : Type 0} (test : A → Bool) (x : Option A) → passes test x ≡ true → taken x ≡ true
 unfolding passes taken
@@ -119,11 +119,11 @@ module _ (s e : Octets) (count i k : ℕ) where
 
 -- ── the answer ──
 
-pub nothing_sent : (m : Octets) (o : Option Octets) → o ≡ none → sent_as Nothing m ≡ sent_over m o
+pub nothing_sent : (m : Octets) (o : Option Octets) → o ≡ none → sent_as None m ≡ sent_over m o
 unfolding sent refused_with
 nothing_sent m o e = rw e refl
 
 pub message-sent : (before after x : Octets) (o : Option Octets) (n : ℕ) → o ≡ some x → Put 0 x before after n
-    → sent_as (Message n) after ≡ sent_over before o
+    → sent_as (Some n) after ≡ sent_over before o
 unfolding sent
 message-sent before after x o n e p = rw (e, p.bytes, p.behind, zero-add) refl

@@ -1,13 +1,12 @@
 -- Who hears an event: the rule of the rule book, test by test.
 use mathlib.Core.Path.{◌≡◌, refl, sym, ap, ap₂, ◌∙◌}
-use mathlib.Core.Bool.{Bool, true, false, not, ◌&&◌, true≢false, or_self}
+use mathlib.Core.Bool.{Bool, true, false, ◌&&◌, true≢false, or_self}
 use mathlib.Core.List.{[], ◌∷◌}
-use mathlib.Core.Option.{Option, none, some}
+use mathlib.Core.Option.{Option, none, some, map}
 use Prim.Native.Nat.{ℕ, ◌≤◌, ◌<◌}
 use native.Mathlib.Omega.{arith}
 use lib.ListN.{length, get_or}
 use lib.Dec.{leb}
-use borrow.Author.Tests.{not-false}
 use Rattle.rules.specs.Size.{most_watches, longest_path, longest_absolute}
 use Rattle.rules.specs.Octets.{Octets, same, begins, text}
 use Rattle.rules.specs.Entries.{is_empty}
@@ -21,15 +20,13 @@ use Rattle.rules.specs.Layout.{table_of, watches_of}
 use Rattle.rules.proofs.PathLaws.{text-names, text-full}
 use Rattle.rules.proofs.EntryLayouts.{PlaceFits}
 use Rattle.rules.proofs.DecodedEntries.{watch_decoded}
-use Rattle.paths.specs.Relation.{levels_of}
-use Rattle.paths.specs.declared.answer.Beyond.TheVariants.{Levels, Not}
+use Rattle.octets.specs.Options.{meant}
+use Rattle.std.specs.Prelude as code
 use Rattle.slots.proofs.LeftLaws.{left_over}
 use Rattle.lookup.specs.Reach.{Reaches}
 use Rattle.lookup.proofs.ReachLaws.{left-first}
-use Rattle.watches.specs.declared.Depth.{Depth}
-use Rattle.watches.specs.declared.Depth.TheVariants.{To, Any}
 use Rattle.domains.specs.Entry.{taken, passes}
-use Rattle.watches.specs.Watch.{KeptWatches, depth_meant, nobody, watch_of, TakenWatch}
+use Rattle.watches.specs.Watch.{KeptWatches, nobody, watch_of, TakenWatch}
 use Rattle.domains.proofs.Search.{passes-taken}
 use Rattle.watches.proofs.Laws.{is_read}
 use Rattle.watches.proofs.Bytes.{read_narrow}
@@ -53,14 +50,11 @@ hear_once t d ns = sym (or_self (readable t d ns))
 
 -- ── depth ──
 
-module _ (d : Depth) (n : ℕ) where
-  pub depth_to : (k : ℕ) → d ≡ To k → leb n k ≡ deep_enough (depth_meant d) n
-  unfolding deep_enough
-  depth_to k e = sym (ap (λ (x : Depth). deep_enough (depth_meant x) n) e)
-
-  pub depth_any : d ≡ Any → true ≡ deep_enough (depth_meant d) n
-  unfolding deep_enough
-  depth_any e = sym (ap (λ (x : Depth). deep_enough (depth_meant x) n) e)
+-- in the code's terms
+pub depth-levels : (d : code.Option ℕ) (n : ℕ) (b : Bool) → code.MatchOption d (code.IsTrue b) (λ k. b ≡ leb n k) → b ≡ deep_enough (meant d) n
+unfolding deep_enough
+depth-levels (code.Some k) n b e = e
+depth-levels code.None n b e = e
 
 -- ── one path and another ──
 
@@ -69,13 +63,11 @@ pub record Levelled (m : Option Names) (n : ℕ) : Type 0 where
   pub found : m ≡ some rest
   pub levels : n ≡ length rest
 
-levelled : (m : Option Names) (n : ℕ) → levels_of m ≡ Levels n → Levelled m n
-unfolding levels_of
+levelled : (m : Option Names) (n : ℕ) → some n ≡ map length m → Levelled m n
 levelled none n e = let z : ◌≡◌ {A = ℕ} 0 1 = cc in absurd (omega arith)
 levelled (some rest) n e = record { rest = rest; found = refl; levels = cc }
 
-not_beyond : (m : Option Names) → levels_of m ≡ Not → m ≡ none
-unfolding levels_of
+not_beyond : (m : Option Names) → none ≡ map length m → m ≡ none
 not_beyond none e = refl
 not_beyond (some rest) e = let z : ◌≡◌ {A = ℕ} 0 1 = cc in absurd (omega arith)
 
@@ -91,11 +83,11 @@ module _ (b a : Table) (d : Domain) (own names : Names) (removed : Bool) where
       go none = refl
       go (some rest) = rw e
 
-  pub above_removed : removed ≡ true → (n : ℕ) → levels_of (beyond names own) ≡ Levels n → may_hear b a d own ≡ hears_above b a d own names removed
+  pub above_removed : removed ≡ true → (n : ℕ) → some n ≡ map length (beyond names own) → may_hear b a d own ≡ hears_above b a d own names removed
   unfolding hears_above
   above_removed e n l = sym (ap above_by (levelled _ n l).found ∙ rw e)
 
-  pub above_other : levels_of (beyond names own) ≡ Not → false ≡ hears_above b a d own names removed
+  pub above_other : none ≡ map length (beyond names own) → false ≡ hears_above b a d own names removed
   unfolding hears_above
   above_other l = sym (ap above_by (not_beyond _ l))
 
@@ -111,13 +103,13 @@ module _ (b a : Table) (w : Watch) (own : Names) (c : Happening) {d : Domain} {m
   unfolding hears_at hears_above
   at_is l q = sym (ap₂ (λ (x : Domain) (y : Option ℕ). at_by x y (beyond own c.names)) o e) ∙ ap (at_by d m) q
 
-  pub too_deep : (n : ℕ) → levels_of (beyond own c.names) ≡ Levels n → deep_enough m n ≡ false → false ≡ hears_at b a w own c
+  pub too_deep : (n : ℕ) → some n ≡ map length (beyond own c.names) → deep_enough m n ≡ false → false ≡ hears_at b a w own c
   too_deep n l k = let f = levelled _ n l in sym (at_is _ f.found ∙ rw (← f.levels, k))
 
-  pub within-depth : (n : ℕ) → levels_of (beyond own c.names) ≡ Levels n → deep_enough m n ≡ true → may_hear b a d c.names ≡ hears_at b a w own c
+  pub within-depth : (n : ℕ) → some n ≡ map length (beyond own c.names) → deep_enough m n ≡ true → may_hear b a d c.names ≡ hears_at b a w own c
   within-depth n l k = let f = levelled _ n l in sym (at_is _ f.found ∙ rw (← f.levels, k))
 
-  pub not_below : levels_of (beyond own c.names) ≡ Not → hears_above b a d own c.names c.removal ≡ hears_at b a w own c
+  pub not_below : none ≡ map length (beyond own c.names) → hears_above b a d own c.names c.removal ≡ hears_at b a w own c
   not_below l = sym (at_is _ (not_beyond _ l))
 
 -- ── a watch's place ──
@@ -129,9 +121,9 @@ no_event_lem true (n ∷ ns) = refl
 no_event_lem false [] = refl
 no_event_lem false (n ∷ ns) = refl
 
-pub taken_here : {s : Octets} {k : ℕ} → k < most_watches → KeptWatches s → {u : Bool} → u ≡ taken (get_or (watches_of s) k none) → not u ≡ false
+pub taken_here : {s : Octets} {k : ℕ} → k < most_watches → KeptWatches s → {u : Bool} → u ≡ taken (get_or (watches_of s) k none) → u ≡ true
     → TakenWatch s k
-taken_here h w {u} e f = record { below = h; kept = w; used = sym e ∙ not-false u f }
+taken_here h w {u} e f = record { below = h; kept = w; used = sym e ∙ f }
 
 module _ (s : Octets) (k : ℕ) (h : TakenWatch s k) (own : Octets) (o : own ≡ place_text (watch_of s k).place) where
   abbrev w : Watch

@@ -2,24 +2,25 @@
 use mathlib.Core.Path.{◌≡◌, refl, sym, ap, ap₂, ◌∙◌}
 use mathlib.Core.Bool.{Bool}
 use mathlib.Core.List.{List, [], ◌∷◌, ◌++◌, flat_map, append-nil}
-use Prim.Native.Nat.{ℕ, ◌+◌, ◌*◌, ◌-◌, ◌/◌, ◌%◌, ◌^◌, ◌≤◌, ◌<◌}
+use Prim.Native.Nat.{ℕ, ◌+◌, ◌*◌, ◌-◌, ◌/◌, ◌%◌, ◌≤◌, ◌<◌}
 use native.Mathlib.Nat.{add-zero}
 use native.Mathlib.Omega.{arith}
 use lib.ListN.{length, set, replicate, take, drop, length-append}
-use lib.Dec.{eqb, lit≤}
+use lib.Dec.{lit≤}
 use Rattle.rules.specs.Size.{longest_path, mask_size, record_path_at, record_size, most_records, events_size}
 use Rattle.rules.specs.Octets.{Octets, ◌bits◌, pack, pack_from, big_endian, padded, paste, field, bits_at}
 use Rattle.rules.specs.Event.{Record, kept}
 use Rattle.rules.specs.Layout.{mask_bits, record_bytes}
 use Rattle.rules.specs.Message.{record_at, mask_bit, path_length, path_in}
-use Rattle.rules.proofs.Fields.{field-part, field_two}
+use Rattle.rules.proofs.Fields.{field-part}
 use Rattle.rules.proofs.Paste.{paste_four, paste_append, paste_nil, length-paste}
 use Rattle.rules.proofs.Joined.{paste-behind}
 use Rattle.rules.proofs.Slots.{length-padded}
 use Rattle.rules.proofs.Tables.{flat_append}
-use Rattle.octets.specs.Two.{Two}
+use Rattle.octets.specs.Read.{Read}
+use Rattle.octets.proofs.Bytes.{read_bound}
 use Rattle.domains.proofs.Rows.{text-part}
-use Rattle.events.specs.Records.{record_of, Recorded, Room, Mask}
+use Rattle.events.specs.Records.{record_of, Recorded, Room, Mask, number_bit}
 use Rattle.events.proofs.MaskLaws.{pack_append, empty_mask, some-mask}
 
 -- ── one record, as it is put ──
@@ -56,22 +57,19 @@ module _ (m : List Bool) (p : Octets) (short : length p ≤ longest_path) where
 -- ── one record, as it is read from the bytes of all ──
 
 module _ (s : Octets) (i : ℕ) (below : i < most_records) (whole : length s ≡ events_size) where
-  two_read : (at r : ℕ) → at + 2 ≤ record_path_at → Two s (i * record_size + at) r → field (record_at s i) at 2 ≡ r
+  two_read : (at r : ℕ) → at + 2 ≤ record_path_at → Read s (i * record_size + at) 2 r → field (record_at s i) at 2 ≡ r
   unfolding record_at
   two_read at r h t =
-      let inside : i * record_size + at + 1 < length s = omega (arith, whole, below) in
-      field-part s (i * record_size) record_size at 2 (omega arith) ∙ field_two s (i * record_size + at) inside ∙ sym t.value
+      field-part s (i * record_size) record_size at 2 (omega arith) ∙ sym t.value
 
-  pub mask-read : (k r : ℕ) → Two s (i * record_size) r → eqb (r / 2 ^ (15 - k) % 2) 1 ≡ mask_bit (record_at s i) k
-  unfolding mask_bit bits_at
-  mask-read k r t = ap (λ (n : ℕ). eqb (n / 2 ^ (15 - k) % 2) 1) (sym (two_read 0 r (omega arith) (rw add-zero t)))
+  pub mask-read : (k r : ℕ) → Read s (i * record_size) 2 r → number_bit r k ≡ mask_bit (record_at s i) k
+  unfolding mask_bit
+  mask-read k r t = ap (λ (n : ℕ). number_bit n k) (sym (two_read 0 r (omega arith) (rw add-zero t)))
 
-  pub length-read : (r : ℕ) → Two s (i * record_size + mask_size) r → r / 128 ≡ path_length (record_at s i)
+  pub length-read : (r : ℕ) → Read s (i * record_size + mask_size) 2 r → r / 128 ≡ path_length (record_at s i)
   unfolding path_length bits_at
   length-read r t =
-      let high = t.bytes (i * record_size + mask_size) in
-      let low = t.bytes (i * record_size + mask_size + 1) in
-      rw (two_read mask_size r (omega arith) t) (omega (arith, t.value, high, low))
+      rw (two_read mask_size r (omega arith) t) (omega (arith, read_bound t (omega (arith, whole, below))))
 
 pub path-read : (s : Octets) (i n : ℕ) → n ≡ path_length (record_at s i) → n ≤ longest_path
     → take (i * record_size + record_path_at + n - (i * record_size + record_path_at)) (drop (i * record_size + record_path_at) s) ≡ path_in (record_at s i)

@@ -6,7 +6,7 @@ use mathlib.Core.Option.{Option, none, some}
 use Prim.Native.Nat.{ℕ, suc, ◌+◌, ◌-◌, ◌≤◌}
 use native.Mathlib.Nat.{lt_of_not-le, le_of_suc-le-suc}
 use native.Mathlib.Omega.{arith}
-use lib.ListN.{length, get_or, take, drop, length-append, length-drop}
+use lib.ListN.{length, take, drop, length-append, length-drop}
 use lib.Seq.{take_all}
 use lib.Dec.{ltb}
 use borrow.Author.Tests.{eq-eqb, ne_eqb}
@@ -25,42 +25,30 @@ use Rattle.rules.proofs.Compare.{both_true, same_eq, begins-short}
 use Rattle.rules.proofs.PathLaws.{beyond-rest}
 use Rattle.rules.proofs.RelativeLaws.{slashed_append}
 use Rattle.rules.proofs.EntryLayouts.{PlaceFits}
-use Rattle.octets.specs.Numbers.{meant}
-use Rattle.octets.specs.declared.Number.{Number}
+use Rattle.octets.specs.Options.{meant}
+use Rattle.std.specs.Prelude as code
 use Rattle.events.specs.Messages.{RoomToCut}
 use Rattle.events.proofs.PlaceLaws.{path_slash, event_slash}
 
 -- ── `/` and a domain id ──
 
-module _ (p : Octets) where
-  pub domain_empty : length p ≡ 0 → false ≡ is_domain_path p
-  unfolding is_domain_path
-  domain_empty = go p
-    where
-      go : (p : Octets) → length p ≡ 0 → false ≡ is_domain_path p
-      go [] h = refl
-      go (c ∷ cs) h = absurd (omega arith)
+pub domain_empty : (p : Octets) → length p ≡ 0 → false ≡ is_domain_path p
+unfolding is_domain_path
+domain_empty [] h = refl
+domain_empty (c ∷ cs) h = absurd (omega arith)
 
-  pub domain_other : (length p ≡ 0 → ⊥) → (get_or p 0 0 ≡ 47 → ⊥) → false ≡ is_domain_path p
-  unfolding is_domain_path
-  domain_other = go p
-    where
-      go : (p : Octets) → (length p ≡ 0 → ⊥) → (get_or p 0 0 ≡ 47 → ⊥) → false ≡ is_domain_path p
-      go [] h n = absurd (h refl)
-      go (c ∷ cs) h n = rw (ne_eqb c 47 n) refl
+pub domain_other : (c : ℕ) (cs : Octets) → (c ≡ 47 → ⊥) → false ≡ is_domain_path (c ∷ cs)
+unfolding is_domain_path
+domain_other c cs n = rw (ne_eqb c 47 n) refl
 
-  domain_slash : (length p ≡ 0 → ⊥) → get_or p 0 0 ≡ 47 → is_domain_path p ≡ is_number (number_in 0 last_domain (take (length p - 1) (drop 1 p)))
-  unfolding is_domain_path
-  domain_slash = go p
-    where
-      go : (p : Octets) → (length p ≡ 0 → ⊥) → get_or p 0 0 ≡ 47
-          → is_domain_path p ≡ is_number (number_in 0 last_domain (take (length p - 1) (drop 1 p)))
-      go [] h e = absurd (h refl)
-      go (c ∷ cs) h e = rw (eq-eqb c 47 e, take_all (suc (length cs) - 1) cs (omega arith)) refl
+is_number_lem : (r : code.Option ℕ) → code.is_some r ≡ is_number (meant r)
+unfolding is_number
+is_number_lem (code.Some n) = refl
+is_number_lem code.None = refl
 
-  pub domain-told : (r e : Number) → (length p ≡ 0 → ⊥) → get_or p 0 0 ≡ 47
-      → meant r ≡ number_in 0 last_domain (take (length p - 1) (drop 1 p)) → r ≡ e → is_number (meant e) ≡ is_domain_path p
-  domain-told r e h s q i = sym (domain_slash h s ∙ ap is_number (sym q ∙ ap meant i))
+pub domain-told : (c : ℕ) (cs : Octets) → c ≡ 47 → (r : code.Option ℕ) → meant r ≡ number_in 0 last_domain cs → code.is_some r ≡ is_domain_path (c ∷ cs)
+unfolding is_domain_path
+domain-told c cs h r q = is_number_lem r ∙ ap is_number q ∙ sym (rw (eq-eqb c 47 h) refl)
 
 -- ── the base ──
 

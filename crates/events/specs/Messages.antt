@@ -10,8 +10,7 @@ use Rattle.rules.specs.Sound.{sound_watches}
 use Rattle.rules.specs.Call.{handled, no_event, call_number}
 use Rattle.rules.specs.Message.{Delivered, sent, record_at, mask_bit, path_length, path_in, concerns}
 use Rattle.domains.specs.Entry.{taken, passes}
-use Rattle.events.specs.declared.Sent.{Sent}
-use Rattle.events.specs.declared.Sent.TheVariants.{Message, Nothing}
+use Rattle.std.specs.Prelude as code
 
 -- watches that are sound, whoever is introduced
 pub record SoundWatches (s : Octets) : Type 0 where
@@ -40,9 +39,9 @@ unfoldable pub due : Octets → Octets → ℕ → ℕ → Bool
 due watches events i k = passes (due_for (record_at events i) k) (get_or (watches_of watches) k none)
 
 -- document 01's number and length of each answer, with the buffer after it
-abbrev pub sent_as : Sent → Octets → Delivered
-sent_as (Message n) m = record { number = call_number handled; message_length = n; message = m }
-sent_as Nothing m = record { number = call_number no_event; message_length = 0; message = m }
+abbrev pub sent_as : code.Option ℕ → Octets → Delivered
+sent_as (code.Some n) m = record { number = call_number handled; message_length = n; message = m }
+sent_as code.None m = record { number = call_number no_event; message_length = 0; message = m }
 
 -- the rule book's answer over a buffer, of which alone it depends
 abbrev pub sent_over : Octets → Option Octets → Delivered

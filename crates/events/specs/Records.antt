@@ -1,8 +1,8 @@
 -- What is entered into the event records.
-use Rattle.std.specs.Prelude.{◌≡◌, Bool, ℕ, ◌+◌, ◌*◌, ◌≤◌, length}
+use Rattle.std.specs.Prelude.{◌≡◌, Bool, false, ℕ, ◌+◌, ◌-◌, ◌*◌, ◌≤◌, ◌<◌, eqb, length, get_or}
 use mathlib.Core.List.{List, flat_map}
 use Rattle.rules.specs.Size.{most_watches, record_size, most_records, events_size}
-use Rattle.rules.specs.Octets.{Octets, paste, pack}
+use Rattle.rules.specs.Octets.{Octets, paste, pack, bits_at}
 use Rattle.rules.specs.Event.{Record}
 use Rattle.rules.specs.Layout.{mask_bits, record_bytes}
 
@@ -25,3 +25,12 @@ pub record Room (events : Octets) (n k : ℕ) : Type 0 where
 pub record Mask (m : List Bool) (number : ℕ) : Type 0 where
   pub long : length m ≡ most_watches
   pub value : number ≡ pack (mask_bits m)
+
+-- the bit of watch k in a mask's number
+abbrev pub number_bit : ℕ → ℕ → Bool
+number_bit number k = eqb (bits_at number (most_watches - 1 - k) 1) 1
+
+-- a mask has a bit for each watch, which is what a test says of its place
+pub record Tested (says : ℕ → Bool → Type 0) (m : List Bool) : Type 0 where
+  pub long : length m ≡ most_watches
+  pub each : (k : ℕ) (b : Bool) → k < most_watches → says k b → b ≡ get_or m k false

@@ -77,12 +77,10 @@ fn change(
         (change_given removed parents changed.now)) events.old events.new result }
 {
     let mut count = n;
-    let mut levels = parents;
-    while 0 < levels {
+    for levels in (1..parents + 1).rev() {
         let end = above(changed, levels);
         let parent = &changed[..end];
         count = event(before, after, watches, parent, removed, count, events);
-        levels -= 1;
     }
     event(before, after, watches, changed, removed, count, events)
 }
@@ -96,12 +94,10 @@ fn created(after: &[u8], watches: &[u8], path: &[u8], parents: usize, events: &m
         events.old events.new result }
 {
     let mut n = 0;
-    let mut levels = parents;
-    while 0 < levels {
+    for levels in (1..parents + 1).rev() {
         let end = above(path, levels);
         let parent = &path[..end];
         n = keep(events, n, in_store(after, watches, parent, false), parent);
-        levels -= 1;
     }
     n
 }
@@ -145,13 +141,11 @@ pub fn changes(
 {
     let count = transactions::places::changes(transactions, k);
     let mut n = 0;
-    let mut j = 0;
-    while j < count {
+    for j in 0..count {
         let changed = path(transactions, k, j);
         let gone = removed(transactions, k, j);
         let new = parents(transactions, k, j);
         n = change(before, after, watches, changed, gone, new, n, events);
-        j += 1;
     }
     n
 }
@@ -189,10 +183,8 @@ pub fn removals(
         (map (removal_of (table_of before.now)) (take count list.now))) events.old events.new result }
 {
     let mut n = 0;
-    let mut i = 0;
-    while i < count {
-        n = removal(before, after, watches, list[i] as usize, n, events);
-        i += 1;
+    for slot in &list[..count] {
+        n = removal(before, after, watches, usize::from(*slot), n, events);
     }
     n
 }

@@ -8,16 +8,14 @@ ghost use Rattle.rules.specs.Rights.{readable};
 ghost use Rattle.rules.specs.Event.{Watch, deep_enough, hears_at, hears};
 ghost use Rattle.rules.specs.Layout.{table_of, watches_of};
 ghost use Rattle.rules.specs.Sound.{sound_table};
+ghost use Rattle.octets.specs.Options.{meant};
 ghost use Rattle.domains.specs.Entry.{passes};
-ghost use Rattle.watches.specs.Watch.{depth_meant};
 ghost use Rattle.events.specs.Stores.{Store, happened, hears_above};
 
 use lookup::reach::reach;
 use lookup::rights::may_read;
 use octets::compare::begins;
-use paths::answer::Beyond;
 use paths::relation::beyond;
-use watches::Depth;
 use watches::places::{depth, domain, used};
 
 // Whether a full path is there, and a domain may read it.
@@ -32,13 +30,10 @@ fn readable(t: &[u8], domain: u32, path: &[u8]) -> bool
     may_read(t, reached.slot, domain)
 }
 
-fn deep_enough(depth: Depth, levels: usize) -> bool
-    ensures { result ≡ deep_enough (depth_meant depth) levels }
+fn deep_enough(depth: Option<u8>, levels: usize) -> bool
+    ensures { result ≡ deep_enough (meant depth) levels }
 {
-    match depth {
-        Depth::To(most) => levels <= most as usize,
-        Depth::Any => true,
-    }
+    depth.is_none_or(|most| levels <= usize::from(most))
 }
 
 // Whether a watch of a domain on the full path `own` hears the removal of a path above its own.
@@ -50,26 +45,25 @@ fn hears_above(t: &[u8], domain: u32, own: &[u8], path: &[u8], removed: bool) ->
     if !removed {
         return false;
     }
-    match beyond(path, own) {
-        Beyond::Levels(_) => readable(t, domain, own),
-        Beyond::Not => false,
-    }
+    beyond(path, own).is_some() && readable(t, domain, own)
 }
 
 // Whether a watch of a domain on the full path `own` hears an event on a full path.
-fn hears_on(t: &[u8], domain: u32, own: &[u8], depth: Depth, path: &[u8], removed: bool) -> bool
+fn hears_on(
+    t: &[u8],
+    domain: u32,
+    own: &[u8],
+    depth: Option<u8>,
+    path: &[u8],
+    removed: bool,
+) -> bool
     requires { (sound_table t.now ≡ true) × (is_full own.now ≡ true) × (is_full path.now ≡ true) }
-    ensures { (w : Watch) → domain ≡ domain_of w.owner → depth_meant depth ≡ w.depth →
+    ensures { (w : Watch) → domain ≡ domain_of w.owner → meant depth ≡ w.depth →
         result ≡ hears_at (table_of t.now) (table_of t.now) w (names_in own.now) (happened removed path.now) }
 {
     match beyond(own, path) {
-        Beyond::Levels(levels) => {
-            if !deep_enough(depth, levels) {
-                return false;
-            }
-            readable(t, domain, path)
-        }
-        Beyond::Not => hears_above(t, domain, own, path, removed),
+        Some(levels) => deep_enough(depth, levels) && readable(t, domain, path),
+        None => hears_above(t, domain, own, path, removed),
     }
 }
 

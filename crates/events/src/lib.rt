@@ -8,10 +8,3 @@ pub mod masks;
 pub mod message;
 mod record;
 mod report;
-
-// Whether there is a message, and how long it is.
-#[derive(Drop)]
-pub enum Sent {
-    Message(u32),
-    Nothing,
-}

@@ -1,34 +1,35 @@
 // The watches that an event goes to, as a mask.
-ghost use Rattle.std.specs.Prelude.{◌≡◌, Bool, true, ◌||◌, ◌+◌, ◌*◌, ◌<◌, leb, get_or};
+ghost use Rattle.std.specs.Prelude.{◌≡◌, ℕ, List, Bool, true, ◌||◌, ◌<◌, get_or};
 ghost use Rattle.std.proofs.Math.Option.{none};
 ghost use Rattle.rules.specs.Size.{most_watches};
-ghost use Rattle.rules.specs.Octets.{bit};
 ghost use Rattle.rules.specs.Path.{is_full};
 ghost use Rattle.rules.specs.Node.{Table};
 ghost use Rattle.rules.specs.Event.{Watch, hears, mask_of, is_event, only_from};
 ghost use Rattle.rules.specs.Layout.{table_of, watches_of};
 ghost use Rattle.domains.specs.Entry.{passes};
 ghost use Rattle.watches.specs.Watch.{KeptWatches};
-ghost use Rattle.events.specs.Records.{Mask};
+ghost use Rattle.events.specs.Records.{Mask, Tested, number_bit};
 ghost use Rattle.events.specs.Stores.{Store, happened, event_name};
 
 use crate::hearing::hears;
+use crate::record::has_bit;
 use octets::compare::same;
 use octets::sizes::WATCHES;
 use watches::places::{path, used};
 
-// A mask with one more bit.
-fn with_bit(mask: u32, on: bool) -> u32
-    requires { mask < 65536 }
-    ensures { result ≡ mask * 2 + bit on }
+// The mask with a bit for each place, set where the place passes a test.
+fn mask_where<F: Fn(usize) -> bool>(test: F) -> u32
+    requires { (k : ℕ) → k < most_watches → F.pre test k }
+    ensures { (m : List Bool) → Tested (F.post test) m → Mask m result }
 {
-    if on {
-        return mask * 2 + 1;
+    let mut mask: u32 = 0;
+    for k in 0..WATCHES {
+        mask = mask * 2 + u32::from(test(k));
     }
-    mask * 2
+    mask
 }
 
-// Whether place k has a watch that heard an event already, by the highest of 16 bits, or hears it in a store.
+// Whether place k has a watch that heard an event already, or hears it in a store.
 fn heard_or_hears_at(
     heard: u32,
     t: &[u8],
@@ -38,11 +39,11 @@ fn heard_or_hears_at(
     removed: bool,
 ) -> bool
     requires { (k < most_watches) × Store t.now watches.now × (is_full path.now ≡ true) }
-    ensures { result ≡ (leb 32768 heard || passes
+    ensures { result ≡ (number_bit heard k || passes
         (hears (table_of t.now) (table_of t.now) (happened removed path.now))
         (get_or (watches_of watches.now) k none)) }
 {
-    if 32768 <= heard {
+    if has_bit(heard, k) {
         return true;
     }
     hears(t, watches, k, path, removed)
@@ -55,15 +56,7 @@ fn heard_or_hears(heard: u32, t: &[u8], watches: &[u8], path: &[u8], removed: bo
         Mask (mask_of (λ w. f w || hears (table_of t.now) (table_of t.now) (happened removed path.now) w)
         (watches_of watches.now)) result }
 {
-    let mut mask: u32 = 0;
-    let mut rest = heard;
-    let mut k = 0;
-    while k < WATCHES {
-        mask = with_bit(mask, heard_or_hears_at(rest, t, watches, k, path, removed));
-        rest = rest % 32768 * 2;
-        k += 1;
-    }
-    mask
+    mask_where(|k| heard_or_hears_at(heard, t, watches, k, path, removed))
 }
 
 // Those that hear an event on a full path in one store.
@@ -105,24 +98,12 @@ pub fn of_event(watches: &[u8], released: bool) -> u32
     requires { KeptWatches watches.now }
     ensures { Mask (mask_of (is_event (event_name released)) (watches_of watches.now)) result }
 {
-    let mut mask: u32 = 0;
-    let mut k = 0;
-    while k < WATCHES {
-        mask = with_bit(mask, is_event(watches, k, released));
-        k += 1;
-    }
-    mask
+    mask_where(|k| is_event(watches, k, released))
 }
 
 // That in place k alone.
 pub fn one_watch(watches: &[u8], k: usize) -> u32
     ensures { Mask (only_from k 0 (watches_of watches.now)) result }
 {
-    let mut mask: u32 = 0;
-    let mut i = 0;
-    while i < WATCHES {
-        mask = with_bit(mask, k == i);
-        i += 1;
-    }
-    mask
+    mask_where(|i| k == i)
 }

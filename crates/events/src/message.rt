@@ -7,7 +7,6 @@ ghost use Rattle.rules.specs.Message.{event_message, message_of};
 ghost use Rattle.octets.specs.Numbers.{Put};
 ghost use Rattle.events.specs.Messages.{SoundWatches, header, due, sent_as, sent_over};
 
-use crate::Sent;
 use crate::record::{heard, path, path_length};
 use crate::report::{concerns, reported};
 use octets::numbers::put_number32;
@@ -78,7 +77,7 @@ fn due(watches: &[u8], events: &[u8], i: usize, k: u32) -> bool
     concerns(watches, at, path(events, i))
 }
 
-// Puts the event message of a record for a watch to the front of a buffer, where there is one.
+// Puts the event message of a record for a watch to the front of a buffer, where there is one, and returns its length.
 pub fn message<'a>(
     watches: &'a [u8],
     events: &'a [u8],
@@ -86,25 +85,25 @@ pub fn message<'a>(
     record: u32,
     watch: u32,
     into: &mut [u8],
-) -> Sent
+) -> Option<u32>
     requires { SoundWatches watches.now × (length events.now ≡ events_size) × (length into.old ≡ message_size) }
     ensures { sent_as result into.new ≡ sent_over into.old
         (message_of (watches_of watches.now) events.now count «record» watch) }
 {
     if count <= record {
-        return Sent::Nothing;
+        return None;
     }
     if RECORDS <= record {
-        return Sent::Nothing;
+        return None;
     }
     if WATCHES <= watch {
-        return Sent::Nothing;
+        return None;
     }
     let i = record as usize;
     if !due(watches, events, i, watch) {
-        return Sent::Nothing;
+        return None;
     }
     let k = watch as usize;
     let p = path(events, i);
-    Sent::Message(put_message(into, reported(watches, k, p), token(watches, k)))
+    Some(put_message(into, reported(watches, k, p), token(watches, k)))
 }

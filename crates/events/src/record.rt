@@ -3,9 +3,9 @@ ghost use Rattle.std.specs.Prelude.{◌≡◌, Bool, List, [], ◌∷◌, ◌≤
 ghost use Rattle.rules.specs.Size.{most_records, most_watches, events_size, longest_path};
 ghost use Rattle.rules.specs.Event.{kept};
 ghost use Rattle.rules.specs.Message.{record_at, mask_bit, path_length, path_in};
-ghost use Rattle.events.specs.Records.{record_of, Recorded, Room, Mask};
+ghost use Rattle.events.specs.Records.{record_of, Recorded, Room, Mask, number_bit};
 
-use octets::numbers::two;
+use octets::numbers::number;
 use octets::parts::{clear, copy};
 use octets::sizes::{LONGEST_PATH, MASK_SIZE, RECORD_PATH_AT, RECORD_SIZE};
 
@@ -40,13 +40,21 @@ pub fn keep(events: &mut [u8], n: usize, mask: u32, path: &[u8]) -> usize
     put(events, n, mask, path)
 }
 
-// Whether the mask of record i has the bit of watch k; that of watch 0 comes first.
+// Whether a mask has the bit of watch k; that of watch 0 is the highest.
+pub fn has_bit(mask: u32, k: usize) -> bool
+    requires { k < most_watches }
+    ensures { result ≡ number_bit mask k }
+{
+    (mask >> (15 - k)) % 2 == 1
+}
+
+// Whether the mask of record i has the bit of watch k.
 pub fn heard(events: &[u8], i: usize, k: u32) -> bool
     requires { (i < most_records) × (k < most_watches) × (length events.now ≡ events_size) }
     ensures { result ≡ mask_bit (record_at events.now i) k }
 {
-    let mask = two(events, i * RECORD_SIZE);
-    (mask >> (15 - k)) % 2 == 1
+    let mask = number::<2>(events, i * RECORD_SIZE) as u32;
+    has_bit(mask, k as usize)
 }
 
 // The length of record i's path, as its field has it.
@@ -54,7 +62,7 @@ pub fn path_length(events: &[u8], i: usize) -> usize
     requires { (i < most_records) × (length events.now ≡ events_size) }
     ensures { result ≡ path_length (record_at events.now i) }
 {
-    (two(events, i * RECORD_SIZE + MASK_SIZE) / 128) as usize
+    (number::<2>(events, i * RECORD_SIZE + MASK_SIZE) / 128) as usize
 }
 
 // The path of record i, where its length is within the size.

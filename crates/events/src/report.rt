@@ -4,12 +4,10 @@ ghost use Rattle.rules.specs.Message.{is_domain_path, concerns, cut, reported};
 ghost use Rattle.watches.specs.Watch.{watch_of};
 ghost use Rattle.events.specs.Messages.{RoomToCut, UsedWatch};
 
-use octets::Number;
 use octets::compare::{begins, same};
 use octets::decimals::number_in;
 use octets::written::digits;
 use paths::relation::is_below;
-use watches::Depth;
 use watches::places::{depth, domain, path, relative};
 
 const LAST_DOMAIN: u64 = octets::sizes::LAST_DOMAIN as u64;
@@ -18,15 +16,9 @@ const LAST_DOMAIN: u64 = octets::sizes::LAST_DOMAIN as u64;
 fn is_domain_path(p: &[u8]) -> bool
     ensures { result ≡ is_domain_path p.now }
 {
-    if p.len() == 0 {
-        return false;
-    }
-    if p[0] != b'/' {
-        return false;
-    }
-    match number_in(&p[1..], 0, LAST_DOMAIN) {
-        Number::Is(_) => true,
-        Number::Not => false,
+    match p.split_first() {
+        Some((first, id)) => *first == b'/' && number_in(id, 0, LAST_DOMAIN).is_some(),
+        None => false,
     }
 }
 
@@ -42,10 +34,7 @@ pub fn concerns(watches: &[u8], k: usize, p: &[u8]) -> bool
     if !begins(b"/", own) {
         return is_domain_path(p);
     }
-    if is_below(own, p) {
-        return true;
-    }
-    is_below(p, own)
+    is_below(own, p) || is_below(p, own)
 }
 
 // A path without the base of domain d, where it was given relative.
@@ -67,14 +56,7 @@ pub fn reported<'a>(watches: &'a [u8], k: usize, p: &'a [u8]) -> &'a [u8]
 {
     let own = path(watches, k);
     if !begins(b"/", own) {
-        match depth(watches, k) {
-            Depth::To(_) => {
-                return p;
-            }
-            Depth::Any => {
-                return own;
-            }
-        }
+        return if depth(watches, k).is_some() { p } else { own };
     }
     let r = relative(watches, k);
     let d = domain(watches, k);

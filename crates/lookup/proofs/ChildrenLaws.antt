@@ -11,11 +11,12 @@ use lib.ListN.{length, get_or, take, drop, set, drop_of_length-le, length-append
 use lib.Seq as Seq
 use lib.Dec.{eqb, lit≤}
 use borrow.Author.Tests.{ne_eqb}
+use Rattle.std.specs.List.{copy_within}
 use Rattle.rules.specs.Size.{slots, table_size, longest_name}
 use Rattle.rules.specs.Octets.{Octets, paste, less}
 use Rattle.rules.proofs.Cases.{cond_case}
 use Rattle.rules.proofs.Slots.{length-table_of}
-use Rattle.rules.proofs.Paste.{paste_nil, length-paste, paste-before, get_or-paste-before}
+use Rattle.rules.proofs.Paste.{length-paste, paste-before}
 use Rattle.rules.specs.Node.{Node, Table, node_at, insert, has_parent, children_from, children}
 use Rattle.rules.specs.Layout.{table_of}
 use Rattle.octets.proofs.Padding.{drop-take}
@@ -92,37 +93,17 @@ children-all (s ∷ ss) p h = rw and-false
 
 -- ── those from a place on moving up ──
 
--- the n of a list with those from place m on moved up by one
-abbrev pub moved : List ℕ → ℕ → ℕ → List ℕ
-moved list n m = paste (m + 1) (take (n - m) (drop m list)) list
+module _ (list : List ℕ) (n k : ℕ) (h : n < length list) (low : k ≤ n) where
+  part : length (take (n - k) (drop k list)) ≡ n - k
+  part = Seq.length-take-le (n - k) (drop k list) (rw length-drop (omega arith))
 
-pub shift_none : (list : List ℕ) (n : ℕ) → list ≡ moved list n n
-shift_none list n =
-    let e : 0 ≡ n - n = omega arith in
-    sym (paste_nil (n + 1) list) ∙ ap (λ (k : ℕ). paste (n + 1) (take k (drop n list)) list) e
+  moved : copy_within list k n (k + 1) ≡ paste (k + 1) (take (n - k) (drop k list)) list
+  unfolding paste
+  moved = rw (part, append_assoc) refl
 
-module _ (list₀ : List ℕ) (n m : ℕ) (list : List ℕ) (h : n < length list₀) (low : m ≤ n) where
-  part : length (take (n - m) (drop m list₀)) ≡ n - m
-  part = Seq.length-take-le (n - m) (drop m list₀) (rw length-drop (omega arith))
-
-  pub shift_length : list ≡ moved list₀ n m → length list ≡ length list₀
-  shift_length e = ap length e ∙ length-paste (m + 1) (take (n - m) (drop m list₀)) list₀ (rw part (omega arith))
-
-  pub shifted : 0 < m → list ≡ moved list₀ n m → set list m (get_or list (m - 1) 0) ≡ moved list₀ n (m - 1)
-  shifted pos e =
-      let ys = take (n - m) (drop m list₀) in
-      let back : suc (m - 1) ≡ m = omega arith in
-      let one : n - (m - 1) ≡ suc (n - m) = omega arith in
-      let front : get_or list (m - 1) 0 ≡ get_or list₀ (m - 1) 0 = ap (λ (l : List ℕ). get_or l (m - 1) 0) e
-      ∙ get_or-paste-before (m + 1) ys list₀ (m - 1) (omega arith) (omega arith) in
-      let part_up : take (n - (m - 1)) (drop (m - 1) list₀) ≡ get_or list₀ (m - 1) 0 ∷ ys =
-      ap₂ take one (Seq.drop-cons list₀ (m - 1) 0 (omega arith) ∙ ap (λ (i : ℕ). get_or list₀ (m - 1) 0 ∷ drop i list₀) back) in
-      ap₂ (λ (l : List ℕ) (x : ℕ). set l m x) e front
-      ∙ paste-before m ys list₀ (get_or list₀ (m - 1) 0) (rw part (omega arith))
-      ∙ ap₂ (λ (i : ℕ) (l : List ℕ). paste i l list₀) (sym (add-one (m - 1) ∙ back)) (sym part_up)
-
-  pub shift_done : (j : ℕ) → list ≡ moved list₀ n m → set list m j ≡ paste m (j ∷ take (n - m) (drop m list₀)) list₀
-  shift_done j e = ap (λ (l : List ℕ). set l m j) e ∙ paste-before m (take (n - m) (drop m list₀)) list₀ j (rw part (omega arith))
+  -- those of the n from place k on move up, and another goes in before them
+  pub put_before : (j : ℕ) → set (copy_within list k n (k + 1)) k j ≡ paste k (j ∷ take (n - k) (drop k list)) list
+  put_before j = ap (λ (l : List ℕ). set l k j) moved ∙ paste-before k (take (n - k) (drop k list)) list j (rw part (omega arith))
 
 -- ── what `name` asks of a used slot, and a turn of `place` ──
 

@@ -29,15 +29,13 @@ fn place(t: &[u8], list: &[u8], n: usize, j: usize) -> usize
     requires { (n ≤ length list.now) × AllAsked t.now (take n list.now) × Asked t.now j }
     ensures { Placed (table_of t.now) j (take n list.now) result }
 {
-    let mut k = 0;
-    while k < n {
+    for k in 0..n {
         let other = list[k] as usize;
         if less(name(t, j), name(t, other)) {
             return k;
         }
-        k += 1;
     }
-    k
+    n
 }
 
 // Puts a slot into the place k of a list of n, those from there on moving up.
@@ -45,11 +43,7 @@ fn put_in(list: &mut [u8], n: usize, k: usize, j: u8)
     requires { (n < length list.old) × (k ≤ n) }
     ensures { list.new ≡ paste k (j ∷ take (n - k) (drop k list.old)) list.old }
 {
-    let mut m = n;
-    while k < m {
-        list[m] = list[m - 1];
-        m -= 1;
-    }
+    list.copy_within(k..n, k + 1);
     list[k] = j;
 }
 
@@ -59,9 +53,7 @@ pub fn children(t: &[u8], p: usize, list: &mut [u8]) -> usize
     ensures { Listed t.now p list.new result }
 {
     let mut n = 0;
-    let mut i = SLOTS;
-    while 1 < i {
-        i -= 1;
+    for i in (1..SLOTS).rev() {
         if has_parent(t, i, p) {
             let k = place(t, &list[..], n, i);
             put_in(list, n, k, (i % 256) as u8);

@@ -19,10 +19,8 @@ pub fn names_length(t: &[u8], list: &[u8], n: usize) -> usize
     ensures { result ≡ length (name_list (table_of t.now) (take n list.now)) }
 {
     let mut sum = 0;
-    let mut k = 0;
-    while k < n {
+    for k in 0..n {
         sum += name_length(t, list[k] as usize) + 1;
-        k += 1;
     }
     sum
 }
@@ -34,14 +32,12 @@ pub fn put_names(t: &[u8], list: &[u8], n: usize, into: &mut [u8], at: usize) ->
     ensures { Put at (name_list (table_of t.now) (take n list.now)) into.old into.new result }
 {
     let mut to = at;
-    let mut k = 0;
-    while k < n {
+    for k in 0..n {
         let text = name(t, list[k] as usize);
         copy(into, to, text);
         to += text.len();
         into[to] = 0;
         to += 1;
-        k += 1;
     }
     to
 }
@@ -51,16 +47,7 @@ fn letter(access: u32) -> u8
     requires { access < 4 }
     ensures { result ≡ access_text access }
 {
-    if access == 0 {
-        return b'n';
-    }
-    if access == 1 {
-        return b'r';
-    }
-    if access == 2 {
-        return b'w';
-    }
-    b'b'
+    b"nrwb"[access as usize]
 }
 
 // Writes an entry: its letter, its domain id and a nul.
@@ -82,11 +69,9 @@ pub fn put_entries(t: &[u8], i: usize, into: &mut [u8], at: usize) -> usize
 {
     let count = entry_count(t, i);
     let mut to = at;
-    let mut k = 0;
-    while k < count {
+    for k in 0..count {
         let e = entry_at(t, i, k);
         to = put_entry(into, to, e.access, e.domain);
-        k += 1;
     }
     to
 }

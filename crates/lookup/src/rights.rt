@@ -29,8 +29,7 @@ fn named(t: &[u8], i: usize, domain: u32, first: u32) -> Access
     ensures { access_meant result ≡ named domain first 1 (node_at (table_of t.now) i).others }
 {
     let count = entry_count(t, i);
-    let mut k = 1;
-    while k < count {
+    for k in 1..count {
         let e = entry_at(t, i, k);
         if e.domain == domain {
             return Access {
@@ -38,7 +37,6 @@ fn named(t: &[u8], i: usize, domain: u32, first: u32) -> Access
                 ground: Ground::Entry(k),
             };
         }
-        k += 1;
     }
     Access {
         access: first,

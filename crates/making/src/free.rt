@@ -1,16 +1,17 @@
 // Free slots: the lowest, and how many there are.
-ghost use Rattle.std.specs.Prelude.{◌≡◌, length};
-ghost use Rattle.rules.specs.Size.{table_size};
+ghost use Rattle.std.specs.Prelude.{◌≡◌, ◌<◌, length, IfSome, unwrap_or};
+ghost use Rattle.rules.specs.Size.{slots, table_size};
 ghost use Rattle.rules.specs.Entries.{lowest, free_count};
 ghost use Rattle.rules.specs.Layout.{table_of};
 
 use octets::sizes::{SLOT_SIZE, SLOTS};
 use slots::fields::used;
 
-// The lowest free slot, or the number of slots where none is free.
-pub fn lowest_free(t: &[u8]) -> usize
+// The lowest free slot.
+pub fn lowest_free(t: &[u8]) -> Option<usize>
     requires { length t.now ≡ table_size }
-    ensures { result ≡ lowest (table_of t.now) }
+    ensures found { unwrap_or result slots ≡ lowest (table_of t.now) }
+    ensures below { IfSome result (λ k. k < slots) }
 {
     octets::places::lowest_free(t, SLOT_SIZE, SLOTS)
 }
@@ -19,13 +20,5 @@ pub fn free_count(t: &[u8]) -> usize
     requires { length t.now ≡ table_size }
     ensures { result ≡ free_count (table_of t.now) }
 {
-    let mut n: usize = 0;
-    let mut i = 0;
-    while i < SLOTS {
-        if !used(t, i) {
-            n += 1;
-        }
-        i += 1;
-    }
-    n
+    (0..SLOTS).filter(|i| !used(t, *i)).count()
 }

@@ -22,7 +22,7 @@ fn make_one(t: &mut [u8], parent: usize, name: &[u8], value: &[u8], domain: u32)
         (t.new ≡ table_bytes (set (table_of t.old) result
         (some (new_node domain (table_of t.old) parent name.now value.now)))) }
 {
-    let i = lowest_free(t);
+    let i = lowest_free(t).unwrap();
     put_node(t, i, parent, name, value, domain);
     i
 }

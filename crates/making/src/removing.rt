@@ -9,6 +9,7 @@ ghost use Rattle.making.specs.Marks.{Marked, swept};
 use octets::sizes::{DEEPEST, SLOTS};
 use slots::fields::{parent, used};
 use slots::writing::clear_slot;
+use std::array;
 
 // The slot above; a free slot lies below the root.
 fn above(t: &[u8], i: usize) -> usize
@@ -27,8 +28,7 @@ pub fn is_within(t: &[u8], i: usize, j: usize) -> bool
     ensures { result ≡ within deepest (table_of t.now) i j }
 {
     let mut at = j;
-    let mut k = DEEPEST;
-    while 0 < k {
+    for _ in 0..DEEPEST {
         if i == at {
             return true;
         }
@@ -36,7 +36,6 @@ pub fn is_within(t: &[u8], i: usize, j: usize) -> bool
             return false;
         }
         at = above(t, at);
-        k -= 1;
     }
     i == at
 }
@@ -46,13 +45,7 @@ fn marked(t: &[u8], i: usize) -> [bool; SLOTS]
     requires { length t.now ≡ table_size }
     ensures { Marked result (table_of t.now) i }
 {
-    let mut marks = [false; SLOTS];
-    let mut j = 0;
-    while j < SLOTS {
-        marks[j] = is_within(t, i, j);
-        j += 1;
-    }
-    marks
+    array::from_fn(|j| is_within(t, i, j))
 }
 
 // Frees the marked slots.
@@ -60,12 +53,10 @@ fn sweep(t: &mut [u8], marks: &[bool; SLOTS])
     requires { Canonical t.old × (length marks.now ≡ slots) }
     ensures { t.new ≡ table_bytes (swept marks.now (table_of t.old)) }
 {
-    let mut j = 0;
-    while j < SLOTS {
-        if marks[j] {
+    for (j, marked) in marks.iter().enumerate() {
+        if *marked {
             clear_slot(t, j);
         }
-        j += 1;
     }
 }
 
@@ -83,9 +74,7 @@ pub fn remove_all(t: &mut [u8], list: &[u8], n: usize)
     requires { Canonical t.old × (n ≤ length list.now) }
     ensures { t.new ≡ table_bytes (without_all (table_of t.old) (take n list.now)) }
 {
-    let mut k = 0;
-    while k < n {
-        remove(t, list[k] as usize);
-        k += 1;
+    for i in &list[..n] {
+        remove(t, *i as usize);
     }
 }

@@ -18,11 +18,9 @@ use Rattle.nodes.specs.Answers.{Standing, Answered}
 use Rattle.replies.specs.Meant.{errno_meant}
 use Rattle.nodes.specs.Sights.{looked_at, Sees}
 use Rattle.replies.specs.declared.kinds.Errno.{Errno}
-use Rattle.replies.specs.declared.kinds.Reply.TheVariants.{Done, Refused}
+use Rattle.std.specs.Prelude.{Result, Ok, Err}
 use Rattle.nodes.specs.declared.kinds.Effect.TheVariants.{Nothing}
-use Rattle.nodes.specs.declared.kinds.Answer.{Answer}
-use Rattle.nodes.specs.declared.looking.Seen.{Seen}
-use Rattle.nodes.specs.declared.looking.Seen.TheVariants.{At, Not}
+use Rattle.nodes.specs.declared.kinds.Given.{Given}
 use Rattle.nodes.proofs.Outcomes.{refused_so, given_so}
 
 -- ── each request by what it gives ──
@@ -40,7 +38,7 @@ module _ (d : Domain) (t p : Octets) where
   unfolding answer answered
   directory_gives = refl
 
-  pub asked-seen : (x : Seen) → Sees t p d x → (i : ℕ) → x ≡ At i → Asked t i
+  pub asked-seen : (x : Result ℕ Errno) → Sees t p d x → (i : ℕ) → x ≡ Ok i → Asked t i
   asked-seen x h i o = (subst (Sees t p d) o h).0
 
   -- a request that gives so, where the look-up came out so
@@ -49,22 +47,20 @@ module _ (d : Domain) (t p : Octets) where
       (ask : P.Ask)
       (give : ℕ → A.Reply)
       (q : answer d ask (names_in p) (table_of t) ≡ looked_at t p d give)
-      (x : Seen)
+      (x : Result ℕ Errno)
       (h : Sees t p d x)
       (before : Octets)
     where
-      pub not_seen : (e : Errno) → x ≡ Not e → (r : Answer) → r ≡ record { reply = Refused e; effect = Nothing } →
-          Answered d ask p t t before before r
-      not_seen e o r z = refused_so d (names_in p) t (sound_canonical t s.sound) _ before e r z (q ∙ subst (Sees t p d) o h give)
+      pub not_seen : (e : Errno) → x ≡ Err e → Answered d ask p t t before before (Err e)
+      not_seen e o = refused_so d (names_in p) t (sound_canonical t s.sound) _ before e (q ∙ subst (Sees t p d) o h give)
 
-      pub seen-refused : (i : ℕ) → x ≡ At i → (e : Errno) → give i ≡ refused (errno_meant e) → (r : Answer) →
-          r ≡ record { reply = Refused e; effect = Nothing } → Answered d ask p t t before before r
-      seen-refused i o e g r z =
-          refused_so d (names_in p) t (sound_canonical t s.sound) _ before e r z
+      pub seen-refused : (i : ℕ) → x ≡ Ok i → (e : Errno) → give i ≡ refused (errno_meant e) → Answered d ask p t t before before (Err e)
+      seen-refused i o e g =
+          refused_so d (names_in p) t (sound_canonical t s.sound) _ before e
           (q ∙ (subst (Sees t p d) o h).1 give ∙ ap (A.unchanged d (names_in p) (table_of t)) g)
 
-      pub seen : (i : ℕ) → x ≡ At i → (b : Octets) → give i ≡ done b → (n : ℕ) → n ≡ length b → (after : Octets) →
-          after ≡ paste header_size b before → (r : Answer) → r ≡ record { reply = Done n; effect = Nothing } → Answered d ask p t t before after r
+      pub seen : (i : ℕ) → x ≡ Ok i → (b : Octets) → give i ≡ done b → (n : ℕ) → n ≡ length b → (after : Octets) →
+          after ≡ paste header_size b before → (r : Given) → r ≡ record { length = n; effect = Nothing } → Answered d ask p t t before after (Ok r)
       seen i o b g n l after w r z =
           given_so d (names_in p) t (sound_canonical t s.sound) _ before b after n r z
           (q ∙ (subst (Sees t p d) o h).1 give ∙ ap (A.unchanged d (names_in p) (table_of t)) g) l w

@@ -28,40 +28,39 @@ use Rattle.replies.specs.Framed.{Told}
 use Rattle.payload.specs.Meaning.{ask_meant}
 use Rattle.payload.specs.declared.answer.Ask.{Ask}
 use Rattle.payload.specs.declared.answer.Ask.TheVariants.{Write}
-use Rattle.nodes.specs.Answers.{effect_meant, Answers, Answered}
+use Rattle.nodes.specs.Answers.{effect_meant, Answer, Answers, Answered}
 use Rattle.replies.specs.Meant.{errno_meant}
 use Rattle.replies.specs.declared.kinds.Errno.{Errno}
-use Rattle.replies.specs.declared.kinds.Reply.TheVariants.{Done, Refused}
+use Rattle.std.specs.Prelude.{Ok, Err}
 use Rattle.nodes.specs.declared.kinds.Effect.{Effect}
 use Rattle.nodes.specs.declared.kinds.Effect.TheVariants.{Nothing}
-use Rattle.nodes.specs.declared.kinds.Answer.{Answer}
+use Rattle.nodes.specs.declared.kinds.Given.{Given}
 
 -- ── answers that change nothing ──
 
 module _ (d : Domain) (ns : Names) (t : Octets) (k : Canonical t) (a : A.Answer) (before : Octets) where
-  pub refused_so : (e : Errno) (r : Answer) → r ≡ record { reply = Refused e; effect = Nothing } →
-      a ≡ unchanged d ns (table_of t) (refused (errno_meant e)) → Answers ns a t before before r
+  pub refused_so : (e : Errno) → a ≡ unchanged d ns (table_of t) (refused (errno_meant e)) → Answers ns a t before before (Err e)
   unfolding unchanged
-  refused_so e r q h = rw (q, h) (record { table = sym k.kept; change = refl; reply = (refl, refl) })
+  refused_so e h = rw h (record { table = sym k.kept; change = refl; reply = (refl, refl) })
 
-  pub given_so : (s after : Octets) (n : ℕ) (r : Answer) → r ≡ record { reply = Done n; effect = Nothing } →
-      a ≡ unchanged d ns (table_of t) (done s) → n ≡ length s → after ≡ paste header_size s before → Answers ns a t before after r
+  pub given_so : (s after : Octets) (n : ℕ) (g : Given) → g ≡ record { length = n; effect = Nothing } →
+      a ≡ unchanged d ns (table_of t) (done s) → n ≡ length s → after ≡ paste header_size s before → Answers ns a t before after (Ok g)
   unfolding unchanged
-  given_so s after n r q h l p = rw (q, h) (record { table = sym k.kept; change = refl; reply = (ap Done l, p) })
+  given_so s after n g q h l p = rw (q, h) (record { table = sym k.kept; change = refl; reply = (ap Ok l, p) })
 
-  pub okay_so : (after : Octets) (r : Answer) → (r.effect ≡ Nothing) × Told OK r.reply before after →
-      a ≡ unchanged d ns (table_of t) OK → Answers ns a t before after r
+  pub okay_so : (after : Octets) (g : Given) → (g.effect ≡ Nothing) × Told OK (Ok g.length) before after →
+      a ≡ unchanged d ns (table_of t) OK → Answers ns a t before after (Ok g)
   unfolding unchanged
-  okay_so after r q h = rw h (record { table = sym k.kept; change = ap (λ (e : Effect). effect_meant e ns) q.0; reply = q.1 })
+  okay_so after g q h = rw h (record { table = sym k.kept; change = ap (λ (e : Effect). effect_meant e ns) q.0; reply = q.1 })
 
 -- ── a change ──
 
 pub changed_so : (d : Domain) (ns : Names) (ts : Table) (a : A.Answer) (before : Octets) (removal : Bool) (parents : ℕ) (ts' : Table) (t' after : Octets)
-    (e : Effect) (r : Answer) → (r.effect ≡ e) × Told OK r.reply before after →
+    (e : Effect) (g : Given) → (g.effect ≡ e) × Told OK (Ok g.length) before after →
     effect_meant e ns ≡ some (record { removal = removal; parents = parents; names = ns }) → a ≡ changed d ns ts removal parents ts' →
-    t' ≡ table_bytes ts' → Answers ns a t' before after r
+    t' ≡ table_bytes ts' → Answers ns a t' before after (Ok g)
 unfolding changed
-changed_so d ns ts a before removal parents ts' t' after e r q m h b =
+changed_so d ns ts a before removal parents ts' t' after e g q m h b =
     rw h (record { table = b; change = ap (λ (x : Effect). effect_meant x ns) q.0 ∙ m; reply = q.1 })
 
 -- ── where a path leads ──

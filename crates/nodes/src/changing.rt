@@ -1,5 +1,5 @@
 // The requests that give a path a node: WRITE and MKDIR.
-ghost use Rattle.std.specs.Prelude.{◌≡◌, ◌<◌, length};
+ghost use Rattle.std.specs.Prelude.{Ok, ◌≡◌, ◌<◌, length};
 ghost use Rattle.rules.specs.Size.{reply_size};
 ghost use Rattle.rules.specs.Path.{Domain, Names, names_in};
 ghost use Rattle.rules.specs.Node.{reach};
@@ -11,8 +11,7 @@ ghost use Rattle.lookup.specs.Reach.{Reaches};
 ghost use Rattle.replies.specs.Framed.{Told};
 ghost use Rattle.nodes.specs.Answers.{Standing, Ready, Answers, Answered};
 
-use crate::kinds::{Answer, Effect};
-use crate::looking::refusal;
+use crate::kinds::{Answer, Effect, Given};
 use lookup::reach::reach;
 use lookup::rights::may_write;
 use making::free::free_count;
@@ -23,13 +22,12 @@ use replies::kinds::{Errno, okay};
 use slots::writing::put_value;
 
 // Success with nothing to tell: `OK` and a nul.
-pub fn success(reply: &mut [u8], effect: Effect) -> Answer
+pub fn success(reply: &mut [u8], effect: Effect) -> Given
     requires { length reply.old ≡ reply_size }
-    ensures { (result.effect ≡ effect) × Told OK result.reply reply.old reply.new }
+    ensures { (result.effect ≡ effect) × Told OK (Ok result.length) reply.old reply.new }
 {
-    let told = okay(reply);
-    Answer {
-        reply: told,
+    Given {
+        length: okay(reply),
         effect,
     }
 }
@@ -40,12 +38,10 @@ pub fn names_left(path: &[u8], at: usize) -> usize
     ensures { result ≡ length (left_at path.now at) }
 {
     let mut n: usize = 1;
-    let mut i = at;
-    while i < path.len() {
+    for i in at..path.len() {
         if path[i] == b'/' {
             n += 1;
         }
-        i += 1;
     }
     n
 }
@@ -81,15 +77,15 @@ fn create(
         value.now) t.new reply.old reply.new result }
 {
     if !may_write(t, i, domain) {
-        return refusal(Errno::Access);
+        return Err(Errno::Access);
     }
     let left = names_left(path, at);
     if !has_room(t, path, left, value) {
-        return refusal(Errno::NoSpace);
+        return Err(Errno::NoSpace);
     }
     make(t, i, path, at, domain, value);
     let parents = left - 1;
-    success(reply, Effect::Wrote(parents))
+    Ok(success(reply, Effect::Wrote(parents)))
 }
 
 pub fn write(t: &mut [u8], domain: u32, path: &[u8], value: &[u8], reply: &mut [u8]) -> Answer
@@ -104,13 +100,13 @@ pub fn write(t: &mut [u8], domain: u32, path: &[u8], value: &[u8], reply: &mut [
         return create(t, domain, slot, path, at, value, reply);
     }
     if !may_write(t, slot, domain) {
-        return refusal(Errno::Access);
+        return Err(Errno::Access);
     }
     if LONGEST_VALUE < value.len() {
-        return refusal(Errno::NoSpace);
+        return Err(Errno::NoSpace);
     }
     put_value(t, slot, value);
-    success(reply, Effect::Wrote(0))
+    Ok(success(reply, Effect::Wrote(0)))
 }
 
 pub fn mkdir(t: &mut [u8], domain: u32, path: &[u8], reply: &mut [u8]) -> Answer
@@ -124,7 +120,7 @@ pub fn mkdir(t: &mut [u8], domain: u32, path: &[u8], reply: &mut [u8]) -> Answer
         return create(t, domain, slot, path, at, b"", reply);
     }
     if may_write(t, slot, domain) {
-        return success(reply, Effect::Nothing);
+        return Ok(success(reply, Effect::Nothing));
     }
-    refusal(Errno::Access)
+    Err(Errno::Access)
 }

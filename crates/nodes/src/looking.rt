@@ -9,39 +9,22 @@ ghost use Rattle.nodes.specs.Answers.{Standing, Ready, Answered};
 ghost use Rattle.replies.specs.Meant.{errno_meant};
 ghost use Rattle.nodes.specs.Sights.{Sees};
 
-use crate::kinds::{Answer, Effect};
+use crate::kinds::{Answer, Effect, Given};
 use lookup::children::children;
 use lookup::listing::{names_length, put_entries, put_names};
 use lookup::reach::reach;
 use lookup::rights::may_read;
 use octets::parts::copy;
 use octets::sizes::{HEADER_SIZE, LONGEST_PAYLOAD, SLOTS};
-use replies::kinds::{Errno, Reply};
+use replies::kinds::Errno;
 use slots::fields::value;
 
-// The slot that a reading request may read, or why it may not.
-#[derive(Drop)]
-enum Seen {
-    At(usize),
-    Not(Errno),
-}
-
-// An answer that changes nothing: a payload of n bytes.
-fn given(n: usize) -> Answer
-    ensures { result ≡ record { reply = Reply.Done n; effect = Effect.Nothing } }
+// A payload of n bytes, with nothing done.
+fn shown(n: usize) -> Given
+    ensures { result ≡ record { length = n; effect = Effect.Nothing } }
 {
-    Answer {
-        reply: Reply::Done(n),
-        effect: Effect::Nothing,
-    }
-}
-
-// An answer that changes nothing: an error.
-pub fn refusal(e: Errno) -> Answer
-    ensures { result ≡ record { reply = Reply.Refused e; effect = Effect.Nothing } }
-{
-    Answer {
-        reply: Reply::Refused(e),
+    Given {
+        length: n,
         effect: Effect::Nothing,
     }
 }
@@ -57,64 +40,52 @@ pub fn absent(t: &[u8], i: usize, domain: u32) -> Errno
     Errno::Access
 }
 
-// Where a reading request of a domain for a path looks.
-fn look(t: &[u8], domain: u32, path: &[u8]) -> Seen
+// The slot that a reading request of a domain for a path may read, or why it may not.
+fn look(t: &[u8], domain: u32, path: &[u8]) -> Result<usize, Errno>
     requires { Standing t.now path.now }
     ensures { Sees t.now path.now domain result }
 {
     let reached = reach(t, path);
     let slot = reached.slot;
     if reached.at < path.len() {
-        return Seen::Not(absent(t, slot, domain));
+        return Err(absent(t, slot, domain));
     }
     if may_read(t, slot, domain) {
-        return Seen::At(slot);
+        return Ok(slot);
     }
-    Seen::Not(Errno::Access)
+    Err(Errno::Access)
 }
 
 pub fn read(t: &[u8], domain: u32, path: &[u8], reply: &mut [u8]) -> Answer
     requires { Ready t.now path.now reply.old domain }
     ensures { Answered domain read path.now t.now t.now reply.old reply.new result }
 {
-    match look(t, domain, path) {
-        Seen::Not(e) => refusal(e),
-        Seen::At(slot) => {
-            let v = value(t, slot);
-            copy(reply, HEADER_SIZE, v);
-            given(v.len())
-        }
-    }
+    let slot = look(t, domain, path)?;
+    let v = value(t, slot);
+    copy(reply, HEADER_SIZE, v);
+    Ok(shown(v.len()))
 }
 
 pub fn get_perms(t: &[u8], domain: u32, path: &[u8], reply: &mut [u8]) -> Answer
     requires { Ready t.now path.now reply.old domain }
     ensures { Answered domain get_perms path.now t.now t.now reply.old reply.new result }
 {
-    match look(t, domain, path) {
-        Seen::Not(e) => refusal(e),
-        Seen::At(slot) => {
-            let to = put_entries(t, slot, reply, HEADER_SIZE);
-            given(to - HEADER_SIZE)
-        }
-    }
+    let slot = look(t, domain, path)?;
+    let to = put_entries(t, slot, reply, HEADER_SIZE);
+    Ok(shown(to - HEADER_SIZE))
 }
 
 pub fn directory(t: &[u8], domain: u32, path: &[u8], reply: &mut [u8]) -> Answer
     requires { Ready t.now path.now reply.old domain }
     ensures { Answered domain directory path.now t.now t.now reply.old reply.new result }
 {
-    match look(t, domain, path) {
-        Seen::Not(e) => refusal(e),
-        Seen::At(slot) => {
-            let mut list = [0; SLOTS];
-            let n = children(t, slot, &mut list);
-            let long = names_length(t, &list, n);
-            if LONGEST_PAYLOAD < long {
-                return refusal(Errno::TooBig);
-            }
-            put_names(t, &list, n, reply, HEADER_SIZE);
-            given(long)
-        }
+    let slot = look(t, domain, path)?;
+    let mut list = [0; SLOTS];
+    let n = children(t, slot, &mut list);
+    let long = names_length(t, &list, n);
+    if LONGEST_PAYLOAD < long {
+        return Err(Errno::TooBig);
     }
+    put_names(t, &list, n, reply, HEADER_SIZE);
+    Ok(shown(long))
 }

@@ -12,7 +12,7 @@ ghost use Rattle.nodes.specs.Answers.{Ready, Answered};
 
 use crate::changing::success;
 use crate::kinds::{Answer, Effect};
-use crate::looking::{absent, refusal};
+use crate::looking::absent;
 use lookup::reach::reach;
 use lookup::rights::may_own;
 use octets::sizes::MOST_ENTRIES;
@@ -71,14 +71,14 @@ pub fn set_perms(
     let reached = reach(t, path);
     let slot = reached.slot;
     if reached.at < path.len() {
-        return refusal(absent(t, slot, domain));
+        return Err(absent(t, slot, domain));
     }
     if !may_set(t, slot, domain, entries.first.domain) {
-        return refusal(Errno::Access);
+        return Err(Errno::Access);
     }
     if MOST_ENTRIES < entries.count {
-        return refusal(Errno::NoSpace);
+        return Err(Errno::NoSpace);
     }
     permit(t, slot, entries);
-    success(reply, Effect::Wrote(0))
+    Ok(success(reply, Effect::Wrote(0)))
 }

@@ -6,7 +6,7 @@ ghost use Rattle.nodes.specs.Answers.{Ready, Answered};
 
 use crate::changing::{names_left, success};
 use crate::kinds::{Answer, Effect};
-use crate::looking::{absent, refusal};
+use crate::looking::absent;
 use lookup::reach::reach;
 use lookup::rights::{may_read, may_write};
 use making::removing::remove;
@@ -25,12 +25,12 @@ fn remove_absent(
     ensures { Answered domain rm path.now t.now t.now reply.old reply.new result }
 {
     if 1 < names_left(path, at) {
-        return refusal(absent(t, i, domain));
+        return Err(absent(t, i, domain));
     }
     if may_read(t, i, domain) {
-        return success(reply, Effect::Nothing);
+        return Ok(success(reply, Effect::Nothing));
     }
-    refusal(Errno::Access)
+    Err(Errno::Access)
 }
 
 pub fn rm(t: &mut [u8], domain: u32, path: &[u8], reply: &mut [u8]) -> Answer
@@ -44,8 +44,8 @@ pub fn rm(t: &mut [u8], domain: u32, path: &[u8], reply: &mut [u8]) -> Answer
         return remove_absent(t, domain, slot, path, at, reply);
     }
     if !may_write(t, slot, domain) {
-        return refusal(Errno::Access);
+        return Err(Errno::Access);
     }
     remove(t, slot);
-    success(reply, Effect::Removed)
+    Ok(success(reply, Effect::Removed))
 }

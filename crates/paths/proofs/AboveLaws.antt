@@ -3,6 +3,7 @@ use mathlib.Core.Path.{◌≡◌, refl, ap, sym, ◌∙◌}
 use mathlib.Core.Bool.{true, and-eq-true_iff}
 use mathlib.Core.List.{[], ◌∷◌, ◌++◌, append-nil}
 use Prim.Native.Nat.{ℕ, suc, ◌+◌, ◌-◌, ◌≤◌, ◌<◌}
+use native.Mathlib.Numerals.{add-one}
 use native.Mathlib.Omega.{arith}
 use lib.ListN.{length, get_or, take, drop, length-append, take-append-drop}
 use lib.Seq.{split_at, take-suc, take-append_seam, drop-append-add, length-take-le}
@@ -79,30 +80,26 @@ module _ (s : Octets) (h : is_full s ≡ true) where
 
 -- ── from the front, name by name ──
 
--- behind a text's index there are i names up to the path that lies k levels above it
-pub record Passed (s : Octets) (k end i : ℕ) : Type 0 where
-  pub few : i ≤ length (names_in s) - k
-  pub ends : end ≡ end_of s (length (names_in s) - k - i)
+-- m names are passed, up to an index of the text, on the way to the path that lies k levels above it
+pub record Passed (s : Octets) (k end m : ℕ) : Type 0 where
+  pub few : m ≤ length (names_in s) - k
+  pub ends : end ≡ end_of s m
 
-pub passed_none : (s : Octets) (k d : ℕ) → d ≡ length (names_in s) → Passed s k 0 (d - k)
+pub passed_none : (s : Octets) (k : ℕ) → Passed s k 0 0
 unfolding end_of slashed
-passed_none s k d e =
-    let none : length (names_in s) - k - (d - k) ≡ 0 = omega arith in
-    record { few = omega arith; ends = sym (ap (end_of s) none) }
+passed_none s k = record { few = omega arith; ends = refl }
 
-module _ (s : Octets) (h : is_full s ≡ true) (k end i : ℕ) (p : Passed s k end i) where
-  pub passed_inside : 0 < i → end < length s
-  passed_inside l = rw p.ends (end-inside s h (length (names_in s) - k - i) (omega arith))
+module _ (s : Octets) (h : is_full s ≡ true) (k end m : ℕ) (p : Passed s k end m) where
+  pub passed_inside : m < length (names_in s) - k → end < length s
+  passed_inside l = rw p.ends (end-inside s h m (omega arith))
 
-  pub passed_next : 0 < i → (r : ℕ) → r ≡ name_end s (end + 1) → Passed s k r (i - 1)
+  pub passed_next : m < length (names_in s) - k → (r : ℕ) → r ≡ name_end s (end + 1) → Passed s k r (m + 1)
   passed_next l r e =
-      let one : length (names_in s) - k - (i - 1) ≡ suc (length (names_in s) - k - i) = omega arith in
-      let next = end_next s h (length (names_in s) - k - i) (omega arith) in
-      record { few = omega arith; ends = e ∙ ap (λ (j : ℕ). name_end s (j + 1)) p.ends ∙ next ∙ ap (end_of s) (sym one) }
+      record { few = omega arith; ends = e ∙ ap (λ (j : ℕ). name_end s (j + 1)) p.ends ∙ end_next s h m (omega arith) ∙ rw add-one }
 
-  pub passed_all : k < length (names_in s) → i ≤ 0 → Above s k end
+  pub passed_all : k < length (names_in s) → length (names_in s) - k ≤ m → Above s k end
   passed_all l z =
-      let all : length (names_in s) - k - i ≡ length (names_in s) - k = omega arith in
+      let all : m ≡ length (names_in s) - k = omega arith in
       rw (p.ends ∙ ap (end_of s) all) (end_above s h k l)
 
 -- ── the path above ──

@@ -1,16 +1,20 @@
 -- The pieces of a text: the first, where it ends, and the others.
 use mathlib.Core.Path.{◌≡◌, refl, ap, sym, ◌∙◌}
-use mathlib.Core.Bool.{Bool, true, false, cond, ◌&&◌}
+use mathlib.Core.Bool.{Bool, true, false, cond}
 use mathlib.Core.List.{[], ◌∷◌}
 use mathlib.Core.Logic.{◌⊎◌, inl, inr, ⊎_elim}
 use Prim.Native.Nat.{ℕ, suc, ◌+◌, ◌-◌, ◌<◌, ◌≤◌}
-use native.Mathlib.Nat.{add-zero}
 use native.Mathlib.Numerals.{add-one}
 use native.Mathlib.Omega.{arith}
 use lib.Dec.{eqb, leb, ltb}
 use lib.ListN.{length, get_or, take, drop, drop_of_length-le, length-drop}
-use lib.Seq.{drop-cons, drop-drop, length-take-le}
-use borrow.Author.Tests.{le-leb, lt-leb, ltb-true, ltb-false, eqb-true, eqb-false, eq-eqb, ne_eqb}
+use lib.Seq.{drop-drop}
+use borrow.Author.Tests.{le-leb, lt-leb, ltb-false, eqb-true, eqb-false}
+use Rattle.std.specs.Prelude.{Option, Some, None, position, count_by, not}
+use Rattle.std.specs.List.{list_all, position_or_len, slice_split, onto_first}
+use Rattle.std.proofs.lemmas.List.Recursion.{is_position_or_len}
+use Rattle.std.proofs.lemmas.List.Splits.{length-slice_split}
+use Rattle.std.proofs.lemmas.List.Sums.{prefix_len-le-length}
 use Rattle.rules.specs.Size.{longest_name, deepest}
 use Rattle.rules.specs.Octets.{Octets}
 use Rattle.rules.specs.Path.{Names, split, glued, short_names, fits, is_full, names_in}
@@ -99,18 +103,36 @@ pieces (c ∷ cs) = pieces_by c cs (eqb c 47) refl (pieces cs)
 
 -- ── where a name ends ──
 
-module _ (s : Octets) (i : ℕ) where
-  pub end_here : i < length s → get_or s i 0 ≡ 47 → name_end s i ≡ i
-  unfolding name_end
-  end_here h e = rw (drop-cons s i 0 h, first_slash _ _ (eq-eqb _ _ e)) (add-zero i)
+first-length_by : (c : ℕ) (cs : Octets) (b : Bool) → eqb c 47 ≡ b → length (first_piece (c ∷ cs)) ≡ cond b 0 (1 + length (first_piece cs))
+first-length_by c cs true e = rw (first_slash c cs e)
+first-length_by c cs false e = rw (first_other c cs e) (omega arith)
 
-  pub end_further : i < length s → (get_or s i 0 ≡ 47 → ⊥) → name_end s i ≡ name_end s (i + 1)
-  unfolding name_end
-  end_further h e = rw (add-one, drop-cons s i 0 h, first_other _ _ (ne_eqb _ _ e), name_end) (omega arith)
+-- a text's first piece ends at its first slash
+first-length : (s : Octets) → length (first_piece s) ≡ position_or_len (λ b. eqb b 47) s
+unfolding first_piece split
+first-length s = is_position_or_len (λ (t : Octets). length (first_piece t)) (λ b. eqb b 47) refl (λ c cs. first-length_by c cs (eqb c 47) refl) s
 
-  pub end_over : length s ≤ i → name_end s i ≡ i
-  unfolding name_end first_piece split
-  end_over h = rw (drop_of_length-le s h) (add-zero i)
+found_at : (b : Bool) (k n : ℕ) → cond b (Some k) None ≡ Some n → k ≡ n
+found_at true k n e = cc
+found_at false k n e = cc
+
+found_none : (k m : ℕ) (b : Bool) → ltb k m ≡ b → cond b (Some k) None ≡ None → m ≤ k
+found_none k m true l e = cc
+found_none k m false l e = ltb-false k m l
+
+-- the first slash behind an index, if there is one
+module _ (s : Octets) (at : ℕ) (r : Option ℕ) (e : r ≡ position (λ b. eqb b 47) (drop at s)) where
+  pub end_found : (n : ℕ) → r ≡ Some n → at + n ≡ name_end s at
+  unfolding name_end
+  end_found n is = ap (λ (k : ℕ). at + k) (sym (first-length (drop at s) ∙ found_at _ _ _ (sym e ∙ is)))
+
+  pub end_missing : at ≤ length s → r ≡ None → length s ≡ name_end s at
+  unfolding name_end
+  end_missing h is =
+      let k = first-length (drop at s) in
+      let m = found_none _ _ _ refl (sym e ∙ is) in
+      let i = prefix_len-le-length (λ (b : ℕ). not (eqb b 47)) (drop at s) in
+      omega (arith, length-drop at s)
 
 -- ── a text's names, one after the other ──
 
@@ -151,72 +173,37 @@ module _ (s : Octets) (at : ℕ) (h : at ≤ length s) where
       split-first cs ∙ cc)
       (pieces cs)
 
-  short_last : length s ≤ name_end s at
-      → short_names (split (drop at s)) ≡ (leb (name_end s at - at) longest_name && short_names (split (drop (name_end s at + 1) s)))
-  unfolding short_names split
-  short_last e =
-      let k : length (drop at s) ≡ name_end s at - at = length-drop at s ∙ omega (arith, end-high) in
-      let o : length s ≤ name_end s at + 1 = omega arith in
-      rw (last_name e, drop_of_length-le s o) (ap (λ (j : ℕ). leb j longest_name && true) k)
+-- ── short names ──
 
-  short_more : name_end s at < length s
-      → short_names (split (drop at s)) ≡ (leb (name_end s at - at) longest_name && short_names (split (drop (name_end s at + 1) s)))
-  unfolding short_names
-  short_more e =
-      let k : length (take (name_end s at - at) (drop at s)) ≡ name_end s at - at = length-take-le _ _ (rw length-drop (omega arith)) in
-      rw (next_name e) (ap (λ (j : ℕ). leb j longest_name && short_names (split (drop (name_end s at + 1) s))) k)
+-- std's pieces are the rule book's
+pub pieces_split : (s : Octets) → slice_split (λ b. eqb b 47) s ≡ split s
+unfolding split glued
+pieces_split [] = refl
+pieces_split (c ∷ cs) = rw (pieces_split cs) (ap (cond (eqb c 47) ([] ∷ split cs)) (onto_glued c (split cs)))
+  where
+    onto_glued : (c : ℕ) (ps : Names) → onto_first c ps ≡ glued c ps
+    onto_glued c [] = refl
+    onto_glued c (p ∷ ps) = refl
 
-  short_by : (b : Bool) → ltb (name_end s at) (length s) ≡ b
-      → short_names (split (drop at s)) ≡ (leb (name_end s at - at) longest_name && short_names (split (drop (name_end s at + 1) s)))
-  short_by true e = short_more (ltb-true _ _ e)
-  short_by false e = short_last (ltb-false _ _ e)
-
-  -- a text's names are short where the first is, and those after it are
-  short_next : short_names (split (drop at s)) ≡ (leb (name_end s at - at) longest_name && short_names (split (drop (name_end s at + 1) s)))
-  short_next = short_by (ltb (name_end s at) (length s)) refl
-
-  pub short-long : (e : ℕ) → e ≡ name_end s at → longest_name < e - at → short_names (split (drop at s)) ≡ false
-  short-long e q l = short_next ∙ rw (← q, lt-leb _ _ l)
-
-  pub short_further : (e : ℕ) → e ≡ name_end s at → e - at ≤ longest_name → short_names (split (drop at s)) ≡ short_names (split (drop (e + 1) s))
-  short_further e q l = short_next ∙ rw (← q, le-leb _ _ l)
+pub all_short : (ns : Names) → list_all (λ (n : Octets). leb (length n) longest_name) ns ≡ short_names ns
+unfolding short_names
+all_short [] = refl
+all_short (n ∷ ns) = rw (all_short ns)
 
 -- ── how many names ──
 
-pub slashes : Octets → ℕ
-slashes [] = 0
-slashes (c ∷ cs) = cond (eqb c 47) (suc (slashes cs)) (slashes cs)
-
-slashes_by : (c : ℕ) (cs : Octets) (b : Bool) → eqb c 47 ≡ b → length (split cs) ≡ suc (slashes cs) → length (split (c ∷ cs)) ≡ suc (slashes (c ∷ cs))
-unfolding slashes
-slashes_by c cs true e h = rw (split_slash c cs e, e) (ap suc h)
-slashes_by c cs false e h = rw (split-first (c ∷ cs), others_other c cs e, e) (ap length (sym (split-first cs)) ∙ h)
-
-split_slashes : (cs : Octets) → length (split cs) ≡ suc (slashes cs)
-unfolding split slashes
-split_slashes [] = refl
-split_slashes (c ∷ cs) = slashes_by c cs (eqb c 47) refl (split_slashes cs)
-
-module _ (s : Octets) (i : ℕ) (h : i < length s) where
-  pub slash_here : get_or s i 0 ≡ 47 → slashes (drop i s) ≡ suc (slashes (drop (i + 1) s))
-  unfolding slashes
-  slash_here e = rw (add-one, drop-cons s i 0 h, eq-eqb _ _ e)
-
-  pub no_slash_here : (get_or s i 0 ≡ 47 → ⊥) → slashes (drop i s) ≡ slashes (drop (i + 1) s)
-  unfolding slashes
-  no_slash_here e = rw (add-one, drop-cons s i 0 h, ne_eqb _ _ e)
-
-pub slashes_over : (s : Octets) (i : ℕ) → length s ≤ i → slashes (drop i s) ≡ 0
-unfolding slashes
-slashes_over s i h = rw (drop_of_length-le s h)
+split_slashes : (s : Octets) → length (split s) ≡ count_by (λ b. eqb b 47) s + 1
+split_slashes s = ap length (sym (pieces_split s)) ∙ length-slice_split (λ b. eqb b 47) s
 
 module _ (s : Octets) (h : is_full s ≡ true) where
   pub depth-root : length s ≡ 1 → 0 ≡ length (names_in s)
   depth-root l = rw (full-root s h l)
 
-  pub depth_slashes : (length s ≡ 1 → ⊥) → slashes s ≡ length (names_in s)
-  unfolding slashes
-  depth_slashes l = ap slashes (full_slash s h) ∙ (sym (split_slashes (drop 1 s)) ∙ ap length (sym (full-split s h l)))
+  pub depth_slashes : (length s ≡ 1 → ⊥) → count_by (λ b. eqb b 47) s ≡ length (names_in s)
+  depth_slashes l =
+      let more : length (split s) ≡ suc (length (split (drop 1 s))) = ap (λ (t : Octets). length (split t)) (full_slash s h)
+      ∙ ap length (split_slash 47 (drop 1 s) refl) in
+      omega (arith, split_slashes s, ap length (full-split s h l))
 
   short-root : (b : Bool) → eqb (length s) 1 ≡ b → short_names (names_in s) ≡ short_names (split (drop 1 s))
   unfolding short_names split
@@ -229,11 +216,7 @@ module _ (s : Octets) (h : is_full s ≡ true) where
   pub short-full : short_names (names_in s) ≡ short_names (split (drop 1 s))
   short-full = short-root (eqb (length s) 1) refl
 
-pub short_over : (s : Octets) (i : ℕ) → length s ≤ i → short_names (split (drop i s)) ≡ true
-unfolding short_names split
-short_over s i h = rw (drop_of_length-le s h)
-
-pub fits-deep : (ns : Names) (n : ℕ) → n ≡ length ns → deepest < n → false ≡ fits ns
+pub fits-deep : (ns : Names) (n : ℕ) → n ≡ length ns → deepest < n → leb n deepest ≡ fits ns
 unfolding fits
 fits-deep ns n e h = rw (← e, lt-leb _ _ h)
 

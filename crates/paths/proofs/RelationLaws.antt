@@ -2,6 +2,7 @@
 use mathlib.Core.Path.{◌≡◌, refl, ap, sym, ◌∙◌}
 use mathlib.Core.Bool.{Bool, true, false, ◌&&◌, false≢true, and_assoc, and-true, and-false, or-true, and-eq-true_iff}
 use mathlib.Core.List.{[], ◌∷◌, ◌++◌, append-nil}
+use mathlib.Core.Option.{none, some, map}
 use Prim.Native.Nat.{ℕ, ◌-◌, ◌≤◌, ◌<◌}
 use native.Mathlib.Omega.{arith}
 use lib.Dec.{eqb, ltb}
@@ -15,8 +16,6 @@ use Rattle.rules.proofs.Compare.{same_eq, same_refl, begins-short}
 use Rattle.rules.proofs.PathLaws.{full, full-root, text-full, text-names, beyond_append}
 use Rattle.rules.proofs.RelativeLaws.{slashed_append, names_append}
 use Rattle.rules.proofs.BelowLaws.{is_at, other_at, Beneath, at_beneath, not_at}
-use Rattle.paths.specs.Relation.{levels_of}
-use Rattle.paths.specs.declared.answer.Beyond.TheVariants.{Levels, Not}
 
 -- ── a slash after a text ──
 
@@ -53,12 +52,11 @@ module _ (a s : Octets) where
 -- ── levels ──
 
 module _ (a s : Octets) (f : is_full a ≡ true) (g : is_full s ≡ true) where
-  pub levels-root : (d : ℕ) → same a (47 ∷ []) ≡ true → d ≡ length (names_in s) → Levels d ≡ levels_of (beyond (names_in a) (names_in s))
-  unfolding levels_of beyond
+  pub levels-root : (d : ℕ) → same a (47 ∷ []) ≡ true → d ≡ length (names_in s) → some d ≡ map length (beyond (names_in a) (names_in s))
+  unfolding beyond
   levels-root d h e = rw (full-root a f (ap length (same_eq a (47 ∷ []) h)), e)
 
-  pub levels-same : same a s ≡ true → Levels 0 ≡ levels_of (beyond (names_in a) (names_in s))
-  unfolding levels_of
+  pub levels-same : same a s ≡ true → some 0 ≡ map length (beyond (names_in a) (names_in s))
   levels-same h =
       let b = beyond_append (names_in a) [] in
       rw (← same_eq a s h, rw append-nil at b)
@@ -108,11 +106,9 @@ module _ (a s : Octets) (f : is_full a ≡ true) (g : is_full s ≡ true) where
     pub rest-full : is_full (take (length s - length a) (drop (length a) s)) ≡ true
     rest-full = rw part-text (text-full beneath.rest rest-names rest-short)
 
-    pub levels-reach : (d : ℕ) → d ≡ length (names_in (take (length s - length a) (drop (length a) s))) → Levels d
-        ≡ levels_of (beyond (names_in a) (names_in s))
-    unfolding levels_of
+    pub levels-reach : (d : ℕ) → d ≡ length (names_in (take (length s - length a) (drop (length a) s))) → some d
+        ≡ map length (beyond (names_in a) (names_in s))
     levels-reach d e = rw (beneath.found, e ∙ ap length (ap names_in part-text ∙ text-names beneath.rest rest-names rest-short)) refl
 
-  pub levels_not : same a (47 ∷ []) ≡ false → same a s ≡ false → begins (a ++ 47 ∷ []) s ≡ false → Not ≡ levels_of (beyond (names_in a) (names_in s))
-  unfolding levels_of
+  pub levels_not : same a (47 ∷ []) ≡ false → same a s ≡ false → begins (a ++ 47 ∷ []) s ≡ false → none ≡ map length (beyond (names_in a) (names_in s))
   levels_not h k e = rw (not_at (names_in a) (names_in s) (sym (other_at a s f g h) ∙ rw (k, e)))

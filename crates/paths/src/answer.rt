@@ -1,4 +1,4 @@
-// What is answered about paths.
+// What a path in a payload can be.
 
 // The form of a path in a payload.
 #[derive(Clone, Copy, Debug, PartialEq, Eq)]
@@ -7,11 +7,4 @@ pub enum Form {
     Relative,
     Special,
     Malformed,
-}
-
-// How many levels a path lies below another, if it lies at or below it.
-#[derive(Drop)]
-pub enum Beyond {
-    Levels(usize),
-    Not,
 }

@@ -41,10 +41,7 @@ pub fn step(state: u8, class: u8) -> u8
 pub fn is_event(s: &[u8]) -> bool
     ensures { result ≡ is_event s.now }
 {
-    if same(s, b"@introduceDomain") {
-        return true;
-    }
-    same(s, b"@releaseDomain")
+    same(s, b"@introduceDomain") || same(s, b"@releaseDomain")
 }
 
 // What a text is that led the machine to a state.
@@ -52,24 +49,11 @@ fn verdict(state: u8, s: &[u8]) -> Form
     ensures { result ≡ verdict_of state s.now }
 {
     match state {
-        1 | 2 => {
-            if s.len() <= LONGEST_ABSOLUTE {
-                return Form::Absolute;
-            }
-        }
-        4 => {
-            if s.len() <= LONGEST_RELATIVE {
-                return Form::Relative;
-            }
-        }
-        6 => {
-            if is_event(s) {
-                return Form::Special;
-            }
-        }
-        _ => {}
+        1 | 2 if s.len() <= LONGEST_ABSOLUTE => Form::Absolute,
+        4 if s.len() <= LONGEST_RELATIVE => Form::Relative,
+        6 if is_event(s) => Form::Special,
+        _ => Form::Malformed,
     }
-    Form::Malformed
 }
 
 // The form of a path in a payload. The two tables are laid out once, before the first byte.
@@ -79,11 +63,9 @@ pub fn form(s: &[u8]) -> Form
     let classes = CLASSES;
     let steps = STEPS;
     let mut state: u8 = 0;
-    let mut i = 0;
-    while i < s.len() {
-        let class = classes[s[i] as usize];
+    for b in s {
+        let class = classes[*b as usize];
         state = steps[state as usize][class as usize];
-        i += 1;
     }
     verdict(state, s)
 }

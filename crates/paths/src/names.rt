@@ -10,14 +10,10 @@ pub fn name_end(s: &[u8], at: usize) -> usize
     requires { at ≤ length s.now }
     ensures { result ≡ name_end s.now at }
 {
-    let mut i = at;
-    while i < s.len() {
-        if s[i] == b'/' {
-            return i;
-        }
-        i += 1;
+    match s[at..].iter().position(|b| *b == b'/') {
+        Some(n) => at + n,
+        None => s.len(),
     }
-    i
 }
 
 // How many names a full path has: its slashes, unless it is the root.
@@ -28,15 +24,7 @@ pub fn depth(s: &[u8]) -> usize
     if s.len() == 1 {
         return 0;
     }
-    let mut levels: usize = 0;
-    let mut i = 0;
-    while i < s.len() {
-        if s[i] == b'/' {
-            levels += 1;
-        }
-        i += 1;
-    }
-    levels
+    s.iter().filter(|b| **b == b'/').count()
 }
 
 // The index behind the path that lies k levels above a full path, below the root.
@@ -44,13 +32,11 @@ pub fn above(s: &[u8], k: usize) -> usize
     requires { (is_full s.now ≡ true) × (k < length (names_in s.now)) }
     ensures { Above s.now k result }
 {
-    let mut end = 0;
-    let mut i = depth(s) - k;
-    while 0 < i {
-        end = name_end(s, end + 1);
-        i -= 1;
+    let mut at = 0;
+    for _ in 0..depth(s) - k {
+        at = name_end(s, at + 1);
     }
-    end
+    at
 }
 
 // Whether each name of a full path is within its size.
@@ -58,15 +44,9 @@ fn short_names(s: &[u8]) -> bool
     requires { is_full s.now ≡ true }
     ensures { result ≡ short_names (names_in s.now) }
 {
-    let mut at = 1;
-    while at < s.len() {
-        let end = name_end(s, at);
-        if LONGEST_NAME < end - at {
-            return false;
-        }
-        at = end + 1;
-    }
-    true
+    s[1..]
+        .split(|b| *b == b'/')
+        .all(|name| name.len() <= LONGEST_NAME)
 }
 
 // Whether a full path is within the sizes of names and depth.
@@ -74,8 +54,5 @@ pub fn fits(s: &[u8]) -> bool
     requires { is_full s.now ≡ true }
     ensures { result ≡ fits (names_in s.now) }
 {
-    if DEEPEST < depth(s) {
-        return false;
-    }
-    short_names(s)
+    depth(s) <= DEEPEST && short_names(s)
 }

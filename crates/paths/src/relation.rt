@@ -1,10 +1,10 @@
 // How two paths lie to each other.
-ghost use Rattle.std.specs.Prelude.{◌≡◌, true, [], ◌++◌, ◌∷◌};
+ghost use Rattle.std.specs.Prelude.{◌≡◌, true, [], ◌++◌, ◌∷◌, length};
+ghost use Rattle.std.proofs.Math.Option.{map};
 ghost use Rattle.rules.specs.Octets.{begins};
 ghost use Rattle.rules.specs.Path.{beyond, is_below, is_full, names_in};
-ghost use Rattle.paths.specs.Relation.{levels_of};
+ghost use Rattle.octets.specs.Options.{meant};
 
-use crate::answer::Beyond;
 use crate::names::depth;
 use octets::compare::{begins, same};
 
@@ -30,27 +30,24 @@ pub fn is_below(above: &[u8], s: &[u8]) -> bool
     ensures { result ≡ is_below above.now s.now }
 {
     if same(above, b"/") {
-        if s.len() <= 1 {
-            return false;
-        }
-        return begins(above, s);
+        return 1 < s.len() && begins(above, s);
     }
     reaches(above, s)
 }
 
 // How many levels a full path lies below another, if it is at or below it.
-pub fn beyond(above: &[u8], s: &[u8]) -> Beyond
+pub fn beyond(above: &[u8], s: &[u8]) -> Option<usize>
     requires { (is_full above.now ≡ true) × (is_full s.now ≡ true) }
-    ensures { result ≡ levels_of (beyond (names_in above.now) (names_in s.now)) }
+    ensures { meant result ≡ map length (beyond (names_in above.now) (names_in s.now)) }
 {
     if same(above, b"/") {
-        return Beyond::Levels(depth(s));
+        return Some(depth(s));
     }
     if same(above, s) {
-        return Beyond::Levels(0);
+        return Some(0);
     }
     if reaches(above, s) {
-        return Beyond::Levels(depth(&s[above.len()..]));
+        return Some(depth(&s[above.len()..]));
     }
-    Beyond::Not
+    None
 }

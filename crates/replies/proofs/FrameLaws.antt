@@ -7,17 +7,17 @@ use native.Mathlib.Omega.{arith}
 use lib.ListN.{length, take, drop, length-append, length-drop}
 use lib.Seq.{length-take-le}
 use Rattle.rules.specs.Size.{reply_size, header_size}
-use Rattle.rules.specs.Octets.{Octets, nul, paste, four_bytes}
+use Rattle.rules.specs.Octets.{Octets, text, nul, paste, four_bytes}
 use Rattle.rules.specs.Answer as A
 use Rattle.rules.specs.Answer.{done, refused, errno_text}
 use Rattle.rules.specs.Call.{reply_to, reply_type, reply_payload, type_of}
 use Rattle.rules.proofs.Paste.{paste_append}
 use Rattle.rules.proofs.Joined as Joined
 use Rattle.replies.proofs.Payloads.{payload-fits}
-use Rattle.replies.specs.Meant.{errno_meant, refusal_meant}
+use Rattle.std.specs.Prelude.{Ok, Err}
+use Rattle.replies.specs.Meant.{Reply, errno_meant, refusal_meant}
 use Rattle.replies.specs.declared.kinds.Errno.{Errno}
-use Rattle.replies.specs.declared.kinds.Reply.{Reply}
-use Rattle.replies.specs.declared.kinds.Reply.TheVariants.{Done, Refused}
+use Rattle.replies.specs.declared.kinds.Errno.TheVariants.{Invalid, Access, Exists, NoEntry, NoSpace, TooBig, Again, NoSystem}
 use Rattle.replies.specs.Framed.{Written, Held, header, Framed}
 
 -- ── the header ──
@@ -60,19 +60,26 @@ reply_put m a before after l h b e q =
 
 -- ── what stands behind the header ──
 
-pub held_done : (r : Reply) (n : ℕ) → r ≡ Done n → Held r → 16 + n ≤ reply_size
+pub held_done : (r : Reply) (n : ℕ) → r ≡ Ok n → Held r → 16 + n ≤ reply_size
 held_done r n q h = subst Held q h
 
 pub written-fits : (s before after : Octets) (n : ℕ) → Written s before after n → length before ≡ reply_size → length after ≡ reply_size → 16 + n ≤ reply_size
 written-fits s before after n w b a = rw w.long (subst (λ (k : ℕ). 16 + length s ≤ k) b
     (payload-fits s before after w.bytes (a ∙ sym b) (rw b (omega arith))))
 
--- the name of an error, which is x
-pub errno_put : (x e : Errno) (s before after : Octets) (n : ℕ) → e ≡ x → s ≡ errno_text (errno_meant x) ++ nul → Written s before after n →
-    Written (errno_text (errno_meant e) ++ nul) before after n
-errno_put x e s before after n q t w = rw (q, ← t) w
+-- each error's name has room behind the header
+pub errno-fits : (e : Errno) → header_size + length (errno_text (errno_meant e) ++ nul) ≤ reply_size
+unfolding errno_text text
+errno-fits Invalid = omega arith
+errno-fits Access = omega arith
+errno-fits Exists = omega arith
+errno-fits NoEntry = omega arith
+errno-fits NoSpace = omega arith
+errno-fits TooBig = omega arith
+errno-fits Again = omega arith
+errno-fits NoSystem = omega arith
 
-pub done_framed : (m : Octets) (r : Reply) (n : ℕ) (told after : Octets) (l : ℕ) → 16 ≤ length m → r ≡ Done n →
+pub done_framed : (m : Octets) (r : Reply) (n : ℕ) (told after : Octets) (l : ℕ) → 16 ≤ length m → r ≡ Ok n →
     after ≡ paste 0 (header (type_of m) m n) told → l ≡ 16 + n → Framed m r told after l
 unfolding reply_type reply_payload
 done_framed m r n told after l h q e k (done s) before b t =
@@ -82,7 +89,7 @@ done_framed m r n told after l h q e k (done s) before b t =
     (k ∙ ap (λ (j : ℕ). 16 + j) i)
 done_framed m r n told after l h q e k (refused x) before b t = absurd (none-ne-some x (sym (ap refusal_meant q) ∙ t.0))
 
-pub error_framed : (m : Octets) (r : Reply) (x : Errno) (n : ℕ) (told put after : Octets) (l : ℕ) → 16 ≤ length m → r ≡ Refused x →
+pub error_framed : (m : Octets) (r : Reply) (x : Errno) (n : ℕ) (told put after : Octets) (l : ℕ) → 16 ≤ length m → r ≡ Err x →
     Written (errno_text (errno_meant x) ++ nul) told put n → after ≡ paste 0 (header 16 m n) put → l ≡ 16 + n → Framed m r told after l
 unfolding reply_type reply_payload
 error_framed m r x n told put after l h q w e k (done s) before b t = let z : ◌≡◌ {A = ℕ} 0 1 = cc in absurd (omega arith)

@@ -8,8 +8,7 @@ use Rattle.rules.specs.Layout.{table_bytes, table_of, watches_bytes, watches_of,
 use Rattle.rules.specs.World as W
 use Rattle.rules.specs.World.{World}
 use Rattle.rules.specs.Call.{Tables}
-use Rattle.replies.specs.Handled.{Handled}
-use Rattle.replies.specs.declared.kinds.Outcome.{Outcome}
+use Rattle.replies.specs.Handled.{Outcome, Handled}
 
 -- the bytes of five tables
 abbrev pub tables : Octets → Octets → Octets → Octets → Octets → Tables

@@ -28,16 +28,7 @@ fn put_errno(reply: &mut [u8], e: Errno) -> usize
     requires { length reply.old ≡ reply_size }
     ensures { Written (errno_text (errno_meant e) ++ nul) reply.old reply.new result }
 {
-    match e {
-        Errno::Invalid => put_payload(reply, b"EINVAL\0"),
-        Errno::Access => put_payload(reply, b"EACCES\0"),
-        Errno::Exists => put_payload(reply, b"EEXIST\0"),
-        Errno::NoEntry => put_payload(reply, b"ENOENT\0"),
-        Errno::NoSpace => put_payload(reply, b"ENOSPC\0"),
-        Errno::TooBig => put_payload(reply, b"E2BIG\0"),
-        Errno::Again => put_payload(reply, b"EAGAIN\0"),
-        Errno::NoSystem => put_payload(reply, b"ENOSYS\0"),
-    }
+    put_payload(reply, e.text())
 }
 
 // Puts a reply's header to a message before a payload of n bytes, and gives the reply's length.
@@ -57,8 +48,8 @@ pub fn framed(message: &[u8], reply: &mut [u8], r: Reply) -> u32
     ensures { Framed message.now r reply.old reply.new result }
 {
     match r {
-        Reply::Done(n) => put_header(message, number32(message, 0), n, reply),
-        Reply::Refused(e) => {
+        Ok(n) => put_header(message, number32(message, 0), n, reply),
+        Err(e) => {
             let n = put_errno(reply, e);
             put_header(message, ERROR, n, reply)
         }

@@ -14,10 +14,10 @@ use Rattle.rules.specs.Octets.{Octets, padded, big_endian, bit, pack, pack_from,
 use Rattle.rules.specs.Path.{path_text}
 use Rattle.rules.specs.Answer.{Change}
 use Rattle.rules.specs.Layout.{Transaction, change_bits, change_bytes}
-use Rattle.rules.proofs.Fields.{take-drop-take, bit_small}
+use Rattle.rules.proofs.Fields.{take-drop-take, field_two, bit_small}
 use Rattle.rules.proofs.Tables.{Each, each_at, each_map, Wide, encoded_at, length_encoded}
 use Rattle.rules.proofs.TransactionLayouts.{ChangeFits, TransactionFits}
-use Rattle.octets.specs.Two.{Two}
+use Rattle.octets.specs.Read.{Read}
 use Rattle.transactions.specs.Transaction.{no_change, transaction_of, change_of, HasChange}
 use Rattle.rules.proofs.Slots.{length-padded}
 use Rattle.domains.proofs.Rows.{first-listed, part_at}
@@ -123,11 +123,11 @@ module _ (s : Octets) (k j : ℕ) (h : HasChange s k j) where
   pub parents-read : get_or s at 0 / 2 % 8 ≡ c.parents
   parents-read = parents_are _ _ _ _ first_is (bit_small c.removal) change-fits.parents change-fits.short
 
-  pub length-read : (r : ℕ) → Two s at r → r % 512 ≡ length (path_text c.names)
+  pub length-read : (r : ℕ) → Read s at 2 r → r % 512 ≡ length (path_text c.names)
   length-read r w =
       let e = first_two in
       let b : get_or s (at + 1) 0 ≡ length (path_text c.names) % 256 = cc in
-      ap (λ (n : ℕ). n % 512) w.value ∙ number_back _ _ _ _ _ first_is b (bit_small c.removal) change-fits.parents change-fits.short
+      ap (λ (n : ℕ). n % 512) (w.value ∙ field_two s at (omega (arith, place-within))) ∙ number_back _ _ _ _ _ first_is b (bit_small c.removal) change-fits.parents change-fits.short
 
   pub path-read : (n : ℕ) → n ≡ length (path_text c.names)
       → part_at s (at + change_fields_size) n ≡ path_text c.names

@@ -22,6 +22,8 @@ use Rattle.rules.proofs.TransactionLayouts.{ChangeFits}
 use Rattle.octets.specs.Two.{Bytes}
 use Rattle.octets.specs.Numbers.{rest_zero}
 use Rattle.transactions.specs.Checks.{change_kept}
+use Rattle.paths.specs.Form.{form_of}
+use Rattle.paths.specs.declared.answer.Form.TheVariants.{Absolute}
 use Rattle.domains.proofs.Rows.{part_at, part_length, listed_from, text-part, text-field, same-field, differ}
 use Rattle.octets.proofs.Bytes.{bit_of}
 use Rattle.transactions.proofs.ChangeLaws.{two_of, change-parts, change-wide}
@@ -35,9 +37,20 @@ full_by (absolute ns) = true
 full_by (relative ns) = false
 full_by (special e) = false
 
-pub full_by_lem : (t : Octets) (g : Given) → given t ≡ g → is_full t ≡ full_by g
+full_by_lem : (t : Octets) (g : Given) → given t ≡ g → is_full t ≡ full_by g
 unfolding is_full
 full_by_lem t g e = ap full_by e
+
+-- a text of another form than the absolute one is not a full path
+pub form-other : (t : Octets) → (form_of (given t) ≡ Absolute → ⊥) → is_full t ≡ false
+unfolding form_of
+form-other t other = full_by_lem t (given t) refl ∙ go (given t) other
+  where
+    go : (g : Given) → (form_of g ≡ Absolute → ⊥) → full_by g ≡ false
+    go malformed other = refl
+    go (absolute ns) other = absurd (other refl)
+    go (relative ns) other = refl
+    go (special e) other = refl
 
 names-short : (t : Octets) → length t ≤ longest_path → length (path_text (names_in t)) ≤ longest_path
 unfolding names_in path_text

@@ -11,12 +11,13 @@ use lib.Dec.{eqb, leb, lit<, lit≤}
 use Rattle.rules.specs.Size.{most_transactions, changes_at, transaction_size, transactions_size, most_changes, changes_size}
 use Rattle.rules.specs.Octets.{Octets, field, bits_at, big_endian, bit, padded, pack, pack_from, ◌bits◌}
 use Rattle.rules.specs.Layout.{opened, Transaction, change_bytes, transaction_bytes, transaction_in, transaction_at, transactions_of}
-use Rattle.rules.proofs.Fields.{field-part, field_three, bit_small, bit_back}
+use Rattle.rules.proofs.Fields.{field-part, field_two, field_three, bit_small, bit_back}
 use Rattle.rules.proofs.Cases.{cond_case}
 use Rattle.rules.proofs.DecodedEntries.{transaction_decoded}
 use Rattle.rules.proofs.TransactionLayouts.{TransactionFits, MaybeTransaction, transaction_width, transaction_at_lem}
 use Rattle.domains.specs.Entry.{taken}
-use Rattle.octets.specs.Two.{Bytes, Two}
+use Rattle.octets.specs.Two.{Bytes}
+use Rattle.octets.specs.Read.{Read}
 use Rattle.transactions.specs.Transaction.{KeptTransactions, transaction_of}
 use Rattle.domains.proofs.Tests.{taken-cond, entry_is}
 use Rattle.octets.proofs.PlaceLaws.{first_bit}
@@ -100,11 +101,11 @@ module _ (s : Octets) (k : ℕ) (h : k < most_transactions) where
     pub used_byte : leb 128 (get_or s at 0) ≡ taken (get_or (transactions_of s) k none)
     used_byte = rw (place_is, taken-cond) (first_bit s bytes at 2 23 refl (omega arith))
 
-    pub holder-read : taken (get_or (transactions_of s) k none) ≡ true → (r : ℕ) → Two s (at + 1) r → r ≡ (transaction_of s k).holder
+    pub holder-read : taken (get_or (transactions_of s) k none) ≡ true → (r : ℕ) → Read s (at + 1) 2 r → r ≡ (transaction_of s k).holder
     unfolding transaction_at bits_at
     holder-read u r w =
         let e : at + 1 + 1 ≡ at + 2 = omega arith in
-        let v = rw e at w.value in
+        let v = rw e at (w.value ∙ field_two s (at + 1) (omega arith)) in
         let y = bytes (at + 1) in
         let z = bytes (at + 2) in
         let q : r ≡ bits_at head 0 16 = omega (arith, head_bytes) in

@@ -40,10 +40,7 @@ pub fn close(s: &mut [u8], k: usize)
 fn removal_mark(removed: bool) -> u8
     ensures { result ≡ 128 * bit removed }
 {
-    if removed {
-        return 128;
-    }
-    0
+    128 * u8::from(removed)
 }
 
 // Puts a change on a full path into the bytes from `at` on.
@@ -86,10 +83,8 @@ pub fn stale_all(s: &mut [u8])
     requires { KeptTransactions s.old }
     ensures { s.new ≡ transactions_bytes (staled (transactions_of s.old)) }
 {
-    let mut i = 0;
-    while i < TRANSACTIONS {
-        make_stale(s, i);
-        i += 1;
+    for k in 0..TRANSACTIONS {
+        make_stale(s, k);
     }
 }
 
@@ -109,9 +104,7 @@ pub fn remove_of(s: &mut [u8], c: u32)
     requires { KeptTransactions s.old }
     ensures { s.new ≡ transactions_bytes (without_transactions (eqb c) (transactions_of s.old)) }
 {
-    let mut i = 0;
-    while i < TRANSACTIONS {
-        close_held(s, i, c);
-        i += 1;
+    for k in 0..TRANSACTIONS {
+        close_held(s, k, c);
     }
 }

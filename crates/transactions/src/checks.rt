@@ -13,7 +13,7 @@ ghost use Rattle.transactions.specs.Checks.{change_kept, changes_kept, good_open
 use crate::places::{changes, holder, is_open, parents, path, removed};
 use domains::places::known_sender;
 use octets::compare::{all_zero, rest_zero};
-use octets::numbers::two;
+use octets::numbers::number;
 use octets::sizes::{
     CHANGE_FIELDS_SIZE, CHANGE_SIZE, CHANGES_AT, CHANGES_SIZE, LONGEST_PATH, MOST_CHANGES,
     TRANSACTION_SIZE, TRANSACTIONS, TRANSACTIONS_SIZE,
@@ -27,12 +27,7 @@ use paths::names::{depth, fits};
 fn is_full(x: &[u8]) -> bool
     ensures { result ≡ is_full x.now }
 {
-    match form(x) {
-        Form::Absolute => true,
-        Form::Special => false,
-        Form::Relative => false,
-        Form::Malformed => false,
-    }
+    matches!(form(x), Form::Absolute)
 }
 
 // Whether the bytes of a change from `at` on are those of what they mean.
@@ -40,7 +35,7 @@ fn change_kept(s: &[u8], at: usize) -> bool
     requires { at + change_size ≤ length s.now }
     ensures { result ≡ change_kept (take change_size (drop at s.now)) }
 {
-    let fields = two(s, at);
+    let fields = number::<2>(s, at);
     if fields / 4096 % 8 != 0 {
         return false;
     }
@@ -49,10 +44,7 @@ fn change_kept(s: &[u8], at: usize) -> bool
         return false;
     }
     let from = at + CHANGE_FIELDS_SIZE;
-    if !is_full(&s[from..from + n]) {
-        return false;
-    }
-    rest_zero(s, from, n, LONGEST_PATH)
+    is_full(&s[from..from + n]) && rest_zero(s, from, n, LONGEST_PATH)
 }
 
 // Whether the bytes of n changes from `at` on are.
@@ -60,14 +52,7 @@ fn changes_kept(s: &[u8], at: usize, n: usize) -> bool
     requires { (n ≤ most_changes) × (at + n * change_size ≤ length s.now) }
     ensures { result ≡ changes_kept n (take (n * change_size) (drop at s.now)) }
 {
-    let mut j = 0;
-    while j < n {
-        if !change_kept(s, at + j * CHANGE_SIZE) {
-            return false;
-        }
-        j += 1;
-    }
-    true
+    (0..n).all(|j| change_kept(s, at + j * CHANGE_SIZE))
 }
 
 // Whether the bytes of place k are.
@@ -86,10 +71,8 @@ fn place_kept(s: &[u8], k: usize) -> bool
     if MOST_CHANGES < n {
         return false;
     }
-    if !changes_kept(s, at + CHANGES_AT, n) {
-        return false;
-    }
-    rest_zero(s, at + CHANGES_AT, n * CHANGE_SIZE, CHANGES_SIZE)
+    changes_kept(s, at + CHANGES_AT, n)
+        && rest_zero(s, at + CHANGES_AT, n * CHANGE_SIZE, CHANGES_SIZE)
 }
 
 // Whether the bytes are those of what they mean.
@@ -97,14 +80,7 @@ fn kept(s: &[u8]) -> bool
     requires { length s.now ≡ transactions_size }
     ensures { result ≡ same (transactions_bytes (transactions_of s.now)) s.now }
 {
-    let mut i = 0;
-    while i < TRANSACTIONS {
-        if !place_kept(s, i) {
-            return false;
-        }
-        i += 1;
-    }
-    true
+    (0..TRANSACTIONS).all(|k| place_kept(s, k))
 }
 
 // ── what is asked of each transaction ──
@@ -116,15 +92,9 @@ fn parents_good(removed: bool, parents: usize, path: &[u8]) -> bool
     ensures { result ≡ good_change (change_given removed parents path.now) }
 {
     if removed {
-        if parents != 0 {
-            return false;
-        }
-        return 0 < depth(path);
+        return parents == 0 && 0 < depth(path);
     }
-    if parents == 0 {
-        return true;
-    }
-    parents < depth(path)
+    parents == 0 || parents < depth(path)
 }
 
 // Whether change j is on a path within the sizes, and its new parents and its removal go with that path.
@@ -133,25 +103,14 @@ fn change_good(s: &[u8], k: usize, j: usize) -> bool
     ensures { result ≡ good_change (change_of s.now k j) }
 {
     let p = path(s, k, j);
-    if !fits(p) {
-        return false;
-    }
-    parents_good(removed(s, k, j), parents(s, k, j), p)
+    fits(p) && parents_good(removed(s, k, j), parents(s, k, j), p)
 }
 
 fn changes_good(s: &[u8], k: usize) -> bool
     requires { OpenTransaction s.now k }
     ensures { result ≡ good_changes (transaction_of s.now k).changes }
 {
-    let n = changes(s, k);
-    let mut j = 0;
-    while j < n {
-        if !change_good(s, k, j) {
-            return false;
-        }
-        j += 1;
-    }
-    true
+    (0..changes(s, k)).all(|j| change_good(s, k, j))
 }
 
 // Whether place k is closed, or its holder is known and its changes are good.
@@ -162,24 +121,14 @@ fn place_good(s: &[u8], domains: &[u8], k: usize) -> bool
     if !is_open(s, k) {
         return true;
     }
-    if !known_sender(domains, holder(s, k)) {
-        return false;
-    }
-    changes_good(s, k)
+    known_sender(domains, holder(s, k)) && changes_good(s, k)
 }
 
 fn good(s: &[u8], domains: &[u8]) -> bool
     requires { KeptTransactions s.now × (length domains.now ≡ domains_size) }
     ensures { result ≡ all_open_good (domains_of domains.now) (transactions_of s.now) }
 {
-    let mut i = 0;
-    while i < TRANSACTIONS {
-        if !place_good(s, domains, i) {
-            return false;
-        }
-        i += 1;
-    }
-    true
+    (0..TRANSACTIONS).all(|k| place_good(s, domains, k))
 }
 
 // Whether the bytes of transactions are sound beside those of the domains, whatever the copies are.
@@ -190,8 +139,5 @@ pub fn sound_entries(s: &[u8], domains: &[u8]) -> bool
     if s.len() != TRANSACTIONS_SIZE {
         return false;
     }
-    if !kept(s) {
-        return false;
-    }
-    good(s, domains)
+    kept(s) && good(s, domains)
 }

@@ -1,5 +1,5 @@
 // The fields of a transaction and of its changes.
-ghost use Rattle.std.specs.Prelude.{◌≡◌, ◌+◌, ◌<◌, ◌≤◌, length, get_or};
+ghost use Rattle.std.specs.Prelude.{◌≡◌, ◌+◌, ◌<◌, ◌≤◌, length, get_or, IfSome, unwrap_or};
 ghost use Rattle.std.proofs.Math.Option.{none};
 ghost use Rattle.rules.specs.Size.{most_transactions, transactions_size, most_changes};
 ghost use Rattle.rules.specs.Entries.{lowest};
@@ -8,7 +8,7 @@ ghost use Rattle.rules.specs.Layout.{transactions_of};
 ghost use Rattle.domains.specs.Entry.{taken, passes};
 ghost use Rattle.transactions.specs.Transaction.{KeptTransactions, transaction_of, change_of, OpenTransaction, HasChange, held_by};
 
-use octets::numbers::two;
+use octets::numbers::number;
 use octets::sizes::{CHANGE_FIELDS_SIZE, CHANGE_SIZE, CHANGES_AT, TRANSACTION_SIZE, TRANSACTIONS};
 
 // Whether place k is open.
@@ -23,7 +23,7 @@ pub fn holder(s: &[u8], k: usize) -> u32
     requires { OpenTransaction s.now k }
     ensures { result ≡ (transaction_of s.now k).holder }
 {
-    two(s, k * TRANSACTION_SIZE + 1)
+    number::<2>(s, k * TRANSACTION_SIZE + 1) as u32
 }
 
 pub fn stale(s: &[u8], k: usize) -> bool
@@ -63,7 +63,7 @@ pub fn path(s: &[u8], k: usize, j: usize) -> &[u8]
     ensures { result.now ≡ path_text (change_of s.now k j).names }
 {
     let at = k * TRANSACTION_SIZE + CHANGES_AT + j * CHANGE_SIZE;
-    let n = (two(s, at) % 512) as usize;
+    let n = (number::<2>(s, at) % 512) as usize;
     let from = at + CHANGE_FIELDS_SIZE;
     &s[from..from + n]
 }
@@ -73,16 +73,14 @@ pub fn held(s: &[u8], k: usize, c: u32) -> bool
     requires { (k < most_transactions) × KeptTransactions s.now }
     ensures { result ≡ passes (held_by c) (get_or (transactions_of s.now) k none) }
 {
-    if !is_open(s, k) {
-        return false;
-    }
-    c == holder(s, k)
+    is_open(s, k) && c == holder(s, k)
 }
 
-// The lowest place that is not open, or the number of places where all are.
-pub fn lowest_free(s: &[u8]) -> usize
+// The lowest place that is not open.
+pub fn lowest_free(s: &[u8]) -> Option<usize>
     requires { length s.now ≡ transactions_size }
-    ensures { result ≡ lowest (transactions_of s.now) }
+    ensures found { unwrap_or result most_transactions ≡ lowest (transactions_of s.now) }
+    ensures below { IfSome result (λ k. k < most_transactions) }
 {
     octets::places::lowest_free(s, TRANSACTION_SIZE, TRANSACTIONS)
 }

@@ -10,6 +10,7 @@ use lib.ListN.{length, get_or, take, drop, length-append}
 use lib.Seq.{take_at}
 use lib.Dec.{eqb}
 use borrow.Author.Tests.{le-leb}
+use Rattle.std.specs.List.{list_any}
 use Rattle.rules.specs.Size.{longest_absolute, most_watches}
 use Rattle.rules.specs.Octets.{Octets, same, begins, paste, text}
 use Rattle.rules.specs.Domain.{Domain, Connection, domain_of, is_control}
@@ -26,8 +27,9 @@ use Rattle.octets.specs.Numbers.{Put}
 use Rattle.paths.specs.Full.{base_text}
 use Rattle.domains.specs.Entry.{taken, entry_or}
 use Rattle.octets.specs.Two.{Bytes}
-use Rattle.watches.specs.Watch.{nobody, depth_meant, watch_of, KeptWatches}
-use Rattle.watches.specs.declared.Depth.{Depth}
+use Rattle.watches.specs.Watch.{nobody, watch_of, KeptWatches}
+use Rattle.octets.specs.Options.{meant}
+use Rattle.std.specs.Prelude as code
 use Rattle.watches.specs.Checks.{good_watch_at, place_same}
 use Rattle.domains.proofs.Search.{free_none, taken-some}
 use Rattle.domains.proofs.Turns.{ListCheck}
@@ -37,16 +39,14 @@ use Rattle.watches.proofs.Kept.{same_place, special-long, place-malformed}
 
 -- ── a token ──
 
-pub nul-none : no_nul [] ≡ true
-unfolding no_nul
-nul-none = refl
+neither : (a b : Bool) → not (a || b) ≡ (not a && not b)
+neither true b = refl
+neither false b = refl
 
-pub nul_cons : (x : ℕ) (t : Octets) → no_nul (x ∷ t) ≡ (not (eqb x 0) && no_nul t)
+pub nul_absent : (t : Octets) → not (list_any (λ c. eqb c 0) t) ≡ no_nul t
 unfolding no_nul
-nul_cons x t = refl
-
-abbrev pub nul_check : ListCheck ℕ
-nul_check = record { stand = 0; all = no_nul; one = λ x t. not (eqb x 0); empty = nul-none; next = nul_cons }
+nul_absent [] = refl
+nul_absent (c ∷ t) = neither (eqb c 0) _ ∙ ap (◌&&◌ (not (eqb c 0))) (nul_absent t)
 
 -- ── below the base ──
 
@@ -100,6 +100,12 @@ module _ (d : Domain) where
 
 -- ── a place ──
 
+-- an event's depth, in the code's terms
+pub event-levels : (d : code.Option ℕ) (b : Bool) → code.MatchOption d (code.IsTrue b) (λ k. b ≡ eqb k 1) → b ≡ event_depth (meant d)
+unfolding event_depth
+event-levels (code.Some k) b e = e
+event-levels code.None b e = e
+
 module _ (c : Connection) (m : Option ℕ) (r : Bool) (x : Octets) where
   module _ (f : is_full x ≡ true) where
     full_is : good_place c m (place_in r x) ≡ (fits (names_in x) && (not r || strictly_below (beyond (base (domain_of c)) (names_in x))))
@@ -148,10 +154,10 @@ read_same s k h bytes c u {r} {p} er ep =
     same_place (place_in r p) p r (ap place_text q ∙ sym ep) (er ∙ sym (ap is_relative q))
 
 -- what the code asks of the fields that it read
-pub place_agree : (d : Depth) (s : Octets) (k : ℕ) → (h : k < most_watches) → Bytes s → KeptWatches s → taken (get_or (watches_of s) k none) ≡ true
-    → {o : ℕ} {r : Bool} {p : Octets} → o ≡ (watch_of s k).owner → depth_meant d ≡ (watch_of s k).depth
+pub place_agree : (d : code.Option ℕ) (s : Octets) (k : ℕ) → (h : k < most_watches) → Bytes s → KeptWatches s → taken (get_or (watches_of s) k none) ≡ true
+    → {o : ℕ} {r : Bool} {p : Octets} → o ≡ (watch_of s k).owner → meant d ≡ (watch_of s k).depth
     → r ≡ is_relative (watch_of s k).place → p ≡ place_text (watch_of s k).place
-    → good_place (watch_of s k).owner (watch_of s k).depth (watch_of s k).place ≡ good_place o (depth_meant d) (place_in r p)
+    → good_place (watch_of s k).owner (watch_of s k).depth (watch_of s k).place ≡ good_place o (meant d) (place_in r p)
 place_agree d s k h bytes c u eo ed er ep =
     ap (good_place (watch_of s k).owner (watch_of s k).depth) (sym (place_again s k h bytes c u)) ∙ rw (eo, ed, er, ep)
 

@@ -15,11 +15,12 @@ use Rattle.rules.specs.Path.{Connection}
 use Rattle.rules.specs.Event.{Watch, place_text}
 use Rattle.rules.specs.Layout.{text_at, is_relative, watch_bytes, watch_in, watch_at, place_in, watches_of}
 use Rattle.rules.specs.Sound.{twin}
-use Rattle.rules.proofs.Fields.{field-part, field_three, field-split, bit_small, bit_back}
+use Rattle.rules.proofs.Fields.{field-part, field_two, field_three, field-split, bit_small, bit_back}
 use Rattle.rules.proofs.EntryLayouts.{watch_at_lem}
 use Rattle.rules.proofs.Slots.{text-few}
 use Rattle.domains.specs.Entry.{taken, passes, entry_or}
-use Rattle.octets.specs.Two.{Bytes, Two}
+use Rattle.octets.specs.Two.{Bytes}
+use Rattle.octets.specs.Read.{Read}
 use Rattle.watches.specs.Watch.{KeptWatches, nobody, owned_by, watch_of, path_length, token_length}
 use Rattle.watches.specs.Checks.{depth_same, fields_same}
 use Rattle.domains.proofs.Tests.{taken-cond, entry_is}
@@ -85,11 +86,11 @@ module _ (s : Octets) (k : ℕ) (h : k < most_watches) where
     unfolding bits_at
     owner_is = omega (arith, head_bytes)
 
-    pub owner_two : (r : ℕ) → Two s (at + 2) r → r ≡ bits_at head 16 16
+    owner-bits : (r : ℕ) → Read s (at + 2) 2 r → r ≡ bits_at head 16 16
     unfolding bits_at
-    owner_two r w =
+    owner-bits r w =
         let e : at + 2 + 1 ≡ at + 3 = omega arith in
-        let v = rw e at w.value in
+        let v = rw e at (w.value ∙ field_two s (at + 2) (omega arith)) in
         omega (arith, head_bytes)
 
     pub lengths : ((get_or s (at + 4) 0 * 256 + get_or s (at + 5) 0) / 128 ≡ path_length s k)
@@ -97,10 +98,10 @@ module _ (s : Octets) (k : ℕ) (h : k < most_watches) where
     unfolding bits_at path_length token_length
     lengths = let f = head_bytes in (omega arith, omega arith)
 
-    pub lengths_two : (r : ℕ) → Two s (at + 4) r → (r / 128 ≡ path_length s k) × (r % 64 ≡ token_length s k)
-    lengths_two r w =
+    pub lengths-read : (r : ℕ) → Read s (at + 4) 2 r → (r / 128 ≡ path_length s k) × (r % 64 ≡ token_length s k)
+    lengths-read r w =
         let e : at + 4 + 1 ≡ at + 5 = omega arith in
-        let v = rw e at w.value in
+        let v = rw e at (w.value ∙ field_two s (at + 4) (omega arith)) in
         rw v lengths
 
     -- the marks and the depth
@@ -108,9 +109,9 @@ module _ (s : Octets) (k : ℕ) (h : k < most_watches) where
     unfolding bits_at
     marks = let f = head_bytes in (omega arith, omega arith, omega arith)
 
-    pub owner-read : taken (get_or (watches_of s) k none) ≡ true → (r : ℕ) → Two s (at + 2) r → r ≡ (watch_of s k).owner
+    pub owner-read : taken (get_or (watches_of s) k none) ≡ true → (r : ℕ) → Read s (at + 2) 2 r → r ≡ (watch_of s k).owner
     unfolding watch_at
-    owner-read u r w = owner_two r w ∙ sym (ap Watch.owner (is_read u))
+    owner-read u r w = owner-bits r w ∙ sym (ap Watch.owner (is_read u))
 
     pub depth-read : taken (get_or (watches_of s) k none) ≡ true → (watch_of s k).depth
         ≡ cond (eqb (get_or s at 0 / 32 % 2) 1) (some (get_or s (at + 1) 0)) none

@@ -1,10 +1,11 @@
 -- Watches added and taken out: what a written place leaves.
-use mathlib.Core.Path.{◌≡◌, sym, ap, ◌∙◌}
+use mathlib.Core.Path.{◌≡◌, refl, sym, ap, ◌∙◌}
 use mathlib.Core.Bool.{Bool, true, false}
 use mathlib.Core.List.{[], ◌∷◌, ◌++◌}
 use mathlib.Core.Option.{none, some}
 use Prim.Native.Nat.{ℕ, suc, ◌+◌, ◌*◌, ◌/◌, ◌%◌, ◌≤◌, ◌<◌}
 use native.Mathlib.Omega.{arith}
+use mir.Val.{bool_byte}
 use lib.ListN.{length, get_or, set, replicate}
 use Rattle.rules.specs.Size.{most_watches, watch_fields_size, token_at, watch_size, watches_size, longest_path, longest_token}
 use Rattle.rules.specs.Octets.{Octets, same, paste, padded, bit}
@@ -18,9 +19,10 @@ use Rattle.rules.proofs.PathLaws.{full-given}
 use Rattle.rules.proofs.Paste.{paste_sets, paste_append}
 use Rattle.rules.proofs.EntryLayouts.{PlaceFits, DepthFits, watch-read}
 use Rattle.domains.specs.Entry.{taken, passes, entry_or, dropped_if}
-use Rattle.watches.specs.Watch.{KeptWatches, depth_meant, Placed, full, named, FitWatch, watch_given}
-use Rattle.watches.specs.declared.Depth.{Depth}
-use Rattle.watches.specs.declared.Depth.TheVariants.{To, Any}
+use Rattle.watches.specs.Watch.{KeptWatches, Placed, full, named, FitWatch, watch_given}
+use Rattle.octets.specs.Options.{meant}
+use Rattle.std.specs.Prelude.{Some, None, unwrap_or}
+use Rattle.std.specs.Prelude as code
 use Rattle.domains.proofs.Search.{swept_before}
 use Rattle.rules.proofs.Slots.{length-padded}
 use Rattle.domains.proofs.Rows.{Writable, wrote, wrote_kept, freed, left, dropped_kept, dropped_end, without-kept, same_kept, checked-kept}
@@ -55,15 +57,29 @@ paste_six i a b c d e f xs h =
     let e₅ : i + 5 ≡ suc (suc (suc (suc (suc i)))) = omega arith in
     rw (e₁, e₂, e₃, e₄, e₅) (paste_sets i (a ∷ b ∷ c ∷ d ∷ e ∷ f ∷ []) xs h)
 
-pub marks_are : (r g : Bool) {x y : Bool} → r ≡ x → g ≡ y → 128 + 64 * bit x + 32 * bit y ≡ 128 + 64 * bit r + 32 * bit g
-marks_are r g p q = rw (p, q)
+pub marks_are : (r g : Bool) → 128 + 64 * bool_byte r + 32 * bool_byte g ≡ 128 + 64 * bit r + 32 * bit g
+marks_are true true = refl
+marks_are true false = refl
+marks_are false true = refl
+marks_are false false = refl
 
-depth-fits : (d : Depth) → entry_or 0 (depth_meant d) < 256 → DepthFits (depth_meant d)
+-- a depth in the code's terms: whether it was given, and its levels
+pub given-taken : (d : code.Option ℕ) → code.is_some d ≡ taken (meant d)
+unfolding taken
+given-taken (Some k) = refl
+given-taken None = refl
+
+pub given-levels : (d : code.Option ℕ) → unwrap_or d 0 ≡ entry_or 0 (meant d)
 unfolding entry_or
-depth-fits (To k) h = h
-depth-fits Any h = tt
+given-levels (Some k) = refl
+given-levels None = refl
 
-module _ (c : Connection) (x : Octets) (r : Bool) (d : Depth) (t : Octets) (f : FitWatch c x r t) (below : entry_or 0 (depth_meant d) < 256) where
+depth-fits : (d : code.Option ℕ) → entry_or 0 (meant d) < 256 → DepthFits (meant d)
+unfolding entry_or
+depth-fits (Some k) h = h
+depth-fits None h = tt
+
+module _ (c : Connection) (x : Octets) (r : Bool) (d : code.Option ℕ) (t : Octets) (f : FitWatch c x r t) (below : entry_or 0 (meant d) < 256) where
   abbrev w : Watch
   w = watch_given c x r d t
 
@@ -71,7 +87,7 @@ module _ (c : Connection) (x : Octets) (r : Bool) (d : Depth) (t : Octets) (f : 
   unfolding watch_given
   given_narrow = record { owner = f.owner; depth = below; path = rw (placed r x f.placed).text f.path; token = f.few }
 
-  given-parts : (first depth : ℕ) → first ≡ 128 + 64 * bit r + 32 * bit (taken (depth_meant d)) → depth ≡ entry_or 0 (depth_meant d)
+  given-parts : (first depth : ℕ) → first ≡ 128 + 64 * bit r + 32 * bit (taken (meant d)) → depth ≡ entry_or 0 (meant d)
       → watch_bytes (some w) ≡ (first ∷ depth ∷ (c / 256 % 256) ∷ (c % 256) ∷ (length x / 2 % 256) ∷ (length x % 2 * 128 + length t) ∷ [])
       ++ (padded longest_path x ++ padded longest_token t)
   unfolding watch_given
@@ -106,9 +122,9 @@ module _ (s : Octets) (c : KeptWatches s) (k : ℕ) (h : k < most_watches) where
   unfolding watches_of watches_bytes
   swept-watch test = dropped_kept watch_bytes watch_in watch_size watch-wide most_watches s c k h empty test
 
-  module _ (o : Connection) (x : Octets) (r : Bool) (d : Depth) (t : Octets) (f : FitWatch o x r t) (below : entry_or 0 (depth_meant d) < 256) where
+  module _ (o : Connection) (x : Octets) (r : Bool) (d : code.Option ℕ) (t : Octets) (f : FitWatch o x r t) (below : entry_or 0 (meant d) < 256) where
     -- three parts put in, the last first
-    pub put_watch : (first depth : ℕ) → first ≡ 128 + 64 * bit r + 32 * bit (taken (depth_meant d)) → depth ≡ entry_or 0 (depth_meant d)
+    pub put_watch : (first depth : ℕ) → first ≡ 128 + 64 * bit r + 32 * bit (taken (meant d)) → depth ≡ entry_or 0 (meant d)
         → paste at (first ∷ depth ∷ (o / 256 % 256) ∷ (o % 256) ∷ (length x / 2 % 256) ∷ (length x % 2 * 128 + length t) ∷ [])
         (paste (at + watch_fields_size) (padded longest_path x) (paste (at + token_at) (padded longest_token t) s))
         ≡ watches_bytes (set (watches_of s) k (some (watch_given o x r d t)))

@@ -1,20 +1,15 @@
 -- The watch in a place, by its fields.
-use Rattle.std.specs.Prelude.{◌≡◌, Bool, true, false, [], ℕ, ◌*◌, ◌<◌, ◌≤◌, eqb, length, get_or}
-use Rattle.std.proofs.Math.Option.{Option, none, some}
+use Rattle.std.specs.Prelude.{◌≡◌, Bool, true, false, [], ℕ, ◌*◌, ◌<◌, ◌≤◌, eqb, length, get_or, Option}
+use Rattle.std.proofs.Math.Option.{none}
 use Rattle.rules.specs.Size.{most_watches, watch_fields_size, watch_size, longest_path, longest_token}
 use Rattle.rules.specs.Octets.{Octets, field, bits_at}
 use Rattle.rules.specs.Path.{Connection, special, given, is_full}
 use Rattle.rules.specs.Payload.{event}
 use Rattle.rules.specs.Event.{Watch}
 use Rattle.rules.specs.Layout.{place_in, watch_bytes, watch_in, watches_of}
+use Rattle.octets.specs.Options.{meant}
 use Rattle.domains.specs.Entry.{taken, entry_or}
 use Rattle.domains.specs.Kept.{Kept}
-use Rattle.watches.specs.declared.Depth.{Depth}
-use Rattle.watches.specs.declared.Depth.TheVariants.{To, Any}
-
-abbrev pub depth_meant : Depth → Option ℕ
-depth_meant (To k) = some k
-depth_meant Any = none
 
 -- bytes that re-encode to themselves
 abbrev pub KeptWatches : Octets → Type 0
@@ -56,5 +51,5 @@ pub record FitWatch (c : Connection) (text : Octets) (relative : Bool) (token : 
   pub path : length text ≤ longest_path
   pub few : length token ≤ longest_token
 
-unfoldable pub watch_given : Connection → Octets → Bool → Depth → Octets → Watch
-watch_given c text relative depth token = record { owner = c; place = place_in relative text; depth = depth_meant depth; token = token }
+unfoldable pub watch_given : Connection → Octets → Bool → Option ℕ → Octets → Watch
+watch_given c text relative depth token = record { owner = c; place = place_in relative text; depth = meant depth; token = token }

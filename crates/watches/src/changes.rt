@@ -7,10 +7,10 @@ ghost use Rattle.rules.specs.Entries.{without};
 ghost use Rattle.rules.specs.Layout.{watches_bytes, watches_of};
 ghost use Rattle.rules.specs.Sound.{twin};
 ghost use Rattle.rules.specs.World.{without_watches};
-ghost use Rattle.domains.specs.Entry.{taken, entry_or, dropped_if};
-ghost use Rattle.watches.specs.Watch.{KeptWatches, depth_meant, owned_by, FitWatch, watch_given};
+ghost use Rattle.octets.specs.Options.{meant};
+ghost use Rattle.domains.specs.Entry.{taken, dropped_if};
+ghost use Rattle.watches.specs.Watch.{KeptWatches, owned_by, FitWatch, watch_given};
 
-use crate::Depth;
 use crate::places::{is_twin, owned};
 use octets::parts::{clear, put_text};
 use octets::sizes::{
@@ -18,23 +18,10 @@ use octets::sizes::{
 };
 
 // The first byte of a watch: it is used, whether its path was given relative, and whether a depth was given.
-fn marks(relative: bool, depth: Depth) -> u8
-    ensures { result ≡ 128 + 64 * bit relative + 32 * bit (taken (depth_meant depth)) }
+fn marks(relative: bool, depth: Option<u8>) -> u8
+    ensures { result ≡ 128 + 64 * bit relative + 32 * bit (taken (meant depth)) }
 {
-    match depth {
-        Depth::To(_) => { if relative { 224 } else { 160 } }
-        Depth::Any => { if relative { 192 } else { 128 } }
-    }
-}
-
-// A depth as its byte: 0 where none was given.
-fn levels(depth: Depth) -> u8
-    ensures { (result ≡ entry_or 0 (depth_meant depth)) × (result < 256) }
-{
-    match depth {
-        Depth::To(k) => k,
-        Depth::Any => 0,
-    }
+    128 + 64 * u8::from(relative) + 32 * u8::from(depth.is_some())
 }
 
 // Puts the fields of a watch into the six bytes from `at` on.
@@ -52,7 +39,15 @@ fn put_fields(s: &mut [u8], at: usize, first: u8, depth: u8, c: u32, path: usize
 }
 
 // Puts a watch into place k.
-pub fn add(s: &mut [u8], k: usize, c: u32, path: &[u8], relative: bool, depth: Depth, token: &[u8])
+pub fn add(
+    s: &mut [u8],
+    k: usize,
+    c: u32,
+    path: &[u8],
+    relative: bool,
+    depth: Option<u8>,
+    token: &[u8],
+)
     requires { (k < most_watches) × KeptWatches s.old × FitWatch c path.now relative token.now }
     ensures { s.new ≡ watches_bytes
         (set (watches_of s.old) k (some (watch_given c path.now relative depth token.now))) }
@@ -64,7 +59,7 @@ pub fn add(s: &mut [u8], k: usize, c: u32, path: &[u8], relative: bool, depth: D
         s,
         at,
         marks(relative, depth),
-        levels(depth),
+        depth.unwrap_or(0),
         c,
         path.len(),
         token.len(),
@@ -87,10 +82,8 @@ pub fn remove_twin(s: &mut [u8], c: u32, p: &[u8], t: &[u8])
     requires { KeptWatches s.old }
     ensures { s.new ≡ watches_bytes (without (twin c p.now t.now) (watches_of s.old)) }
 {
-    let mut i = 0;
-    while i < WATCHES {
-        free_twin(s, i, c, p, t);
-        i += 1;
+    for k in 0..WATCHES {
+        free_twin(s, k, c, p, t);
     }
 }
 
@@ -109,9 +102,7 @@ pub fn remove_of(s: &mut [u8], c: u32)
     requires { KeptWatches s.old }
     ensures { s.new ≡ watches_bytes (without_watches (eqb c) (watches_of s.old)) }
 {
-    let mut i = 0;
-    while i < WATCHES {
-        free_owned(s, i, c);
-        i += 1;
+    for k in 0..WATCHES {
+        free_owned(s, k, c);
     }
 }

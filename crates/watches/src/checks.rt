@@ -6,11 +6,11 @@ ghost use Rattle.rules.specs.Octets.{same};
 ghost use Rattle.rules.specs.Path.{base, beyond, is_full, names_in};
 ghost use Rattle.rules.specs.Layout.{place_in, domains_of, watch_bytes, watch_in, watches_bytes, watches_of};
 ghost use Rattle.rules.specs.Sound.{no_nul, strictly_below, good_place, good_watches, sound_watches};
+ghost use Rattle.octets.specs.Options.{meant};
 ghost use Rattle.domains.specs.Kept.{kept_at};
-ghost use Rattle.watches.specs.Watch.{KeptWatches, depth_meant};
+ghost use Rattle.watches.specs.Watch.{KeptWatches};
 ghost use Rattle.watches.specs.Checks.{good_watch_at, place_same, depth_same, fields_same};
 
-use crate::Depth;
 use crate::places::{
     depth, owner, path, path_length, relative, token, token_length, used, watched_from,
 };
@@ -35,12 +35,7 @@ fn place_same(relative: bool, x: &[u8]) -> bool
         Form::Absolute => true,
         Form::Special => !relative,
         Form::Relative => false,
-        Form::Malformed => {
-            if x.len() == 0 {
-                return !relative;
-            }
-            false
-        }
+        Form::Malformed => x.is_empty() && !relative,
     }
 }
 
@@ -50,10 +45,7 @@ fn depth_same(s: &[u8], k: usize) -> bool
     ensures { result ≡ depth_same s.now k }
 {
     let at = k * WATCH_SIZE;
-    if s[at] / 32 % 2 == 1 {
-        return true;
-    }
-    s[at + 1] == 0
+    s[at] / 32 % 2 == 1 || s[at + 1] == 0
 }
 
 // Whether the zero bits of place k are zero, its depth is 0 where none is given, and its token is within the size.
@@ -94,10 +86,8 @@ fn place_kept(s: &[u8], k: usize) -> bool
     if !fields_same(s, k) {
         return false;
     }
-    if !rest_zero(s, from, n, LONGEST_PATH) {
-        return false;
-    }
-    rest_zero(s, at + TOKEN_AT, token_length(s, k), LONGEST_TOKEN)
+    rest_zero(s, from, n, LONGEST_PATH)
+        && rest_zero(s, at + TOKEN_AT, token_length(s, k), LONGEST_TOKEN)
 }
 
 // Whether the bytes are those of what they mean.
@@ -105,14 +95,7 @@ fn kept(s: &[u8]) -> bool
     requires { length s.now ≡ watches_size }
     ensures { result ≡ same (watches_bytes (watches_of s.now)) s.now }
 {
-    let mut i = 0;
-    while i < WATCHES {
-        if !place_kept(s, i) {
-            return false;
-        }
-        i += 1;
-    }
-    true
+    (0..WATCHES).all(|k| place_kept(s, k))
 }
 
 // ── what is asked of each watch ──
@@ -120,14 +103,7 @@ fn kept(s: &[u8]) -> bool
 fn no_nul(t: &[u8]) -> bool
     ensures { result ≡ no_nul t.now }
 {
-    let mut i = 0;
-    while i < t.len() {
-        if t[i] == 0 {
-            return false;
-        }
-        i += 1;
-    }
-    true
+    !t.contains(&0)
 }
 
 // Whether a full path lies below the base of domain d, not at it.
@@ -141,29 +117,23 @@ fn below_base(d: u32, x: &[u8]) -> bool
 }
 
 // Whether a watch of connection c may be on a path, or an event's name. The text is one of the two, or empty, and its first byte tells which.
-fn good_place(c: u32, depth: Depth, relative: bool, x: &[u8]) -> bool
+fn good_place(c: u32, depth: Option<u8>, relative: bool, x: &[u8]) -> bool
     requires { place_same relative x.now ≡ true }
-    ensures { result ≡ good_place c (depth_meant depth) (place_in relative x.now) }
+    ensures { result ≡ good_place c (meant depth) (place_in relative x.now) }
 {
-    if x.len() == 0 {
+    if x.is_empty() {
         return false;
     }
     if x[0] == b'/' {
         if !fits(x) {
             return false;
         }
-        if !relative {
-            return true;
-        }
-        return below_base(domain_of(c), x);
+        return !relative || below_base(domain_of(c), x);
     }
     if !is_control(domain_of(c)) {
         return false;
     }
-    match depth {
-        Depth::To(k) => k == 1,
-        Depth::Any => true,
-    }
+    depth.is_none_or(|k| k == 1)
 }
 
 // Whether place k is free, or has a good watch that no later place has too.
@@ -194,14 +164,7 @@ fn good(s: &[u8], domains: &[u8]) -> bool
     requires { KeptWatches s.now × (length domains.now ≡ domains_size) }
     ensures { result ≡ good_watches (domains_of domains.now) (watches_of s.now) }
 {
-    let mut i = 0;
-    while i < WATCHES {
-        if !place_good(s, domains, i) {
-            return false;
-        }
-        i += 1;
-    }
-    true
+    (0..WATCHES).all(|k| place_good(s, domains, k))
 }
 
 // Whether the bytes of watches are sound beside those of the domains.
@@ -212,8 +175,5 @@ pub fn sound_watches(s: &[u8], domains: &[u8]) -> bool
     if s.len() != WATCHES_SIZE {
         return false;
     }
-    if !kept(s) {
-        return false;
-    }
-    good(s, domains)
+    kept(s) && good(s, domains)
 }

@@ -4,10 +4,3 @@
 pub mod changes;
 pub mod checks;
 pub mod places;
-
-// How deep below its path a watch hears.
-#[derive(Clone, Copy)]
-pub enum Depth {
-    To(u8),
-    Any,
-}

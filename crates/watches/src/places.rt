@@ -1,5 +1,5 @@
 // The fields of a watch, and finding one.
-ghost use Rattle.std.specs.Prelude.{◌≡◌, true, ◌+◌, ◌<◌, ◌≤◌, length, get_or, drop};
+ghost use Rattle.std.specs.Prelude.{◌≡◌, true, ◌+◌, ◌<◌, ◌≤◌, length, get_or, drop, IfSome, unwrap_or};
 ghost use Rattle.std.proofs.Math.Option.{none};
 ghost use Rattle.rules.specs.Size.{most_watches, watches_size};
 ghost use Rattle.rules.specs.Domain.{domain_of};
@@ -7,12 +7,12 @@ ghost use Rattle.rules.specs.Entries.{lowest};
 ghost use Rattle.rules.specs.Event.{place_text};
 ghost use Rattle.rules.specs.Layout.{is_relative, watches_of};
 ghost use Rattle.rules.specs.Sound.{twin, watched};
+ghost use Rattle.octets.specs.Options.{meant};
 ghost use Rattle.domains.specs.Entry.{taken, passes};
-ghost use Rattle.watches.specs.Watch.{KeptWatches, depth_meant, watch_of, path_length, token_length, TakenWatch, owned_by};
+ghost use Rattle.watches.specs.Watch.{KeptWatches, watch_of, path_length, token_length, TakenWatch, owned_by};
 
-use crate::Depth;
 use octets::compare::same;
-use octets::numbers::two;
+use octets::numbers::number;
 use octets::sizes::{TOKEN_AT, WATCH_FIELDS_SIZE, WATCH_SIZE, WATCHES};
 use senders::domain_of;
 
@@ -28,7 +28,7 @@ pub fn owner(s: &[u8], k: usize) -> u32
     requires { TakenWatch s.now k }
     ensures { result ≡ (watch_of s.now k).owner }
 {
-    two(s, k * WATCH_SIZE + 2)
+    number::<2>(s, k * WATCH_SIZE + 2) as u32
 }
 
 // The domain that the owner speaks for.
@@ -47,14 +47,15 @@ pub fn relative(s: &[u8], k: usize) -> bool
     s[k * WATCH_SIZE] / 64 % 2 == 1
 }
 
-pub fn depth(s: &[u8], k: usize) -> Depth
+// How deep below its path the watch hears, where a depth was given.
+pub fn depth(s: &[u8], k: usize) -> Option<u8>
     requires { TakenWatch s.now k }
-    ensures { depth_meant result ≡ (watch_of s.now k).depth }
+    ensures { meant result ≡ (watch_of s.now k).depth }
 {
     if s[k * WATCH_SIZE] / 32 % 2 == 1 {
-        return Depth::To(s[k * WATCH_SIZE + 1]);
+        return Some(s[k * WATCH_SIZE + 1]);
     }
-    Depth::Any
+    None
 }
 
 // The path's length, as its field has it.
@@ -62,7 +63,7 @@ pub fn path_length(s: &[u8], k: usize) -> usize
     requires { (k < most_watches) × (length s.now ≡ watches_size) }
     ensures { result ≡ path_length s.now k }
 {
-    (two(s, k * WATCH_SIZE + 4) / 128) as usize
+    (number::<2>(s, k * WATCH_SIZE + 4) / 128) as usize
 }
 
 // The token's length, as its field has it.
@@ -70,7 +71,7 @@ pub fn token_length(s: &[u8], k: usize) -> usize
     requires { (k < most_watches) × (length s.now ≡ watches_size) }
     ensures { result ≡ token_length s.now k }
 {
-    (two(s, k * WATCH_SIZE + 4) % 64) as usize
+    (number::<2>(s, k * WATCH_SIZE + 4) % 64) as usize
 }
 
 // The watch's own path, or its event's name.
@@ -97,10 +98,7 @@ pub fn owned(s: &[u8], k: usize, c: u32) -> bool
     requires { (k < most_watches) × KeptWatches s.now }
     ensures { result ≡ passes (owned_by c) (get_or (watches_of s.now) k none) }
 {
-    if !used(s, k) {
-        return false;
-    }
-    c == owner(s, k)
+    used(s, k) && c == owner(s, k)
 }
 
 // Whether place k has the watch of connection c with a path and a token.
@@ -122,14 +120,7 @@ pub fn watched_from(s: &[u8], from: usize, c: u32, p: &[u8], t: &[u8]) -> bool
     requires { (from ≤ most_watches) × KeptWatches s.now }
     ensures { result ≡ watched c p.now t.now (drop from (watches_of s.now)) }
 {
-    let mut i = from;
-    while i < WATCHES {
-        if is_twin(s, i, c, p, t) {
-            return true;
-        }
-        i += 1;
-    }
-    false
+    (from..WATCHES).any(|k| is_twin(s, k, c, p, t))
 }
 
 // Whether connection c has a watch with a path and a token.
@@ -140,10 +131,11 @@ pub fn watched(s: &[u8], c: u32, p: &[u8], t: &[u8]) -> bool
     watched_from(s, 0, c, p, t)
 }
 
-// The lowest free place, or the number of places where none is free.
-pub fn lowest_free(s: &[u8]) -> usize
+// The lowest free place.
+pub fn lowest_free(s: &[u8]) -> Option<usize>
     requires { length s.now ≡ watches_size }
-    ensures { result ≡ lowest (watches_of s.now) }
+    ensures found { unwrap_or result most_watches ≡ lowest (watches_of s.now) }
+    ensures below { IfSome result (λ k. k < most_watches) }
 {
     octets::places::lowest_free(s, WATCH_SIZE, WATCHES)
 }

@@ -8,12 +8,12 @@ pub returns-then-s-ne-DOMAINS_SIZE : goal.returns-then-s-ne-DOMAINS_SIZE
 unfolding sound_domains
 returns-then-s-ne-DOMAINS_SIZE c = sym (rw (ne_eqb _ _ c.if-s-ne-DOMAINS_SIZE.true))
 
-pub returns-then-not-kept : goal.returns-then-not-kept
+pub returns-then-kept : goal.returns-then-kept
 unfolding sound_domains
-returns-then-not-kept c =
-    sym (rw (eq-eqb _ _ c.if-s-ne-DOMAINS_SIZE.false, sym c.kept.ensures ∙ c.if-not-kept.true))
+returns-then-kept c =
+    c.good.ensures ∙ sym (rw (eq-eqb _ _ c.if-s-ne-DOMAINS_SIZE.false, sym c.kept.ensures ∙ c.if-kept.true))
 
-pub returns : goal.returns
+pub returns-else-kept : goal.returns-else-kept
 unfolding sound_domains
-returns c =
-    c.good.ensures ∙ sym (rw (eq-eqb _ _ c.if-s-ne-DOMAINS_SIZE.false, sym c.kept.ensures ∙ c.if-not-kept.false))
+returns-else-kept c =
+    c.if-kept.false ∙ sym (rw (eq-eqb _ _ c.if-s-ne-DOMAINS_SIZE.false, sym c.kept.ensures ∙ c.if-kept.false))

@@ -4,15 +4,11 @@ use lib.Dec.{eqb}
 use Rattle.domains.proofs.Search.{passes_free, passes-taken}
 use Rattle.domains.proofs.places.holds.Goals as goal
 
-pub returns-then-not-used : goal.returns-then-not-used
-returns-then-not-used c = sym (passes_free _ _ (sym c.used.ensures ∙ c.if-not-used.true))
-
-pub domain-requires : goal.domain-requires
-domain-requires c =
-    let pre = c.requires in
-    (pre.0, pre.1, sym c.used.ensures ∙ c.if-not-used.false)
-
-pub returns : goal.returns
-returns c =
+pub returns-then-used : goal.returns-then-used
+returns-then-used c =
     let test = eqb c.args.d in
-    ap test c.domain.ensures ∙ sym (passes-taken test 0 _ (sym c.used.ensures ∙ c.if-not-used.false))
+    ap test c.domain.ensures ∙ sym (passes-taken test 0 _ (sym c.used.ensures ∙ c.if-used.true))
+
+pub returns-else-used : goal.returns-else-used
+returns-else-used c =
+    c.if-used.false ∙ sym (passes_free _ _ (sym c.used.ensures ∙ c.if-used.false))

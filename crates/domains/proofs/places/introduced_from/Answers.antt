@@ -1,28 +1,26 @@
--- The first place that has the domain is found, if one from there on has it.
-use mathlib.Core.Path.{refl}
+-- Some place from there on has the domain.
+use mathlib.Core.Path.{refl, ◌∙◌}
+use Prim.Native.Nat.{◌-◌}
+use native.Mathlib.Omega.{arith}
+use lib.Dec.{eqb}
+use lib.ListN.{get_or}
+use mathlib.Core.Option.{none}
+use Rattle.std.proofs.Common.{rules, tests}
+use Rattle.std.proofs.lemmas.Iterator.{YieldsList-from_range}
+use Rattle.std.proofs.lemmas.Iterator.Search.{any_from_yields_List}
 use Rattle.rules.specs.Size.{most_domains}
 use Rattle.rules.specs.Layout.{domains_of}
-use Rattle.domains.proofs.Search.{found, passed_by, not_found}
+use Rattle.domains.specs.Entry.{passes}
+use Rattle.domains.proofs.Search.{has_any}
 use Rattle.domains.proofs.Laws.{length-domains_of}
 use Rattle.domains.proofs.places.introduced_from.Goals as goal
 
-pub loop-i-init : goal.loop-i-init
-loop-i-init c = refl
-
-pub holds-requires : goal.holds-requires
-holds-requires c = (c.loop-i-test.true, c.requires.1)
-
-pub returns-then-holds : goal.returns-then-holds
-returns-then-holds c =
-    let s = c.args.s.now in
-    found _ (domains_of s) most_domains (length-domains_of s) _ c.loop-i.invariant c.loop-i-test.true c.holds.ensures c.if-holds.true
-
-pub loop-i-preserved : goal.loop-i-preserved
-loop-i-preserved c =
-    let s = c.args.s.now in
-    passed_by _ (domains_of s) most_domains (length-domains_of s) _ c.loop-i.invariant c.loop-i-test.true c.holds.ensures c.if-holds.false
-
 pub returns : goal.returns
 returns c =
-    let s = c.args.s.now in
-    not_found _ (domains_of s) most_domains (length-domains_of s) _ c.loop-i.invariant c.loop-i-test.false
+    let args = c.args in
+    let ds = domains_of args.s.now in
+    let test = eqb args.d in
+    let rest = most_domains - args.from in
+    any_from_yields_List (λ k. passes test (get_or ds k none)) _ _ c.any.result c.any.ensures.ran
+    (YieldsList-from_range args.from most_domains rest refl refl) (λ x b q k. search (rules, tests))
+    ∙ has_any test ds args.from rest (omega (arith, length-domains_of args.s.now))

@@ -5,8 +5,10 @@ use Rattle.domains.proofs.places.known.Goals as goal
 
 pub returns-then-is_control : goal.returns-then-is_control
 unfolding known
-returns-then-is_control c = sym (rw (sym c.is_control.ensures ∙ c.if-is_control.true))
+returns-then-is_control c =
+    c.if-is_control.true ∙ sym (rw (sym c.is_control.ensures ∙ c.if-is_control.true))
 
-pub returns : goal.returns
+pub returns-else-is_control : goal.returns-else-is_control
 unfolding known
-returns c = c.introduced.ensures ∙ sym (rw (sym c.is_control.ensures ∙ c.if-is_control.false))
+returns-else-is_control c =
+    c.introduced.ensures ∙ sym (rw (sym c.is_control.ensures ∙ c.if-is_control.false))

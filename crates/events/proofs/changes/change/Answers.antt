@@ -1,4 +1,5 @@
 -- From the topmost created parent down the events are recorded one after the other, and the path's own at last.
+use native.Mathlib.Nat.{add-sub_cancel}
 use native.Mathlib.Omega.{arith}
 use Rattle.rules.specs.Size.{longest_path}
 use Rattle.paths.proofs.AboveLaws.{above_long, above_short, above_full}
@@ -7,7 +8,7 @@ use Rattle.events.proofs.changes.change.Goals as goal
 
 pub loop-levels-init : goal.loop-levels-init
 loop-levels-init c =
-    told_none _ _ _ _ _ _ _ _ c.requires.4.whole
+    rw (add-sub_cancel c.args.parents 1) (told_none _ _ _ _ _ _ _ _ c.requires.4.whole)
 
 pub above-end-requires : goal.above-end-requires
 above-end-requires c =
@@ -26,7 +27,7 @@ event-count-requires c =
 pub loop-levels-preserved : goal.loop-levels-preserved
 loop-levels-preserved c =
     let room = c.requires.4.few in
-    told_next _ _ _ _ _ _ _ _ _ _ _ c.loop-levels.invariant c.requires.1 c.loop-levels-test.true (omega arith) _
+    told_next _ _ _ _ _ _ _ _ _ _ _ c.loop-levels.invariant c.requires.1 (omega (arith, c.loop-levels-test.true)) (omega arith) _
     c.above-end.ensures _ _ c.event-count.ensures
 
 pub event-requires : goal.event-requires
@@ -40,4 +41,4 @@ shape_of-events c =
 
 pub returns : goal.returns
 returns c =
-    told-all _ _ _ _ _ _ _ _ _ _ _ c.loop-levels.invariant c.loop-levels-test.false c.requires.4.few _ _ c.event.ensures
+    told-all _ _ _ _ _ _ _ _ _ _ _ c.loop-levels.invariant (omega (arith, c.loop-levels-test.false)) c.requires.4.few _ _ c.event.ensures

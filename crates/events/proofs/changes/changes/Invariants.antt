@@ -1,6 +1,6 @@
 -- After j turns the records are those of the first j changes; a change makes a record a level at most, so there is room for all.
 use mathlib.Core.Path.{◌≡◌}
-use Prim.Native.Nat.{◌-◌, ◌≤◌}
+use Prim.Native.Nat.{◌≤◌}
 use lib.ListN.{length}
 use Rattle.rules.specs.Size.{most_changes, deepest}
 use Rattle.rules.specs.Event.{heard_change}
@@ -15,6 +15,3 @@ invariant-loop-j l =
     × (l.count ≤ most_changes)
     × Entered (heard_change (table_of l.before) (table_of l.after) (watches_of l.watches)) deepest (transaction_of l.transactions l.k).changes 0
     l.initial.events l.events l.j l.n
-
-abbrev pub decreases-loop-j : goal.decreases-loop-j
-decreases-loop-j l = l.count - l.j

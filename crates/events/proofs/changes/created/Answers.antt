@@ -1,5 +1,6 @@
 -- From the topmost created parent down the events are recorded one after the other.
 use mathlib.Core.Path.{sym}
+use native.Mathlib.Nat.{add-sub_cancel}
 use native.Mathlib.Omega.{arith}
 use Rattle.rules.specs.Size.{longest_path}
 use Rattle.paths.proofs.AboveLaws.{above_long, above_short, above_full}
@@ -11,7 +12,7 @@ use Rattle.events.proofs.changes.created.Goals as goal
 
 pub loop-levels-init : goal.loop-levels-init
 loop-levels-init c =
-    told_none _ _ _ _ _ _ _ _ c.requires.4.whole
+    rw (add-sub_cancel c.args.parents 1) (told_none _ _ _ _ _ _ _ _ c.requires.4.whole)
 
 pub above-end-requires : goal.above-end-requires
 above-end-requires c =
@@ -36,7 +37,7 @@ loop-levels-preserved c =
     let full = c.requires.1 in
     let up = c.above-end.ensures in
     let record_is = sym (heard-given _ _ _ _ _ (above_full _ full _ _ up)) in
-    told_next _ _ _ _ _ _ _ _ _ _ _ c.loop-levels.invariant full c.loop-levels-test.true
+    told_next _ _ _ _ _ _ _ _ _ _ _ c.loop-levels.invariant full (omega (arith, c.loop-levels-test.true))
     (omega (arith, c.requires.4.few, c.loop-levels.invariant.few, c.loop-levels-test.true)) _ up _ _
     (recorded_as _ _ record_is (c.keep-n.ensures _ c.in_store.ensures))
 
@@ -46,4 +47,4 @@ shape_of-events c =
 
 pub returns : goal.returns
 unfolding heard_parents
-returns c = told-parents _ _ _ _ _ _ _ _ _ _ _ c.loop-levels.invariant c.loop-levels-test.false
+returns c = told-parents _ _ _ _ _ _ _ _ _ _ _ c.loop-levels.invariant (omega (arith, c.loop-levels-test.false))

@@ -1,34 +1,35 @@
 -- After i turns the records are those of the first i removals; there are no more removals than places for records.
 use native.Mathlib.Omega.{arith}
 use Rattle.rules.specs.Event.{heard}
-use Rattle.lookup.proofs.ChildrenLaws.{listed}
+use lib.Seq.{length-take-le}
+use Rattle.rules.specs.Layout.{table_of}
+use Rattle.lookup.proofs.ChildrenLaws.{asked_at}
 use Rattle.events.proofs.Entering.{entered_none, entered_room, entered_next, entered_all}
 use Rattle.events.proofs.ChangeLaws.{removals_length, removal_at, removal-few}
 use Rattle.events.proofs.changes.removals.Goals as goal
 
-pub loop-i-init : goal.loop-i-init
-loop-i-init c = entered_none _ _ _ _ _ c.requires.4
-
-pub overflow_cast-list : goal.overflow_cast-list
-overflow_cast-list c = omega (arith, c.type_inv.list c.loop-i.i)
+pub loop-slot-init : goal.loop-slot-init
+loop-slot-init c = entered_none _ _ _ _ _ c.requires.4
 
 pub removal-n-requires : goal.removal-n-requires
 removal-n-requires c =
-    let asked = listed _ _ _ _ c.requires.3 c.loop-i-test.true c.requires.1 in
-    (c.requires.0, asked, entered_room _ _ _ _ _ _ _ _ c.loop-i.invariant (omega arith))
+    let asked = rw (← c.from.ensures) at (asked_at _ _ _ c.requires.3 c.loop-slot-test.true) in
+    (c.requires.0, asked, entered_room _ _ _ _ _ _ _ _ c.loop-slot.invariant (omega (arith, length-take-le c.args.count c.args.list.now c.requires.1)))
 
-pub loop-i-preserved : goal.loop-i-preserved
-loop-i-preserved c =
-    let h = c.loop-i-test.true in
-    let long = c.requires.1 in
-    entered_next _ 1 _ _ _ _ _ _ c.loop-i.invariant (rw (removals_length _ _ _ long) h) (omega arith) _ _
-    (removal_at _ _ _ long _ h) (removal-few _ _ _ _ _) _ _ c.removal-n.ensures
+pub loop-slot-preserved : goal.loop-slot-preserved
+loop-slot-preserved c =
+    let long = removals_length (table_of c.args.before.now) c.args.list.now c.args.count c.requires.1 in
+    let few = length-take-le c.args.count c.args.list.now c.requires.1 in
+    entered_next _ 1 _ _ _ _ _ _ c.loop-slot.invariant (omega (arith, long, few)) (omega (arith, few)) _ _
+    (removal_at _ _ _ c.requires.1 _ _ c.from.ensures) (removal-few _ _ _ _ _) _ _ c.removal-n.ensures
 
 pub shape_of-events : goal.shape_of-events
 shape_of-events c =
-    omega (arith, c.loop-i.invariant.long, c.requires.4)
+    omega (arith, c.loop-slot.invariant.long, c.requires.4)
 
 pub returns : goal.returns
 unfolding heard
 returns c =
-    entered_all _ _ _ _ _ _ _ _ c.loop-i.invariant (rw (removals_length _ _ _ c.requires.1) c.loop-i-test.false)
+    let long = removals_length (table_of c.args.before.now) c.args.list.now c.args.count c.requires.1 in
+    let few = length-take-le c.args.count c.args.list.now c.requires.1 in
+    entered_all _ _ _ _ _ _ _ _ c.loop-slot.invariant (omega (arith, long, few))

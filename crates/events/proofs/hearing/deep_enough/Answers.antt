@@ -1,9 +1,11 @@
--- The two cases of a depth are those of the rule.
-use Rattle.events.proofs.HearingLaws.{depth_to, depth_any}
+-- A depth that is given is compared, and one that is not lets all through.
+use Rattle.std.specs.Prelude.{◌≡◌, MatchOption, IsTrue}
+use Rattle.std.proofs.Common.{rules, tests}
+use lib.Dec.{leb}
+use Rattle.events.proofs.HearingLaws.{depth-levels}
 use Rattle.events.proofs.hearing.deep_enough.Goals as goal
 
-pub returns-in-To : goal.returns-in-To
-returns-in-To c = depth_to _ _ _ c.in-To.is
-
-pub returns-in-Any : goal.returns-in-Any
-returns-in-Any c = depth_any _ _ c.in-Any.is
+pub returns : goal.returns
+returns c =
+    let own : MatchOption c.args.depth (IsTrue c.is_none_or.result) (λ k. c.is_none_or.result ≡ leb c.args.levels k) = search (rules, tests) in
+    depth-levels _ _ _ own

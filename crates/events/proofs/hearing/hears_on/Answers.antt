@@ -1,24 +1,26 @@
 -- The path is at or below the watch's own, deep enough and readable; or it was removed above it.
-use mathlib.Core.Path.{sym, ◌∙◌}
+use mathlib.Core.Path.{sym, ap, ◌∙◌}
+use Rattle.octets.specs.Options.{meant}
 use Rattle.events.specs.Stores.{happened}
 use Rattle.events.proofs.HearingLaws.{hear_once, too_deep, within-depth, not_below}
 use Rattle.events.proofs.hearing.hears_on.Goals as goal
 
-pub returns-then-not-deep_enough : goal.returns-then-not-deep_enough
+pub returns-then-deep_enough : goal.returns-then-deep_enough
 unfolding happened
-returns-then-not-deep_enough c = λ w o d.
-    too_deep _ _ w _ _ o d _ (sym c.beyond.ensures ∙ c.in-Levels.is)
-    (sym c.deep_enough.ensures ∙ c.if-not-deep_enough.true)
-
-pub returns-else-not-deep_enough : goal.returns-else-not-deep_enough
-unfolding happened
-returns-else-not-deep_enough c = λ w o d.
+returns-then-deep_enough c = λ w o d.
     c.readable.ensures ∙ hear_once _ _ _
-    ∙ within-depth _ _ w _ _ o d _ (sym c.beyond.ensures ∙ c.in-Levels.is)
-    (sym c.deep_enough.ensures ∙ c.if-not-deep_enough.false)
+    ∙ within-depth _ _ w _ _ o d _ (ap meant (sym c.in-Some.is) ∙ c.beyond.ensures)
+    (sym c.deep_enough.ensures ∙ c.if-deep_enough.true)
 
-pub returns-in-Not : goal.returns-in-Not
+pub returns-else-deep_enough : goal.returns-else-deep_enough
 unfolding happened
-returns-in-Not c = λ w o d.
+returns-else-deep_enough c = λ w o d.
+    c.if-deep_enough.false
+    ∙ too_deep _ _ w _ _ o d _ (ap meant (sym c.in-Some.is) ∙ c.beyond.ensures)
+    (sym c.deep_enough.ensures ∙ c.if-deep_enough.false)
+
+pub returns-in-None : goal.returns-in-None
+unfolding happened
+returns-in-None c = λ w o d.
     c.hears_above.ensures
-    ∙ not_below _ _ w _ _ o d (sym c.beyond.ensures ∙ c.in-Not.is)
+    ∙ not_below _ _ w _ _ o d (ap meant (sym c.in-None.is) ∙ c.beyond.ensures)

@@ -1,20 +1,29 @@
--- After k turns the number has the first k bits of those that heard or hear, and the rest has the bits that are left, highest first.
-use Rattle.events.proofs.EitherLaws.{either_none, either_small, either_next, either_all}
+-- Each bit is what the number's bit and the store say.
+use mathlib.Core.Path.{◌≡◌, ◌∙◌}
+use mathlib.Core.Bool.{◌||◌}
+use mathlib.Core.Option.{none}
+use lib.ListN.{get_or}
+use Rattle.std.proofs.Common.{rules, tests}
+use Rattle.rules.specs.Event.{hears}
+use Rattle.rules.specs.Layout.{table_of, watches_of}
+use Rattle.domains.specs.Entry.{passes}
+use Rattle.events.specs.Records.{number_bit}
+use Rattle.events.specs.Stores.{happened}
+use Rattle.events.proofs.MaskLaws.{mask-long}
+use Rattle.events.proofs.EitherLaws.{either-bit}
 use Rattle.events.proofs.masks.heard_or_hears.Goals as goal
 
-pub loop-k-init : goal.loop-k-init
-loop-k-init c = either_none _ _ _
-
-pub heard_or_hears_at-requires : goal.heard_or_hears_at-requires
-heard_or_hears_at-requires c =
-    (c.loop-k-test.true, c.requires.0, c.requires.1)
-
-pub with_bit-mask-requires : goal.with_bit-mask-requires
-with_bit-mask-requires c = either_small _ _ _ _ _ _ c.loop-k.invariant
-
-pub loop-k-preserved : goal.loop-k-preserved
-loop-k-preserved c =
-    either_next _ _ _ _ _ _ c.loop-k.invariant c.loop-k-test.true _ c.heard_or_hears_at.ensures _ c.with_bit-mask.ensures
-
 pub returns : goal.returns
-returns c = either_all _ _ _ _ _ _ c.loop-k.invariant c.loop-k-test.false
+returns c =
+    let args = c.args in
+    let s = args.watches.now in
+    let t = table_of args.t.now in
+    let test = hears t t (happened args.removed args.path.now) in
+    λ f m.
+    c.mask_where.ensures _
+    (record {
+      long = mask-long _ _;
+      each = λ k b h p.
+          let said : b ≡ (number_bit args.heard k || passes test (get_or (watches_of s) k none)) = search (rules, tests) in
+          said ∙ either-bit f test s args.heard m k h;
+    })

@@ -1,10 +1,9 @@
--- The highest of 16 bits is set where the number is 32768 or more; where it is not, the store decides.
-use mathlib.Core.Path.{refl}
-use borrow.Author.Tests.{le-leb, lt-leb}
+-- The number's bit, or else the store, decides.
+use mathlib.Core.Path.{refl, sym, ◌∙◌}
 use Rattle.events.proofs.masks.heard_or_hears_at.Goals as goal
 
-pub returns-then-heard-ge32768 : goal.returns-then-heard-ge32768
-returns-then-heard-ge32768 c = rw (le-leb _ _ c.if-heard-ge32768.true) refl
+pub returns-then-has_bit : goal.returns-then-has_bit
+returns-then-has_bit c = sym (rw (sym c.has_bit.ensures ∙ c.if-has_bit.true) refl)
 
 pub returns : goal.returns
-returns c = rw (lt-leb _ _ c.if-heard-ge32768.false) c.hears.ensures
+returns c = c.hears.ensures ∙ sym (rw (sym c.has_bit.ensures ∙ c.if-has_bit.false) refl)

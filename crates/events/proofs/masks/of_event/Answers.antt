@@ -1,21 +1,21 @@
--- After k turns the number has the first k bits of the mask.
-use mathlib.Core.Path.{◌∙◌}
-use Rattle.events.proofs.MaskLaws.{masked_none, masked_small, masked_next, masked_all, mask-long, mask_at}
+-- Each bit is what the place's test says.
+use mathlib.Core.Path.{◌≡◌, ◌∙◌}
+use mathlib.Core.Option.{none}
+use lib.ListN.{get_or}
+use Rattle.std.proofs.Common.{rules, tests}
+use Rattle.rules.specs.Event.{is_event}
+use Rattle.rules.specs.Layout.{watches_of}
+use Rattle.domains.specs.Entry.{passes}
+use Rattle.events.specs.Stores.{event_name}
+use Rattle.events.proofs.MaskLaws.{mask-long, mask_at}
 use Rattle.events.proofs.masks.of_event.Goals as goal
 
-pub loop-k-init : goal.loop-k-init
-loop-k-init c = masked_none _
-
-pub is_event-requires : goal.is_event-requires
-is_event-requires c = (c.loop-k-test.true, c.requires)
-
-pub with_bit-mask-requires : goal.with_bit-mask-requires
-with_bit-mask-requires c = masked_small _ _ _ c.loop-k.invariant
-
-pub loop-k-preserved : goal.loop-k-preserved
-loop-k-preserved c =
-    masked_next _ _ _ c.loop-k.invariant (mask-long _ _) c.loop-k-test.true _ (c.is_event.ensures ∙ mask_at _ _ _) _
-    c.with_bit-mask.ensures
-
 pub returns : goal.returns
-returns c = masked_all _ _ _ c.loop-k.invariant (mask-long _ _) c.loop-k-test.false
+returns c =
+    let ws = watches_of c.args.watches.now in
+    let test = is_event (event_name c.args.released) in
+    c.mask_where.ensures _
+    (record {
+      long = mask-long _ _;
+      each = λ k b h p. let said : b ≡ passes test (get_or ws k none) = search (rules, tests) in said ∙ mask_at test ws k;
+    })

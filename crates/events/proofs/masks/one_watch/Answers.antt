@@ -1,17 +1,14 @@
--- After i turns the number has the first i bits of the mask.
-use Rattle.events.proofs.MaskLaws.{masked_none, masked_small, masked_next, masked_all, only_long, only_at}
+-- Each bit is whether its place is the one.
+use mathlib.Core.Path.{◌≡◌, ◌∙◌}
+use lib.Dec.{eqb}
+use Rattle.std.proofs.Common.{rules, tests}
+use Rattle.events.proofs.MaskLaws.{only_long, only_at}
 use Rattle.events.proofs.masks.one_watch.Goals as goal
 
-pub loop-i-init : goal.loop-i-init
-loop-i-init c = masked_none _
-
-pub with_bit-mask-requires : goal.with_bit-mask-requires
-with_bit-mask-requires c = masked_small _ _ _ c.loop-i.invariant
-
-pub loop-i-preserved : goal.loop-i-preserved
-loop-i-preserved c =
-    let below = c.loop-i-test.true in
-    masked_next _ _ _ c.loop-i.invariant (only_long _ _) below _ (only_at _ _ _ below) _ c.with_bit-mask.ensures
-
 pub returns : goal.returns
-returns c = masked_all _ _ _ c.loop-i.invariant (only_long _ _) c.loop-i-test.false
+returns c =
+    c.mask_where.ensures _
+    (record {
+      long = only_long _ _;
+      each = λ i b h p. let said : b ≡ eqb c.args.k i = search (rules, tests) in said ∙ only_at _ _ i h;
+    })

@@ -4,4 +4,4 @@ use Rattle.events.proofs.record.path_length.Goals as goal
 
 pub returns : goal.returns
 returns c =
-    length-read c.args.events.now c.args.i c.requires.0 c.requires.1 c.two.result c.two.ensures
+    length-read c.args.events.now c.args.i c.requires.0 c.requires.1 _ c.number.ensures.read

@@ -44,14 +44,15 @@ pub returns-then-is_below : goal.returns-then-is_below
 returns-then-is_below c =
     let places = goal.at.returns-then-is_below c in
     let record-path = c.args.p.now in
-    concern_below record-path _ (fits places.After-path-own) (differs places.Else-same) (slashed places.Else-not-begins)
+    c.if-is_below.true
+    ∙ concern_below record-path _ (fits places.After-path-own) (differs places.Else-same) (slashed places.Else-not-begins)
     (told (λ (x : Octets). is_below x record-path) c.is_below.ensures c.path-own.ensures c.if-is_below.true)
 
-pub returns : goal.returns
-returns c =
-    let places = goal.at.returns c in
+pub returns-else-is_below : goal.returns-else-is_below
+returns-else-is_below c =
+    let places = goal.at.returns-else-is_below c in
     let record-path = c.args.p.now in
-    c.is_below-2.ensures
+    c.is_below-else-is_below.ensures
     ∙ ap (is_below record-path) c.path-own.ensures
     ∙ concern_above record-path _ (fits places.After-path-own) (differs places.Else-same) (slashed places.Else-not-begins)
     (told (λ (x : Octets). is_below x record-path) c.is_below.ensures c.path-own.ensures c.if-is_below.false)

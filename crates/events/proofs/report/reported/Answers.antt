@@ -1,5 +1,5 @@
 -- A watch on an event reports by its depth; one on a path the nearer of the two paths, cut by its base, for which there is room.
-use mathlib.Core.Path.{◌≡◌, refl, sym, ap, ◌∙◌}
+use mathlib.Core.Path.{◌≡◌, refl, sym, ◌∙◌}
 use mathlib.Core.Bool.{Bool, true, false}
 use mathlib.Core.List.{[], ◌∷◌}
 use Rattle.rules.specs.Octets.{begins}
@@ -7,7 +7,8 @@ use Rattle.rules.specs.Path.{is_below}
 use Rattle.rules.specs.Event.{place_text}
 use Rattle.rules.specs.Sound.{good_place}
 use Rattle.rules.proofs.EntryLayouts.{PlaceFits}
-use Rattle.watches.specs.Watch.{depth_meant, watch_of, TakenWatch}
+use Rattle.watches.specs.Watch.{watch_of, TakenWatch}
+use Rattle.domains.proofs.Tests.{given-some, given-none}
 use Rattle.events.proofs.WatchLaws.{taken-watch, watch-fits, good-place}
 use Rattle.events.proofs.PlaceLaws.{told}
 use Rattle.events.proofs.ReportLaws.{cut-same, report_own, report_record, report_nearer, report_further, nearer-room, further_room}
@@ -39,14 +40,16 @@ slashed c =
 pub depth-requires : goal.depth-requires
 depth-requires c = used (goal.at.depth-requires c).After-path-own
 
-pub returns-in-To : goal.returns-in-To
-returns-in-To c =
-    report_record _ _ _ (unslashed (goal.at.returns-in-To c).Then-not-begins) (sym c.depth.ensures ∙ ap depth_meant c.in-To.is)
+pub returns-then-is_some : goal.returns-then-is_some
+returns-then-is_some c =
+    report_record _ _ _ (unslashed (goal.at.returns-then-is_some c).Then-not-begins)
+    (sym c.depth.ensures ∙ given-some 0 _ (sym c.is_some.ensures ∙ c.if-is_some.true))
 
-pub returns-in-Any : goal.returns-in-Any
-returns-in-Any c =
+pub returns-else-is_some : goal.returns-else-is_some
+returns-else-is_some c =
     c.path-own.ensures
-    ∙ report_own _ _ (unslashed (goal.at.returns-in-Any c).Then-not-begins) (sym c.depth.ensures ∙ ap depth_meant c.in-Any.is)
+    ∙ report_own _ _ (unslashed (goal.at.returns-else-is_some c).Then-not-begins)
+    (sym c.depth.ensures ∙ given-none _ (sym c.is_some.ensures ∙ c.if-is_some.false))
 
 pub relative-r-requires : goal.relative-r-requires
 relative-r-requires c = used (goal.at.relative-r-requires c).After-path-own

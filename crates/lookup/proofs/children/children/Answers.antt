@@ -22,9 +22,6 @@ put_in-requires c =
     let l = length-take-le c.loop-i.n c.loop-i.list (omega arith) in
     (omega arith, omega (arith, c.place-k.ensures.within))
 
-pub loop-i-smaller-then-has_parent : goal.loop-i-smaller-then-has_parent
-loop-i-smaller-then-has_parent c = omega arith
-
 pub loop-i-preserved-then-has_parent : goal.loop-i-preserved-then-has_parent
 loop-i-preserved-then-has_parent c =
     let args = c.args in

@@ -4,6 +4,3 @@ use Rattle.lookup.proofs.children.children.Given as goal
 
 abbrev pub invariant-loop-i : goal.invariant-loop-i
 invariant-loop-i l = Gathered l.t l.p l.i l.n l.list
-
-abbrev pub decreases-loop-i : goal.decreases-loop-i
-decreases-loop-i l = l.i

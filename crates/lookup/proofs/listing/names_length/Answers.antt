@@ -3,7 +3,6 @@ use mathlib.Core.Path.{◌≡◌, refl, ap, ◌∙◌}
 use mathlib.Core.List.{flat_map}
 use Prim.Native.Nat.{ℕ}
 use native.Mathlib.Omega.{arith}
-use borrow.Author.Rules.{rules}
 use lib.ListN.{length, get_or, take}
 use Rattle.rules.specs.Answer.{name_list}
 use Rattle.rules.specs.Layout.{table_of}
@@ -14,10 +13,7 @@ use Rattle.lookup.proofs.listing.names_length.Goals as goal
 
 pub loop-k-init : goal.loop-k-init
 unfolding name_list flat_map
-loop-k-init c = (search rules, search rules, refl)
-
-pub overflow_cast-list : goal.overflow_cast-list
-overflow_cast-list c = omega (arith, c.type_inv.list c.loop-k.k)
+loop-k-init c = (omega arith, refl)
 
 pub name_length-requires : goal.name_length-requires
 name_length-requires c =
@@ -52,10 +48,10 @@ loop-k-preserved c =
     let l = name-length args.t.now i q in
     let f = name-fits args.t.now i in
     let e = names_longer args.t.now args.list.now loop.k (omega arith) q in
-    (omega arith, omega (arith, c.name_length.ensures), omega (arith, c.name_length.ensures, e))
+    (omega (arith, c.name_length.ensures), omega (arith, c.name_length.ensures, e))
 
 pub returns : goal.returns
 returns c =
     let args = c.args in
     let e : c.loop-k.k ≡ args.n = omega arith in
-    c.loop-k.invariant.2 ∙ ap (λ (k : ℕ). length (name_list (table_of args.t.now) (take k args.list.now))) e
+    c.loop-k.invariant.1 ∙ ap (λ (k : ℕ). length (name_list (table_of args.t.now) (take k args.list.now))) e

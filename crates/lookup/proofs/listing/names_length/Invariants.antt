@@ -1,13 +1,10 @@
 -- After k turns the sum is the length of the first k names with their nuls, and each is short.
 use mathlib.Core.Path.{◌≡◌}
-use Prim.Native.Nat.{◌*◌, ◌-◌, ◌≤◌}
+use Prim.Native.Nat.{◌*◌, ◌≤◌}
 use lib.ListN.{length, take}
 use Rattle.rules.specs.Answer.{name_list}
 use Rattle.rules.specs.Layout.{table_of}
 use Rattle.lookup.proofs.listing.names_length.Given as goal
 
 abbrev pub invariant-loop-k : goal.invariant-loop-k
-invariant-loop-k l = (l.k ≤ l.n) × (l.sum ≤ 33 * l.k) × (l.sum ≡ length (name_list (table_of l.t) (take l.k l.list)))
-
-abbrev pub decreases-loop-k : goal.decreases-loop-k
-decreases-loop-k l = l.n - l.k
+invariant-loop-k l = (l.sum ≤ 33 * l.k) × (l.sum ≡ length (name_list (table_of l.t) (take l.k l.list)))

@@ -1,7 +1,6 @@
 -- After k turns the texts of the first k entries stand one behind the other; there are four at most and each is short, so there is room.
 use mathlib.Core.Path.{ap, ◌∙◌}
 use native.Mathlib.Omega.{arith}
-use borrow.Author.Rules.{rules}
 use lib.ListN.{length}
 use Rattle.rules.proofs.Paste.{length-paste}
 use Rattle.slots.proofs.Canonical.{sound_canonical}
@@ -15,7 +14,6 @@ entry_count-count-requires c = (c.requires.0.below, (sound_canonical _ c.require
 pub loop-k-init : goal.loop-k-init
 loop-k-init c =
     let args = c.args in (
-      search rules,
       c.entry_count-count.ensures ∙ count_is args.t.now args.i c.requires.0,
       none_written args.t.now args.i c.requires.0 args.at args.into.now c.requires.1,
     )
@@ -30,21 +28,20 @@ put_entry-to-requires c =
     let loop = c.loop-k in
     let e = c.entry_at-e.ensures in
     let f = entry-fits args.t.now args.i c.requires.0 args.at args.into.now c.requires.1 loop.k loop.into loop.to
-    loop.invariant.2 (omega arith) in
+    loop.invariant.1 (omega arith) in
     let r = written-room args.t.now args.i c.requires.0 args.at args.into.now c.requires.1 loop.k loop.into loop.to
-    loop.invariant.2 (omega arith) in
+    loop.invariant.1 (omega arith) in
     let n = few args.t.now args.i c.requires.0 in
-    (omega arith, omega arith, omega (arith, loop.invariant.2.short))
+    (omega arith, omega arith, omega (arith, loop.invariant.1.short))
 
 pub loop-k-preserved : goal.loop-k-preserved
 loop-k-preserved c =
     let args = c.args in
     let loop = c.loop-k in
     let e = c.entry_at-e in (
-      omega arith,
-      loop.invariant.1,
+      loop.invariant.0,
       one_more args.t.now args.i c.requires.0 args.at args.into.now c.requires.1 loop.k
-          loop.into loop.to loop.invariant.2 (omega arith) e.result.access e.result.domain e.ensures.0 e.ensures.1
+          loop.into loop.to loop.invariant.1 (omega arith) e.result.access e.result.domain e.ensures.0 e.ensures.1
           c.put_entry-to.new.into c.put_entry-to.result c.put_entry-to.ensures,
     )
 
@@ -54,8 +51,8 @@ shape_of-into c =
     let loop = c.loop-k in
     let n = few args.t.now args.i c.requires.0 in
     let w = all-written args.t.now args.i c.requires.0 args.at args.into.now c.requires.1 loop.k loop.into loop.to
-    loop.invariant.2 (omega arith) in
-    ap length w.bytes ∙ length-paste args.at _ args.into.now (omega (arith, w.behind, loop.invariant.2.short))
+    loop.invariant.1 (omega arith) in
+    ap length w.bytes ∙ length-paste args.at _ args.into.now (omega (arith, w.behind, loop.invariant.1.short))
 
 pub returns : goal.returns
 returns c =
@@ -63,5 +60,5 @@ returns c =
     let loop = c.loop-k in
     let n = few args.t.now args.i c.requires.0 in
     let w = all-written args.t.now args.i c.requires.0 args.at args.into.now c.requires.1 loop.k loop.into loop.to
-    loop.invariant.2 (omega arith) in
+    loop.invariant.1 (omega arith) in
     w

@@ -3,7 +3,6 @@ use mathlib.Core.Path.{◌≡◌, sym, ap, ◌∙◌}
 use mathlib.Core.List.{◌++◌, flat_map}
 use Prim.Native.Nat.{ℕ, ◌+◌, ◌≤◌}
 use native.Mathlib.Omega.{arith}
-use borrow.Author.Rules.{rules}
 use native.Mathlib.Nat.{add-zero}
 use lib.ListN.{length, get_or, take, set, length-append}
 use Rattle.rules.specs.Octets.{Octets, nul, paste}
@@ -19,10 +18,7 @@ pub loop-k-init : goal.loop-k-init
 unfolding name_list flat_map
 loop-k-init c =
     let args = c.args in
-    (search rules, sym (paste_nil args.at args.into.now), sym (add-zero args.at))
-
-pub overflow_cast-list : goal.overflow_cast-list
-overflow_cast-list c = omega (arith, c.type_inv.list c.loop-k.k)
+    (sym (paste_nil args.at args.into.now), sym (add-zero args.at))
 
 pub name-text-requires : goal.name-text-requires
 name-text-requires c =
@@ -42,7 +38,7 @@ copy-requires c =
     let long : length c.name-text.result.now ≡ length ys = ap length c.name-text.ensures in
     let room : args.at + (length xs + (length ys + 1)) ≤ length args.into.now =
     room_for ts is loop.k args.n (omega arith) (omega arith) args.at (length args.into.now) c.requires.2 in
-    let same = same-room args.at xs args.into.now loop.into loop.to loop.invariant.1 loop.invariant.2 ys room in
+    let same = same-room args.at xs args.into.now loop.into loop.to loop.invariant.0 loop.invariant.1 ys room in
     omega arith
 
 pub overflow_add-to : goal.overflow_add-to
@@ -57,7 +53,7 @@ overflow_add-to c =
     let long : length c.name-text.result.now ≡ length ys = ap length c.name-text.ensures in
     let room : args.at + (length xs + (length ys + 1)) ≤ length args.into.now =
     room_for ts is loop.k args.n (omega arith) (omega arith) args.at (length args.into.now) c.requires.2 in
-    let same = same-room args.at xs args.into.now loop.into loop.to loop.invariant.1 loop.invariant.2 ys room in
+    let same = same-room args.at xs args.into.now loop.into loop.to loop.invariant.0 loop.invariant.1 ys room in
     omega arith
 
 pub bounds-into-to : goal.bounds-into-to
@@ -72,10 +68,10 @@ bounds-into-to c =
     let long : length c.name-text.result.now ≡ length ys = ap length c.name-text.ensures in
     let room : args.at + (length xs + (length ys + 1)) ≤ length args.into.now =
     room_for ts is loop.k args.n (omega arith) (omega arith) args.at (length args.into.now) c.requires.2 in
-    let same = same-room args.at xs args.into.now loop.into loop.to loop.invariant.1 loop.invariant.2 ys room in
+    let same = same-room args.at xs args.into.now loop.into loop.to loop.invariant.0 loop.invariant.1 ys room in
     let copied : c.copy.new.into ≡ paste loop.to ys loop.into = c.copy.ensures
     ∙ ap (λ (l : Octets). paste loop.to l loop.into) c.name-text.ensures in
-    let after = room_after args.at xs args.into.now loop.into loop.to loop.invariant.1 loop.invariant.2 ys room
+    let after = room_after args.at xs args.into.now loop.into loop.to loop.invariant.0 loop.invariant.1 ys room
     c.copy.new.into copied in
     omega arith
 
@@ -91,7 +87,7 @@ overflow_add-to-in-loop-k c =
     let long : length c.name-text.result.now ≡ length ys = ap length c.name-text.ensures in
     let room : args.at + (length xs + (length ys + 1)) ≤ length args.into.now =
     room_for ts is loop.k args.n (omega arith) (omega arith) args.at (length args.into.now) c.requires.2 in
-    let same = same-room args.at xs args.into.now loop.into loop.to loop.invariant.1 loop.invariant.2 ys room in
+    let same = same-room args.at xs args.into.now loop.into loop.to loop.invariant.0 loop.invariant.1 ys room in
     omega arith
 
 pub loop-k-preserved : goal.loop-k-preserved
@@ -106,15 +102,14 @@ loop-k-preserved c =
     let long : length c.name-text.result.now ≡ length ys = ap length c.name-text.ensures in
     let room : args.at + (length xs + (length ys + 1)) ≤ length args.into.now =
     room_for ts is loop.k args.n (omega arith) (omega arith) args.at (length args.into.now) c.requires.2 in
-    let same = same-room args.at xs args.into.now loop.into loop.to loop.invariant.1 loop.invariant.2 ys room in
+    let same = same-room args.at xs args.into.now loop.into loop.to loop.invariant.0 loop.invariant.1 ys room in
     let copied : c.copy.new.into ≡ paste loop.to ys loop.into = c.copy.ensures
     ∙ ap (λ (l : Octets). paste loop.to l loop.into) c.name-text.ensures in
-    let after = room_after args.at xs args.into.now loop.into loop.to loop.invariant.1 loop.invariant.2 ys room
+    let after = room_after args.at xs args.into.now loop.into loop.to loop.invariant.0 loop.invariant.1 ys room
     c.copy.new.into copied in
     let e = names_next ts is loop.k (omega arith) in (
-      omega arith,
       ap (λ (i : ℕ). set c.copy.new.into (loop.to + i) 0) long
-          ∙ nul-behind args.at xs args.into.now loop.into loop.to loop.invariant.1 loop.invariant.2 ys room c.copy.new.into copied
+          ∙ nul-behind args.at xs args.into.now loop.into loop.to loop.invariant.0 loop.invariant.1 ys room c.copy.new.into copied
           ∙ ap (λ (l : Octets). paste args.at l args.into.now) (sym e),
       omega (arith, ap length e, length-append xs (ys ++ nul), length-append ys nul),
     )
@@ -126,7 +121,7 @@ shape_of-into c =
     let ns = name_list (table_of args.t.now) in
     let e : loop.k ≡ args.n = omega arith in
     let w : loop.into ≡ paste args.at (ns (take args.n args.list.now)) args.into.now =
-    loop.invariant.1 ∙ ap (λ (k : ℕ). paste args.at (ns (take k args.list.now)) args.into.now) e in
+    loop.invariant.0 ∙ ap (λ (k : ℕ). paste args.at (ns (take k args.list.now)) args.into.now) e in
     ap length w ∙ length-paste args.at (ns (take args.n args.list.now)) args.into.now c.requires.2
 
 pub returns : goal.returns
@@ -136,5 +131,5 @@ returns c =
     let ns = name_list (table_of args.t.now) in
     let e : loop.k ≡ args.n = omega arith in
     let w : loop.into ≡ paste args.at (ns (take args.n args.list.now)) args.into.now =
-    loop.invariant.1 ∙ ap (λ (k : ℕ). paste args.at (ns (take k args.list.now)) args.into.now) e in
-    record { bytes = w; behind = loop.invariant.2 ∙ ap (λ (k : ℕ). args.at + length (ns (take k args.list.now))) e }
+    loop.invariant.0 ∙ ap (λ (k : ℕ). paste args.at (ns (take k args.list.now)) args.into.now) e in
+    record { bytes = w; behind = loop.invariant.1 ∙ ap (λ (k : ℕ). args.at + length (ns (take k args.list.now))) e }

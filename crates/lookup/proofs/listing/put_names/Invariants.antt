@@ -1,6 +1,6 @@
 -- After k turns the first k names with their nuls stand one behind the other, and the rest of the list has the room that is left.
 use mathlib.Core.Path.{◌≡◌}
-use Prim.Native.Nat.{◌+◌, ◌-◌, ◌≤◌}
+use Prim.Native.Nat.{◌+◌}
 use lib.ListN.{length, take}
 use Rattle.rules.specs.Octets.{paste}
 use Rattle.rules.specs.Answer.{name_list}
@@ -8,8 +8,5 @@ use Rattle.rules.specs.Layout.{table_of}
 use Rattle.lookup.proofs.listing.put_names.Given as goal
 
 abbrev pub invariant-loop-k : goal.invariant-loop-k
-invariant-loop-k l = (l.k ≤ l.n) × (l.into ≡ paste l.at (name_list (table_of l.t) (take l.k l.list)) l.initial.into)
+invariant-loop-k l = (l.into ≡ paste l.at (name_list (table_of l.t) (take l.k l.list)) l.initial.into)
     × (l.to ≡ l.at + length (name_list (table_of l.t) (take l.k l.list)))
-
-abbrev pub decreases-loop-k : goal.decreases-loop-k
-decreases-loop-k l = l.n - l.k

@@ -1,7 +1,6 @@
 -- No later entry before k names the domain, so those from k on decide.
 use mathlib.Core.Path.{refl, sym, ◌∙◌}
 use native.Mathlib.Omega.{arith}
-use borrow.Author.Rules.{rules}
 use Rattle.rules.specs.Node.{node_at}
 use Rattle.rules.specs.Layout.{table_of}
 use Rattle.slots.proofs.Canonical.{sound_canonical}
@@ -14,7 +13,7 @@ entry_count-count-requires c = (c.requires.below, (sound_canonical _ c.requires.
 pub loop-k-init : goal.loop-k-init
 loop-k-init c =
     let n = count_is c.args.t.now c.args.i c.requires in
-    (search rules, omega (arith, c.entry_count-count.ensures, n), c.entry_count-count.ensures ∙ n, refl)
+    (omega arith, c.entry_count-count.ensures ∙ n, refl)
 
 pub entry_at-e-requires : goal.entry_at-e-requires
 entry_at-e-requires c =
@@ -25,7 +24,7 @@ returns-then-e-domain c =
     let args = c.args in
     let loop = c.loop-k in
     let e = c.entry_at-e in
-    sym (loop.invariant.3 ∙ named_by args.t.now args.i c.requires args.domain args.first loop.k loop.invariant.0 (omega arith)
+    sym (loop.invariant.2 ∙ named_by args.t.now args.i c.requires args.domain args.first loop.k loop.invariant.0 (omega arith)
     e.result.access e.result.domain e.ensures.0 e.ensures.1 c.if-e-domain.true)
 
 pub loop-k-preserved : goal.loop-k-preserved
@@ -34,9 +33,8 @@ loop-k-preserved c =
     let loop = c.loop-k in
     let e = c.entry_at-e in (
       omega arith,
-      omega arith,
-      loop.invariant.2,
-      loop.invariant.3 ∙ not_named_by args.t.now args.i c.requires args.domain args.first loop.k loop.invariant.0 (omega arith)
+      loop.invariant.1,
+      loop.invariant.2 ∙ not_named_by args.t.now args.i c.requires args.domain args.first loop.k loop.invariant.0 (omega arith)
           e.result.domain e.ensures.1 c.if-e-domain.false,
     )
 
@@ -44,5 +42,5 @@ pub returns : goal.returns
 returns c =
     let args = c.args in
     let loop = c.loop-k in
-    sym (loop.invariant.3 ∙ named_none args.domain args.first (node_at (table_of args.t.now) args.i).others loop.k
+    sym (loop.invariant.2 ∙ named_none args.domain args.first (node_at (table_of args.t.now) args.i).others loop.k
     loop.invariant.0 (omega arith))

@@ -1,6 +1,6 @@
 -- No later entry before k names the domain, so those from k on decide.
 use mathlib.Core.Path.{◌≡◌}
-use Prim.Native.Nat.{◌≤◌, ◌-◌, suc}
+use Prim.Native.Nat.{◌≤◌, suc}
 use lib.ListN.{length}
 use Rattle.rules.specs.Node.{node_at}
 use Rattle.rules.specs.Rights.{named}
@@ -11,7 +11,4 @@ use Rattle.lookup.proofs.rights.named.Given as goal
 abbrev pub invariant-loop-k : goal.invariant-loop-k
 invariant-loop-k l =
     let others = (node_at (table_of l.t) l.i).others in
-    (1 ≤ l.k) × (l.k ≤ l.count) × (l.count ≡ suc (length others)) × (named l.domain l.first 1 others ≡ named l.domain l.first l.k (from l.k others))
-
-abbrev pub decreases-loop-k : goal.decreases-loop-k
-decreases-loop-k l = l.count - l.k
+    (1 ≤ l.k) × (l.count ≡ suc (length others)) × (named l.domain l.first 1 others ≡ named l.domain l.first l.k (from l.k others))

@@ -1,27 +1,23 @@
--- What is counted so far and the free slots from there on make the whole count.
-use mathlib.Core.Path.{sym, ◌∙◌}
-use Prim.Native.Nat.{◌<◌}
-use native.Mathlib.Omega.{arith}
-use lib.ListN.{length}
-use Rattle.rules.proofs.Slots.{length-table_of}
+-- The slots that are not used are counted.
+use mathlib.Core.Path.{refl, ◌∙◌}
+use mathlib.Core.Bool.{not}
+use mathlib.Core.Option.{none}
+use lib.ListN.{get_or}
+use borrow.Author.Rules.{rules}
+use borrow.Author.Tests.{tests}
+use Rattle.std.proofs.lemmas.Iterator.{YieldsList-from_range}
+use Rattle.std.proofs.lemmas.Iterator.Consumers.{count_from_yields_List, YieldsList-from_filter}
+use Rattle.rules.specs.Size.{slots}
 use Rattle.rules.specs.Layout.{table_of}
-use Rattle.making.proofs.FreeSlots.{count_here, count_further, count_over}
+use Rattle.rules.proofs.Slots.{length-table_of}
+use Rattle.slots.specs.Slot.{is_used}
+use Rattle.making.proofs.FreeSlots.{free_counted}
 use Rattle.making.proofs.free.free_count.Goals as goal
-use Rattle.making.proofs.free.free_count.Goals.{then-not-used, else-not-used}
-
-pub loop-i-preserved : goal.loop-i-preserved
-loop-i-preserved c =
-    let i = c.loop-i.i in
-    let s = c.args.t.now in
-    let ts = table_of s in
-    let h : i < length ts = omega (arith, length-table_of s) in
-    let used = c.used.ensures in
-    elim c.if-not-used.branch [
-      | then-not-used w ↦ omega (arith, count_here ts i h (sym used ∙ w.if-not-used.true))
-      | else-not-used w ↦ omega (arith, count_further ts i h (sym used ∙ w.if-not-used.false))
-    ]
 
 pub returns : goal.returns
 returns c =
-    let s = c.args.t.now in
-    omega (arith, length-table_of s, count_over (table_of s) c.loop-i.i (rw (length-table_of s) c.loop-i-test.false))
+    let t = c.args.t.now in
+    count_from_yields_List c.filter.result c.count.result c.count.ensures.ran
+    (YieldsList-from_filter _ (λ j. not (is_used (get_or (table_of t) j none))) (YieldsList-from_range 0 slots slots c.filter.ensures.source refl)
+    c.filter.ensures.closure (λ x b q k. search (rules, tests)))
+    ∙ free_counted (table_of t) (length-table_of t)

@@ -10,9 +10,9 @@ use Rattle.slots.specs.Slot.{is_used}
 use Rattle.slots.proofs.Reading.{used_byte}
 use Rattle.making.proofs.free.lowest_free.Goals as goal
 
-pub returns : goal.returns
-returns c =
+pub returns-clause-found : goal.returns-clause-found
+returns-clause-found c =
     let t = c.args.t.now in
     let bytes = bytes-known t c.type_inv.t in
-    c.lowest_free.ensures
+    c.lowest_free.ensures.found
     ∙ lowest_is is_used refl (λ x. refl) slot_size (lit≤ tt) t (table_of t) slots (length-table_of t) (λ i h. used_byte t bytes c.requires i h)

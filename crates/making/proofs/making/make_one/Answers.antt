@@ -1,12 +1,19 @@
--- Where a slot is free, the lowest free one is a slot.
+-- Where a slot is free, there is a lowest free one.
+use mathlib.Core.Path.{refl}
+use Prim.Native.Nat.{ℕ, ◌<◌}
 use native.Mathlib.Omega.{arith}
+use Rattle.std.specs.Prelude.{Option, Some, None, unwrap_or}
+use Rattle.std.specs.Option.{IsSome}
+use Rattle.rules.specs.Size.{slots}
 use Rattle.rules.proofs.Fitting.{lowest-below}
 use Rattle.rules.proofs.Slots.{length-table_of}
 use Rattle.making.proofs.making.make_one.Goals as goal
 
-pub put_node-requires : goal.put_node-requires
-put_node-requires c =
-    let pre = c.requires in
-    let low = lowest-below _ pre.4 in
-    let long = length-table_of c.args.t.now in
-    (rw c.lowest_free-i.ensures (omega arith), pre.0, pre.1, pre.2, pre.3)
+below_some : (o : Option ℕ) (n : ℕ) → unwrap_or o n < n → IsSome o
+below_some (Some k) n h = refl
+below_some None n h = absurd (omega arith)
+
+pub unwrap-i-requires : goal.unwrap-i-requires
+unwrap-i-requires c =
+    let low = lowest-below _ c.requires.4 in
+    below_some c.lowest_free.result slots (rw c.lowest_free.ensures.found (omega (arith, length-table_of c.args.t.now)))

@@ -15,13 +15,13 @@ use Rattle.nodes.proofs.changing.create.Goals as goal
 
 pub returns-then-not-may_write : goal.returns-then-not-may_write
 returns-then-not-may_write c =
-    refused_so c.args.domain _ c.args.t.now (sound_canonical _ c.requires.0.standing.sound) _ c.args.reply.now _ _ c.refusal.ensures
+    refused_so c.args.domain _ c.args.t.now (sound_canonical _ c.requires.0.standing.sound) _ c.args.reply.now _
     (created_denied _ _ _ _ _ c.requires.1 _ (sym c.may_write.ensures ∙ c.if-not-may_write.true))
 
 pub returns-then-not-has_room : goal.returns-then-not-has_room
 returns-then-not-has_room c =
     let left = c.names_left-left.ensures in
-    refused_so c.args.domain _ c.args.t.now (sound_canonical _ c.requires.0.standing.sound) _ c.args.reply.now _ _ c.refusal-then-not-has_room.ensures
+    refused_so c.args.domain _ c.args.t.now (sound_canonical _ c.requires.0.standing.sound) _ c.args.reply.now _
     (created-full _ _ _ _ _ c.requires.1 _ (sym c.may_write.ensures ∙ c.if-not-may_write.false)
     (sym (c.has_room.ensures c.args.domain _ left) ∙ c.if-not-has_room.true))
 

@@ -17,5 +17,5 @@ returns-then-may_write c =
 
 pub returns : goal.returns
 returns c =
-    refused_so c.args.domain _ c.args.t.now (sound_canonical _ c.requires.standing.sound) _ c.args.reply.now _ _ c.refusal.ensures
+    refused_so c.args.domain _ c.args.t.now (sound_canonical _ c.requires.standing.sound) _ c.args.reply.now _
     (mkdir-there _ _ _ _ _ c.reach-reached.ensures c.if-at-path.false _ (sym c.may_write.ensures ∙ c.if-may_write.false))

@@ -3,4 +3,4 @@ use mathlib.Core.Path.{refl}
 use Rattle.nodes.proofs.changing.success.Goals as goal
 
 pub returns : goal.returns
-returns c = (refl, c.okay-told.ensures)
+returns c = (refl, c.okay.ensures)

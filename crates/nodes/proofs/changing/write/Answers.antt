@@ -11,12 +11,12 @@ returns-then-at-path c =
 
 pub returns-then-not-may_write : goal.returns-then-not-may_write
 returns-then-not-may_write c =
-    refused_so c.args.domain _ c.args.t.now (sound_canonical _ c.requires.standing.sound) _ c.args.reply.now _ _ c.refusal.ensures
+    refused_so c.args.domain _ c.args.t.now (sound_canonical _ c.requires.standing.sound) _ c.args.reply.now _
     (write_denied _ _ _ _ _ c.reach-reached.ensures c.if-at-path.false _ (sym c.may_write.ensures ∙ c.if-not-may_write.true))
 
 pub returns-then-value-gt-LONGEST_VALUE : goal.returns-then-value-gt-LONGEST_VALUE
 returns-then-value-gt-LONGEST_VALUE c =
-    refused_so c.args.domain _ c.args.t.now (sound_canonical _ c.requires.standing.sound) _ c.args.reply.now _ _ c.refusal-then-value-gt-LONGEST_VALUE.ensures
+    refused_so c.args.domain _ c.args.t.now (sound_canonical _ c.requires.standing.sound) _ c.args.reply.now _
     (write-long _ _ _ _ _ c.reach-reached.ensures c.if-at-path.false _ (sym c.may_write.ensures ∙ c.if-not-may_write.false)
     c.if-value-gt-LONGEST_VALUE.true)
 

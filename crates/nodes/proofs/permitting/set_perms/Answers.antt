@@ -9,19 +9,18 @@ use Rattle.nodes.proofs.permitting.set_perms.Goals as goal
 
 pub returns-then-reached-path : goal.returns-then-reached-path
 returns-then-reached-path c =
-    refused_so c.args.domain _ c.args.t.now (sound_canonical _ c.requires.0.standing.sound) _ c.args.reply.now _ _ c.refusal.ensures
+    refused_so c.args.domain _ c.args.t.now (sound_canonical _ c.requires.0.standing.sound) _ c.args.reply.now _
     (perms_absent _ _ _ _ _ c.reach-reached.ensures c.if-reached-path.true _ _ _ (c.absent.ensures _))
 
 pub returns-then-not-may_set : goal.returns-then-not-may_set
 returns-then-not-may_set c =
-    refused_so c.args.domain _ c.args.t.now (sound_canonical _ c.requires.0.standing.sound) _ c.args.reply.now _ _ c.refusal-then-not-may_set.ensures
+    refused_so c.args.domain _ c.args.t.now (sound_canonical _ c.requires.0.standing.sound) _ c.args.reply.now _
     (perms_denied _ _ _ _ _ c.reach-reached.ensures c.if-reached-path.false _ _
     (sym (c.may_set.ensures _ _ refl) ∙ c.if-not-may_set.true))
 
 pub returns-then-entries-gt-MOST_ENTRIES : goal.returns-then-entries-gt-MOST_ENTRIES
 returns-then-entries-gt-MOST_ENTRIES c =
-    refused_so c.args.domain _ c.args.t.now (sound_canonical _ c.requires.0.standing.sound) _ c.args.reply.now _ _
-    c.refusal-then-entries-gt-MOST_ENTRIES.ensures
+    refused_so c.args.domain _ c.args.t.now (sound_canonical _ c.requires.0.standing.sound) _ c.args.reply.now _
     (perms_many _ _ _ _ _ c.reach-reached.ensures c.if-reached-path.false _ _
     (sym (c.may_set.ensures _ _ refl) ∙ c.if-not-may_set.false)
     (omega (arith, length-others c.args.entries c.requires.1.some-entry, c.if-entries-gt-MOST_ENTRIES.true)))

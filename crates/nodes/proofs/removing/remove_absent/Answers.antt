@@ -7,7 +7,7 @@ use Rattle.nodes.proofs.removing.remove_absent.Goals as goal
 
 pub returns-then-names_left-gt1 : goal.returns-then-names_left-gt1
 returns-then-names_left-gt1 c =
-    refused_so c.args.domain _ c.args.t.now (sound_canonical _ c.requires.0.standing.sound) _ c.args.reply.now _ _ c.refusal.ensures
+    refused_so c.args.domain _ c.args.t.now (sound_canonical _ c.requires.0.standing.sound) _ c.args.reply.now _
     (rm_far _ _ _ _ _ c.requires.1 c.requires.2 _ c.names_left.ensures c.if-names_left-gt1.true _
     (c.absent.ensures _))
 
@@ -20,6 +20,6 @@ returns-then-may_read c =
 
 pub returns : goal.returns
 returns c =
-    refused_so c.args.domain _ c.args.t.now (sound_canonical _ c.requires.0.standing.sound) _ c.args.reply.now _ _ c.refusal-2.ensures
+    refused_so c.args.domain _ c.args.t.now (sound_canonical _ c.requires.0.standing.sound) _ c.args.reply.now _
     (rm_near _ _ _ _ _ c.requires.1 c.requires.2 _ c.names_left.ensures c.if-names_left-gt1.false _
     (sym c.may_read.ensures ∙ c.if-may_read.false))

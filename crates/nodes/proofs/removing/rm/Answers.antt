@@ -7,7 +7,7 @@ use Rattle.nodes.proofs.removing.rm.Goals as goal
 
 pub returns-then-not-may_write : goal.returns-then-not-may_write
 returns-then-not-may_write c =
-    refused_so c.args.domain _ c.args.t.now (sound_canonical _ c.requires.standing.sound) _ c.args.reply.now _ _ c.refusal.ensures
+    refused_so c.args.domain _ c.args.t.now (sound_canonical _ c.requires.standing.sound) _ c.args.reply.now _
     (rm_denied _ _ _ _ _ c.reach-reached.ensures c.if-at-path.false (sym c.may_write.ensures ∙ c.if-not-may_write.true))
 
 pub remove-requires : goal.remove-requires

@@ -7,8 +7,8 @@ use Rattle.paths.proofs.form.is_event.Goals as goal
 
 pub returns-then-same : goal.returns-then-same
 unfolding introduce_name text
-returns-then-same c = event-first _ (sym c.same.ensures ∙ c.if-same.true)
+returns-then-same c = c.if-same.true ∙ event-first _ (sym c.same.ensures ∙ c.if-same.true)
 
-pub returns : goal.returns
+pub returns-else-same : goal.returns-else-same
 unfolding introduce_name release_name text
-returns c = c.same-2.ensures ∙ event-second _ (sym c.same.ensures ∙ c.if-same.false)
+returns-else-same c = c.same-else-same.ensures ∙ event-second _ (sym c.same.ensures ∙ c.if-same.false)

@@ -5,28 +5,28 @@ use native.Mathlib.Omega.{arith}
 use Rattle.paths.proofs.VerdictLaws.{verdict_rest, absolute-within, absolute-beyond, relative-within, relative-beyond, marked-event, marked_other}
 use Rattle.paths.proofs.form.verdict.Goals as goal
 
-pub returns-then-s-le-LONGEST_RELATIVE : goal.returns-then-s-le-LONGEST_RELATIVE
-returns-then-s-le-LONGEST_RELATIVE c = relative-within _ c.args.s.now c.in-4.is c.if-s-le-LONGEST_RELATIVE.true
-
-pub returns-then-is_event : goal.returns-then-is_event
-returns-then-is_event c = marked-event _ _ c.in-6.is (sym c.is_event.ensures ∙ c.if-is_event.true)
-
-pub returns-then-s-le-LONGEST_ABSOLUTE : goal.returns-then-s-le-LONGEST_ABSOLUTE
-returns-then-s-le-LONGEST_ABSOLUTE c =
+pub returns-in-1 : goal.returns-in-1
+returns-in-1 c =
     absolute-within c.args.state c.args.s.now (omega arith) (omega arith) c.if-s-le-LONGEST_ABSOLUTE.true
 
-pub returns-else-s-le-LONGEST_RELATIVE : goal.returns-else-s-le-LONGEST_RELATIVE
-returns-else-s-le-LONGEST_RELATIVE c = relative-beyond _ c.args.s.now c.in-4.is c.if-s-le-LONGEST_RELATIVE.false
+pub returns-in-4 : goal.returns-in-4
+returns-in-4 c = relative-within _ c.args.s.now c.in-4.is c.if-s-le-LONGEST_RELATIVE.true
 
-pub returns-else-is_event : goal.returns-else-is_event
-returns-else-is_event c = marked_other _ _ c.in-6.is (sym c.is_event.ensures ∙ c.if-is_event.false)
+pub returns-in-6 : goal.returns-in-6
+returns-in-6 c = marked-event _ _ c.in-6.is (sym c.is_event.ensures ∙ c.if-is_event.true)
 
-pub returns-then-state-lt1 : goal.returns-then-state-lt1
-returns-then-state-lt1 c = verdict_rest c.args.state _ (inl (omega arith)) (omega arith) (omega arith)
+pub returns-in_default : goal.returns-in_default
+returns-in_default c = relative-beyond _ c.args.s.now c.in-4.is c.if-s-le-LONGEST_RELATIVE.false
 
-pub returns-else-s-le-LONGEST_ABSOLUTE : goal.returns-else-s-le-LONGEST_ABSOLUTE
-returns-else-s-le-LONGEST_ABSOLUTE c =
+pub returns-in_default-2 : goal.returns-in_default-2
+returns-in_default-2 c = marked_other _ _ c.in-6.is (sym c.is_event.ensures ∙ c.if-is_event.false)
+
+pub returns-in_default-3 : goal.returns-in_default-3
+returns-in_default-3 c = verdict_rest c.args.state _ (inl (omega arith)) (omega arith) (omega arith)
+
+pub returns-in_default-4 : goal.returns-in_default-4
+returns-in_default-4 c =
     absolute-beyond c.args.state c.args.s.now (omega arith) (omega arith) c.if-s-le-LONGEST_ABSOLUTE.false
 
-pub returns-else-state-lt3 : goal.returns-else-state-lt3
-returns-else-state-lt3 c = verdict_rest c.args.state _ (inr (omega arith)) (omega arith) (omega arith)
+pub returns-in_default-5 : goal.returns-in_default-5
+returns-in_default-5 c = verdict_rest c.args.state _ (inr (omega arith)) (omega arith) (omega arith)

@@ -2,8 +2,5 @@
 use Rattle.paths.proofs.AboveLaws.{Passed}
 use Rattle.paths.proofs.names.above.Given as goal
 
-abbrev pub invariant-loop-i : goal.invariant-loop-i
-invariant-loop-i l = Passed l.s l.k l.end l.i
-
-abbrev pub decreases-loop-i : goal.decreases-loop-i
-decreases-loop-i l = l.i
+abbrev pub invariant-loop : goal.invariant-loop
+invariant-loop l = Passed l.s l.k l.at l.counter

@@ -3,8 +3,8 @@ use mathlib.Core.Path.{◌∙◌}
 use Rattle.paths.proofs.PieceLaws.{fits-deep, fits-short}
 use Rattle.paths.proofs.names.fits.Goals as goal
 
-pub returns-then-depth-gt-DEEPEST : goal.returns-then-depth-gt-DEEPEST
-returns-then-depth-gt-DEEPEST c = fits-deep _ _ c.depth.ensures c.if-depth-gt-DEEPEST.true
+pub returns-then-depth-le-DEEPEST : goal.returns-then-depth-le-DEEPEST
+returns-then-depth-le-DEEPEST c = c.short_names.ensures ∙ fits-short _ _ c.depth.ensures c.if-depth-le-DEEPEST.true
 
-pub returns : goal.returns
-returns c = c.short_names.ensures ∙ fits-short _ _ c.depth.ensures c.if-depth-gt-DEEPEST.false
+pub returns-else-depth-le-DEEPEST : goal.returns-else-depth-le-DEEPEST
+returns-else-depth-le-DEEPEST c = fits-deep _ _ c.depth.ensures c.if-depth-le-DEEPEST.false

@@ -1,43 +1,27 @@
--- The names passed are short, so those to come decide.
-use mathlib.Core.Path.{sym, ◌∙◌}
-use Prim.Native.Nat.{◌≤◌}
-use native.Mathlib.Omega.{arith}
-use lib.ListN.{length}
-use Rattle.paths.proofs.PieceLaws.{end_low, end-high, short-long, short_further, short-full, short_over}
+-- The names of a full path are the pieces behind its first slash.
+use Rattle.std.proofs.Common.{rules, tests, arith, ◌∙◌, ap, sym, length, drop, length-drop}
+use Rattle.std.specs.Prelude.{◌-◌}
+use lib.Dec.{eqb, leb}
+use lib.Seq.{take_all}
+use Rattle.std.proofs.lemmas.Iterator.Search.{all_from_yields_List}
+use Rattle.std.proofs.lemmas.Iterator.Splits.{YieldsList-from_slice_split}
+use Rattle.rules.specs.Size.{longest_name}
+use Rattle.rules.specs.Path.{short_names}
+use Rattle.rules.proofs.PathLaws.{full_slash}
+use Rattle.paths.proofs.PieceLaws.{pieces_split, all_short, short-full}
 use Rattle.paths.proofs.names.short_names.Goals as goal
-use Rattle.paths.proofs.names.short_names.Goals.{After-name_end-end}
 
-pub loop-at-init : goal.loop-at-init
-loop-at-init c = (omega arith, short-full _ c.requires)
+pub slice_bounds-split-count : goal.slice_bounds-split-count
+slice_bounds-split-count c = omega (arith, ap length (full_slash _ c.requires))
 
-pub name_end-end-requires : goal.name_end-end-requires
-name_end-end-requires c = omega arith
-
-ended : (c : After-name_end-end)
-    → (c.loop-at.at ≤ c.name_end-end.result) × (c.name_end-end.result ≤ length c.args.s.now)
-ended c =
-    let h : c.loop-at.at ≤ length c.args.s.now = omega arith in
-    (rw c.name_end-end.ensures (end_low _ _ h), rw c.name_end-end.ensures (end-high _ _ h))
-
-pub overflow_sub-end : goal.overflow_sub-end
-overflow_sub-end c = (ended c).0
-
-pub returns-then-end-at-gt-LONGEST_NAME : goal.returns-then-end-at-gt-LONGEST_NAME
-returns-then-end-at-gt-LONGEST_NAME c =
-    let h : c.loop-at.at ≤ length c.args.s.now = omega arith in
-    sym (c.loop-at.invariant.1 ∙ short-long _ _ h _ c.name_end-end.ensures c.if-end-at-gt-LONGEST_NAME.true)
-
-pub overflow_add-at : goal.overflow_add-at
-overflow_add-at c = omega (arith, ended (goal.at.overflow_add-at c).After-name_end-end)
-
-pub loop-at-smaller : goal.loop-at-smaller
-loop-at-smaller c = omega (arith, ended (goal.at.loop-at-smaller c).After-name_end-end)
-
-pub loop-at-preserved : goal.loop-at-preserved
-loop-at-preserved c =
-    let places = goal.at.loop-at-preserved c in
-    let h : c.loop-at.at ≤ length c.args.s.now = omega arith in
-    (omega (arith, ended places.After-name_end-end), c.loop-at.invariant.1 ∙ short_further _ _ h _ c.name_end-end.ensures c.if-end-at-gt-LONGEST_NAME.false)
+pub slice_bounds-split-start : goal.slice_bounds-split-start
+slice_bounds-split-start c = omega (arith, ap length (full_slash _ c.requires))
 
 pub returns : goal.returns
-returns c = sym (c.loop-at.invariant.1 ∙ short_over _ _ c.loop-at-test.false)
+returns c =
+    let s = c.args.s.now in
+    let rest = c.split.ensures.rest ∙ take_all (length s - 1) (drop 1 s) (omega (arith, length-drop 1 s)) in
+    let all = all_from_yields_List (λ n. leb (length n) longest_name) _ _ c.all.result c.all.ensures.ran
+    (YieldsList-from_slice_split _ (λ b. eqb b 47) (drop 1 s) rest c.split.ensures.done c.split.ensures.closure (λ x b q k. search (rules, tests)))
+    (λ x b q k. search (rules, tests)) in
+    all ∙ all_short _ ∙ ap short_names (pieces_split (drop 1 s)) ∙ sym (short-full s c.requires)

@@ -13,11 +13,11 @@ fits-requires c =
     let args = c.args in
     path-full _ (change-fits args.s.now args.k args.j c.requires) _ c.path-p.ensures
 
-pub returns-then-not-fits : goal.returns-then-not-fits
-returns-then-not-fits c =
+pub returns-else-fits : goal.returns-else-fits
+returns-else-fits c =
     let args = c.args in
     let fits = change-fits args.s.now args.k args.j c.requires in
-    sym (change_unfit _ fits _ c.path-p.ensures (sym c.fits.ensures ∙ c.if-not-fits.true))
+    c.if-fits.false ∙ sym (change_unfit _ fits _ c.path-p.ensures (sym c.fits.ensures ∙ c.if-fits.false))
 
 pub removed-requires : goal.removed-requires
 removed-requires c = c.requires
@@ -29,10 +29,10 @@ pub parents_good-requires : goal.parents_good-requires
 parents_good-requires c =
     let args = c.args in
     let full = path-full _ (change-fits args.s.now args.k args.j c.requires) _ c.path-p.ensures in
-    (full, sym c.fits.ensures ∙ c.if-not-fits.false)
+    (full, sym c.fits.ensures ∙ c.if-fits.true)
 
-pub returns : goal.returns
-returns c =
+pub returns-then-fits : goal.returns-then-fits
+returns-then-fits c =
     let args = c.args in
     let fits = change-fits args.s.now args.k args.j c.requires in
     c.parents_good.ensures

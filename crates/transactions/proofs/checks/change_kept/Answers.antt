@@ -1,21 +1,22 @@
 -- A change is its fields and its full path, and zero behind that.
 use mathlib.Core.Path.{sym, ◌∙◌}
 use native.Mathlib.Omega.{arith}
+use Rattle.rules.proofs.Fields.{field_two}
 use Rattle.transactions.proofs.ChangesKept.{change-marked, change_over, change_unfull, change-rest}
 use Rattle.transactions.proofs.checks.change_kept.Goals as goal
 
-pub two-fields-requires : goal.two-fields-requires
-two-fields-requires c = omega (arith, c.requires)
+pub number-fields-requires : goal.number-fields-requires
+number-fields-requires c = omega (arith, c.requires)
 
 pub returns-then-fields-ne0 : goal.returns-then-fields-ne0
 returns-then-fields-ne0 c =
-    let fields = c.two-fields.ensures in
-    sym (change-marked c.args.s.now c.args.at fields.bytes c.requires (rw fields.value at c.if-fields-ne0.true))
+    let fields = c.number-fields.ensures.read in
+    sym (change-marked c.args.s.now c.args.at fields.bytes c.requires (rw (fields.value ∙ field_two c.args.s.now c.args.at (omega (arith, c.requires))) at c.if-fields-ne0.true))
 
 pub returns-then-n-gt-LONGEST_PATH : goal.returns-then-n-gt-LONGEST_PATH
 returns-then-n-gt-LONGEST_PATH c =
-    let fields = c.two-fields.ensures in
-    sym (change_over c.args.s.now c.args.at fields.bytes c.requires (rw fields.value at c.if-n-gt-LONGEST_PATH.true))
+    let fields = c.number-fields.ensures.read in
+    sym (change_over c.args.s.now c.args.at fields.bytes c.requires (rw (fields.value ∙ field_two c.args.s.now c.args.at (omega (arith, c.requires))) at c.if-n-gt-LONGEST_PATH.true))
 
 pub overflow_add-from : goal.overflow_add-from
 overflow_add-from c = omega (arith, c.requires)
@@ -26,22 +27,22 @@ overflow_add-from-2 c = omega (arith, c.requires)
 pub slice_bounds-is_full-end : goal.slice_bounds-is_full-end
 slice_bounds-is_full-end c = omega (arith, c.requires)
 
-pub returns-then-not-is_full : goal.returns-then-not-is_full
-returns-then-not-is_full c =
-    let fields = c.two-fields.ensures in
-    let v = fields.value in
-    let full = sym c.is_full.ensures ∙ c.if-not-is_full.true in
-    sym (change_unfull c.args.s.now c.args.at fields.bytes c.requires (rw v at c.if-n-gt-LONGEST_PATH.false) (rw v at full))
+pub returns-else-is_full : goal.returns-else-is_full
+returns-else-is_full c =
+    let fields = c.number-fields.ensures.read in
+    let v = fields.value ∙ field_two c.args.s.now c.args.at (omega (arith, c.requires)) in
+    let full = sym c.is_full.ensures ∙ c.if-is_full.false in
+    c.if-is_full.false ∙ sym (change_unfull c.args.s.now c.args.at fields.bytes c.requires (rw v at c.if-n-gt-LONGEST_PATH.false) (rw v at full))
 
 pub rest_zero-requires : goal.rest_zero-requires
 rest_zero-requires c =
     (c.if-n-gt-LONGEST_PATH.false, omega (arith, c.requires))
 
-pub returns : goal.returns
-returns c =
-    let fields = c.two-fields.ensures in
-    let v = fields.value in
-    let full = sym c.is_full.ensures ∙ c.if-not-is_full.false in
+pub returns-then-is_full : goal.returns-then-is_full
+returns-then-is_full c =
+    let fields = c.number-fields.ensures.read in
+    let v = fields.value ∙ field_two c.args.s.now c.args.at (omega (arith, c.requires)) in
+    let full = sym c.is_full.ensures ∙ c.if-is_full.true in
     let rest = c.rest_zero.ensures in
     (rw v at rest)
     ∙ sym (change-rest c.args.s.now c.args.at fields.bytes c.requires

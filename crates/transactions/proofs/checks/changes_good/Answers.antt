@@ -1,29 +1,18 @@
 -- Changes are good where each is.
-use mathlib.Core.Path.{refl, sym}
-use Rattle.domains.proofs.Turns.{check_failed, check_passed, check_ended}
+use mathlib.Core.Path.{refl, sym, ◌∙◌}
+use native.Mathlib.Omega.{arith}
+use Rattle.std.proofs.Common.{rules, tests}
+use Rattle.std.proofs.lemmas.Iterator.{YieldsList-from_range}
+use Rattle.std.proofs.lemmas.Iterator.Search.{all_from_yields_List}
+use Rattle.transactions.specs.Transaction.{transaction_of}
+use Rattle.domains.proofs.Turns.{asked_at, asked_all}
 use Rattle.transactions.proofs.Good.{changes_check}
 use Rattle.transactions.proofs.checks.changes_good.Goals as goal
 
-pub changes-n-requires : goal.changes-n-requires
-changes-n-requires c = c.requires
-
-pub loop-j-init : goal.loop-j-init
-loop-j-init c = refl
-
-pub change_good-requires : goal.change_good-requires
-change_good-requires c =
-    record { place = c.requires; there = rw (← c.changes-n.ensures.0) c.loop-j-test.true }
-
-pub returns-then-not-change_good : goal.returns-then-not-change_good
-returns-then-not-change_good c =
-    let long = sym c.changes-n.ensures.0 in
-    check_failed changes_check _ _ long _ c.loop-j.invariant c.loop-j-test.true c.change_good.ensures c.if-not-change_good.true-raw
-
-pub loop-j-preserved : goal.loop-j-preserved
-loop-j-preserved c =
-    let long = sym c.changes-n.ensures.0 in
-    check_passed changes_check _ _ long _ c.loop-j.invariant c.loop-j-test.true c.change_good.ensures c.if-not-change_good.false-raw
-
 pub returns : goal.returns
 returns c =
-    check_ended changes_check _ _ (sym c.changes-n.ensures.0) _ c.loop-j.invariant c.loop-j-test.false
+    let changes = (transaction_of c.args.s.now c.args.k).changes in
+    let n = c.changes.result in
+    all_from_yields_List (asked_at changes_check changes) _ _ c.all.result c.all.ensures.ran
+    (YieldsList-from_range 0 n n refl (omega arith)) (λ x b q k. search (rules, tests))
+    ∙ asked_all changes_check changes n (sym c.changes.ensures.0)

@@ -20,21 +20,21 @@ holder-requires c =
 pub known_sender-requires : goal.known_sender-requires
 known_sender-requires c = c.requires.2
 
-pub returns-then-not-known_sender : goal.returns-then-not-known_sender
-returns-then-not-known_sender c =
+pub returns-else-known_sender : goal.returns-else-known_sender
+returns-else-known_sender c =
     let ds = domains_of c.args.domains.now in
     let is_open_lem = sym c.is_open.ensures ∙ c.if-not-is_open.false in
     let whose = ap (λ (o : Connection). known (domain_of o) ds) (sym c.holder.ensures) in
-    sym (open_unknown _ _ is_open_lem (whose ∙ sym c.known_sender.ensures ∙ c.if-not-known_sender.true))
+    c.if-known_sender.false ∙ sym (open_unknown _ _ is_open_lem (whose ∙ sym c.known_sender.ensures ∙ c.if-known_sender.false))
 
 pub changes_good-requires : goal.changes_good-requires
 changes_good-requires c =
     let pre = c.requires in
     record { below = pre.0; kept = pre.1; used = sym c.is_open.ensures ∙ c.if-not-is_open.false }
 
-pub returns : goal.returns
-returns c =
+pub returns-then-known_sender : goal.returns-then-known_sender
+returns-then-known_sender c =
     let ds = domains_of c.args.domains.now in
     let is_open_lem = sym c.is_open.ensures ∙ c.if-not-is_open.false in
     let whose = ap (λ (o : Connection). known (domain_of o) ds) (sym c.holder.ensures) in
-    c.changes_good.ensures ∙ sym (open_known _ _ is_open_lem (whose ∙ sym c.known_sender.ensures ∙ c.if-not-known_sender.false))
+    c.changes_good.ensures ∙ sym (open_known _ _ is_open_lem (whose ∙ sym c.known_sender.ensures ∙ c.if-known_sender.true))

@@ -30,15 +30,15 @@ changes_kept-requires c =
     let pre = c.requires in
     (few, omega (arith, pre.0, pre.1, few))
 
-pub returns-then-not-changes_kept : goal.returns-then-not-changes_kept
-returns-then-not-changes_kept c =
+pub returns-else-changes_kept : goal.returns-else-changes_kept
+returns-else-changes_kept c =
     let s = c.args.s.now in
     let bytes = bytes-known s c.type_inv.s in
     let parts = kept-parts s _ c.requires.0 bytes c.requires.1 c.if-s-at-lt128.false c.if-s-at-ne0.false c.if-n-gt-MOST_CHANGES.false in
-    sym (parts ∙ and_first _ _ (sym c.changes_kept.ensures ∙ c.if-not-changes_kept.true))
+    c.if-changes_kept.false ∙ sym (parts ∙ and_first _ _ (sym c.changes_kept.ensures ∙ c.if-changes_kept.false))
 
-pub overflow_add-at-3 : goal.overflow_add-at-3
-overflow_add-at-3 c =
+pub overflow_add-at-then-changes_kept : goal.overflow_add-at-then-changes_kept
+overflow_add-at-then-changes_kept c =
     let pre = c.requires in
     omega (arith, pre.0)
 
@@ -50,9 +50,9 @@ rest_zero-requires c =
     let pre = c.requires in
     (omega (arith, c.if-n-gt-MOST_CHANGES.false), omega (arith, pre.0, pre.1))
 
-pub returns : goal.returns
-returns c =
+pub returns-then-changes_kept : goal.returns-then-changes_kept
+returns-then-changes_kept c =
     let s = c.args.s.now in
     let bytes = bytes-known s c.type_inv.s in
     let parts = kept-parts s _ c.requires.0 bytes c.requires.1 c.if-s-at-lt128.false c.if-s-at-ne0.false c.if-n-gt-MOST_CHANGES.false in
-    c.rest_zero.ensures ∙ sym (parts ∙ and_rest _ _ (sym c.changes_kept.ensures ∙ c.if-not-changes_kept.false))
+    c.rest_zero.ensures ∙ sym (parts ∙ and_rest _ _ (sym c.changes_kept.ensures ∙ c.if-changes_kept.true))

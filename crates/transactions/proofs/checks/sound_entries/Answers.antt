@@ -9,16 +9,16 @@ pub returns-then-s-ne-TRANSACTIONS_SIZE : goal.returns-then-s-ne-TRANSACTIONS_SI
 unfolding sound_entries
 returns-then-s-ne-TRANSACTIONS_SIZE c = sym (rw (ne_eqb _ _ c.if-s-ne-TRANSACTIONS_SIZE.true))
 
-pub returns-then-not-kept : goal.returns-then-not-kept
+pub returns-else-kept : goal.returns-else-kept
 unfolding sound_entries
-returns-then-not-kept c =
-    sym (rw (eq-eqb _ _ c.if-s-ne-TRANSACTIONS_SIZE.false, sym c.kept.ensures ∙ c.if-not-kept.true))
+returns-else-kept c =
+    c.if-kept.false ∙ sym (rw (eq-eqb _ _ c.if-s-ne-TRANSACTIONS_SIZE.false, sym c.kept.ensures ∙ c.if-kept.false))
 
 pub good-requires : goal.good-requires
 good-requires c =
-    (kept_of _ c.if-s-ne-TRANSACTIONS_SIZE.false (sym c.kept.ensures ∙ c.if-not-kept.false), c.requires)
+    (kept_of _ c.if-s-ne-TRANSACTIONS_SIZE.false (sym c.kept.ensures ∙ c.if-kept.true), c.requires)
 
-pub returns : goal.returns
+pub returns-then-kept : goal.returns-then-kept
 unfolding sound_entries
-returns c =
-    c.good.ensures ∙ sym (rw (eq-eqb _ _ c.if-s-ne-TRANSACTIONS_SIZE.false, sym c.kept.ensures ∙ c.if-not-kept.false))
+returns-then-kept c =
+    c.good.ensures ∙ sym (rw (eq-eqb _ _ c.if-s-ne-TRANSACTIONS_SIZE.false, sym c.kept.ensures ∙ c.if-kept.true))

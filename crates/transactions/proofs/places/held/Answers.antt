@@ -9,17 +9,17 @@ use Rattle.transactions.proofs.places.held.Goals as goal
 pub is_open-requires : goal.is_open-requires
 is_open-requires c = let pre = c.requires in (pre.0, pre.1.whole)
 
-pub returns-then-not-is_open : goal.returns-then-not-is_open
-returns-then-not-is_open c = sym (passes_free _ _ (sym c.is_open.ensures ∙ c.if-not-is_open.true))
+pub returns-else-is_open : goal.returns-else-is_open
+returns-else-is_open c = c.if-is_open.false ∙ sym (passes_free _ _ (sym c.is_open.ensures ∙ c.if-is_open.false))
 
 pub holder-requires : goal.holder-requires
 holder-requires c =
     let pre = c.requires in
-    record { below = pre.0; kept = pre.1; used = sym c.is_open.ensures ∙ c.if-not-is_open.false }
+    record { below = pre.0; kept = pre.1; used = sym c.is_open.ensures ∙ c.if-is_open.true }
 
-pub returns : goal.returns
+pub returns-then-is_open : goal.returns-then-is_open
 unfolding held_by
-returns c =
+returns-then-is_open c =
     let args = c.args in
-    let is_open_lem = sym c.is_open.ensures ∙ c.if-not-is_open.false in
+    let is_open_lem = sym c.is_open.ensures ∙ c.if-is_open.true in
     ap (eqb args.c) c.holder.ensures ∙ sym (passes-taken (held_by args.c) (opened 0) _ is_open_lem)

@@ -3,10 +3,10 @@ use native.Mathlib.Omega.{arith}
 use Rattle.transactions.proofs.Laws.{holder-read}
 use Rattle.transactions.proofs.places.holder.Goals as goal
 
-pub two-requires : goal.two-requires
-two-requires c = let pre = c.requires in omega (arith, pre.below, pre.kept.whole)
+pub number-requires : goal.number-requires
+number-requires c = let pre = c.requires in omega (arith, pre.below, pre.kept.whole)
 
 pub returns : goal.returns
 returns c =
     let pre = c.requires in
-    holder-read c.args.s.now _ pre.below c.two.ensures.bytes pre.kept.whole pre.used _ c.two.ensures
+    holder-read c.args.s.now _ pre.below c.number.ensures.read.bytes pre.kept.whole pre.used _ c.number.ensures.read

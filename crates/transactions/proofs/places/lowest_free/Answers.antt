@@ -9,11 +9,11 @@ use Rattle.domains.specs.Entry.{taken}
 use Rattle.transactions.proofs.Laws.{length-transactions_of, used_byte}
 use Rattle.transactions.proofs.places.lowest_free.Goals as goal
 
-pub returns : goal.returns
+pub returns-clause-found : goal.returns-clause-found
 unfolding taken
-returns c =
+returns-clause-found c =
     let s = c.args.s.now in
     let bytes = bytes-known s c.type_inv.s in
-    c.lowest_free.ensures
+    c.lowest_free.ensures.found
     ∙ lowest_is taken refl (λ x. refl) transaction_size (lit≤ tt) s (transactions_of s) most_transactions (length-transactions_of s)
     (λ i h. used_byte s i h bytes c.requires)

@@ -15,8 +15,8 @@ overflow_mul-at-2 c = let args = c.args in omega (arith, place-within args.s.now
 pub overflow_add-at-2 : goal.overflow_add-at-2
 overflow_add-at-2 c = let args = c.args in omega (arith, place-within args.s.now args.k args.j c.requires)
 
-pub two-requires : goal.two-requires
-two-requires c = let args = c.args in omega (arith, place-within args.s.now args.k args.j c.requires)
+pub number-requires : goal.number-requires
+number-requires c = let args = c.args in omega (arith, place-within args.s.now args.k args.j c.requires)
 
 pub overflow_add-from : goal.overflow_add-from
 overflow_add-from c = let args = c.args in omega (arith, place-within args.s.now args.k args.j c.requires)
@@ -29,11 +29,11 @@ slice_bounds-result-end c =
     let s = c.args.s.now in
     let k = c.args.k in
     let j = c.args.j in
-    omega (arith, place-within s k j c.requires, length-read s k j c.requires _ c.two.ensures, (change-fits s k j c.requires).short)
+    omega (arith, place-within s k j c.requires, length-read s k j c.requires _ c.number.ensures.read, (change-fits s k j c.requires).short)
 
 pub returns : goal.returns
 returns c =
     let s = c.args.s.now in
     let k = c.args.k in
     let j = c.args.j in
-    path-read s k j c.requires _ (length-read s k j c.requires _ c.two.ensures)
+    path-read s k j c.requires _ (length-read s k j c.requires _ c.number.ensures.read)

@@ -8,6 +8,6 @@ pub returns-then-s-at-eq1 : goal.returns-then-s-at-eq1
 unfolding depth_same
 returns-then-s-at-eq1 c = sym (rw (eq-eqb _ _ c.if-s-at-eq1.true))
 
-pub returns : goal.returns
+pub returns-else-s-at-eq1 : goal.returns-else-s-at-eq1
 unfolding depth_same
-returns c = sym (rw (ne_eqb _ _ c.if-s-at-eq1.false))
+returns-else-s-at-eq1 c = sym (rw (ne_eqb _ _ c.if-s-at-eq1.false))

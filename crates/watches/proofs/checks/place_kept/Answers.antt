@@ -62,19 +62,19 @@ rest_zero-requires c =
     let pre = c.requires in
     (omega arith, omega (arith, pre.1, pre.0))
 
-pub returns-then-not-rest_zero : goal.returns-then-not-rest_zero
-returns-then-not-rest_zero c =
-    let rest = sym c.rest_zero.ensures ∙ c.if-not-rest_zero.true in
-    sym (rests-decide (goal.at.returns-then-not-rest_zero c).Else-not-fields_same ∙ and_first _ _ (rw c.path_length-n.ensures at rest))
+pub returns-else-rest_zero : goal.returns-else-rest_zero
+returns-else-rest_zero c =
+    let rest = sym c.rest_zero.ensures ∙ c.if-rest_zero.false in
+    c.if-rest_zero.false ∙ sym (rests-decide (goal.at.returns-else-rest_zero c).Else-not-fields_same ∙ and_first _ _ (rw c.path_length-n.ensures at rest))
 
-pub rest_zero-requires-2 : goal.rest_zero-requires-2
-rest_zero-requires-2 c =
+pub rest_zero-requires-then-rest_zero : goal.rest_zero-requires-then-rest_zero
+rest_zero-requires-then-rest_zero c =
     let pre = c.requires in
     let fields = sym c.fields_same.ensures ∙ c.if-not-fields_same.false in
     (rw c.token_length.ensures (fields_few _ _ fields), omega (arith, pre.1, pre.0))
 
-pub returns : goal.returns
-returns c =
-    let rest = sym c.rest_zero.ensures ∙ c.if-not-rest_zero.false in
-    let token = c.rest_zero-2.ensures in
-    (rw c.token_length.ensures at token) ∙ sym (rests-decide (goal.at.returns c).Else-not-fields_same ∙ and_rest _ _ (rw c.path_length-n.ensures at rest))
+pub returns-then-rest_zero : goal.returns-then-rest_zero
+returns-then-rest_zero c =
+    let rest = sym c.rest_zero.ensures ∙ c.if-rest_zero.true in
+    let token = c.rest_zero-then-rest_zero.ensures in
+    (rw c.token_length.ensures at token) ∙ sym (rests-decide (goal.at.returns-then-rest_zero c).Else-not-fields_same ∙ and_rest _ _ (rw c.path_length-n.ensures at rest))

@@ -10,10 +10,10 @@ use Rattle.watches.proofs.Bytes.{length-watches_of}
 use Rattle.watches.proofs.Laws.{used_byte}
 use Rattle.watches.proofs.places.lowest_free.Goals as goal
 
-pub returns : goal.returns
+pub returns-clause-found : goal.returns-clause-found
 unfolding taken
-returns c =
+returns-clause-found c =
     let s = c.args.s.now in
     let bytes = bytes-known s c.type_inv.s in
-    c.lowest_free.ensures
+    c.lowest_free.ensures.found
     ∙ lowest_is taken refl (λ x. refl) watch_size (lit≤ tt) s (watches_of s) most_watches (length-watches_of s) (λ i h. used_byte s i h bytes c.requires)

@@ -8,17 +8,17 @@ use Rattle.watches.proofs.places.owned.Goals as goal
 pub used-requires : goal.used-requires
 used-requires c = let pre = c.requires in (pre.0, pre.1.whole)
 
-pub returns-then-not-used : goal.returns-then-not-used
-returns-then-not-used c = sym (passes_free _ _ (sym c.used.ensures ∙ c.if-not-used.true))
-
 pub owner-requires : goal.owner-requires
 owner-requires c =
     let pre = c.requires in
-    record { below = pre.0; kept = pre.1; used = sym c.used.ensures ∙ c.if-not-used.false }
+    record { below = pre.0; kept = pre.1; used = sym c.used.ensures ∙ c.if-used.true }
 
-pub returns : goal.returns
+pub returns-then-used : goal.returns-then-used
 unfolding owned_by
-returns c =
+returns-then-used c =
     let args = c.args in
-    let taken = sym c.used.ensures ∙ c.if-not-used.false in
+    let taken = sym c.used.ensures ∙ c.if-used.true in
     ap (eqb args.c) c.owner.ensures ∙ sym (passes-taken (owned_by args.c) nobody _ taken)
+
+pub returns-else-used : goal.returns-else-used
+returns-else-used c = c.if-used.false ∙ sym (passes_free _ _ (sym c.used.ensures ∙ c.if-used.false))

@@ -3,10 +3,10 @@ use native.Mathlib.Omega.{arith}
 use Rattle.watches.proofs.Laws.{owner-read}
 use Rattle.watches.proofs.places.owner.Goals as goal
 
-pub two-requires : goal.two-requires
-two-requires c = let pre = c.requires in omega (arith, pre.below, pre.kept.whole)
+pub number-requires : goal.number-requires
+number-requires c = let pre = c.requires in omega (arith, pre.below, pre.kept.whole)
 
 pub returns : goal.returns
 returns c =
     let pre = c.requires in
-    owner-read c.args.s.now _ pre.below c.two.ensures.bytes pre.kept.whole pre.used _ c.two.ensures
+    owner-read c.args.s.now _ pre.below c.number.ensures.read.bytes pre.kept.whole pre.used _ c.number.ensures.read
