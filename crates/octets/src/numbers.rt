@@ -28,11 +28,9 @@ pub fn number<const N: usize>(s: &[u8], at: usize) -> u64
     ensures read { Read s.now at N result }
     ensures fits { result < 256 ^ N }
 {
-    let mut n: u64 = 0;
-    for i in 0..N {
-        n = n * 256 + s[at + i] as u64;
-    }
-    n
+    let mut bytes = [0u8; 8];
+    copy(&mut bytes, 8 - N, &s[at..at + N]);
+    u64::from_be_bytes(bytes)
 }
 
 // Two bytes as one number, most significant first.
