@@ -35,9 +35,6 @@ module _ (size : ℕ) where
         let e : k + length (x ∷ answers) ≡ k + 1 + length answers = omega arith in
         (a.0, answered_more (k + 1) answers b (freed_at x k s) a.1 (rw e at h))
 
-    pub freed_none : (s : Octets) → Freed size says 0 s s
-    freed_none s = record { answers = []; long = refl; answered = tt; left = refl }
-
     pub freed_next : (k : ℕ) (s t : Octets) → Freed size says k s t → (b : Bool) → says t k b → (r : Octets) → r ≡ freed_at b k t
         → Freed size says (k + 1) s r
     freed_next k s t f b h r e =
