@@ -14,7 +14,7 @@ use Rattle.rules.specs.Octets.{Octets, little_endian, chunks}
 use Rattle.rules.specs.Domain.{Connection, domain_of}
 use Rattle.rules.specs.Layout.{opened, Transaction, Transactions, transactions_of, domains_of}
 use Rattle.rules.specs.Sound.{sound_table, sound_domains, sound_watches, known}
-use Rattle.rules.specs.Call.{Tables, call_number, sized_tables, sound, len_of, frame_verdict, request_verdict}
+use Rattle.rules.specs.Call.{Tables, handled, wrong_size, unsound, stranger, broken, overlong, sized_tables, sound, len_of, frame_verdict, request_verdict}
 use Rattle.rules.proofs.Tables.{length-chunks, decoded_at}
 use Rattle.rules.proofs.EntryLayouts.{whole, map_whole}
 use Rattle.domains.specs.Entry.{taken}
@@ -72,21 +72,21 @@ module _ (copies transactions : Octets) (i : ℕ) where
 -- ── the message's frame ──
 
 module _ (m : Octets) where
-  pub frame_short : length m < header_size → call_number (frame_verdict m) ≡ 4
-  unfolding frame_verdict call_number
+  pub frame_short : length m < header_size → frame_verdict m ≡ broken
+  unfolding frame_verdict
   frame_short h = rw (lt-ltb (length m) header_size h)
 
   module _ (n : ℕ) (h : header_size ≤ length m) (e : n ≡ little_endian m 12) where
-    pub frame_overlong : longest_payload < n → call_number (frame_verdict m) ≡ 5
-    unfolding frame_verdict call_number len_of
+    pub frame_overlong : longest_payload < n → frame_verdict m ≡ overlong
+    unfolding frame_verdict len_of
     frame_overlong l = rw (le-ltb (length m) header_size h, ← e, lt-ltb longest_payload n l)
 
-    pub frame_whole : n ≤ longest_payload → length m ≡ header_size + n → call_number (frame_verdict m) ≡ 0
-    unfolding frame_verdict call_number len_of
+    pub frame_whole : n ≤ longest_payload → length m ≡ header_size + n → frame_verdict m ≡ handled
+    unfolding frame_verdict len_of
     frame_whole l q = rw (le-ltb (length m) header_size h, ← e, le-ltb longest_payload n l, eq-eqb (length m) (header_size + n) q)
 
-    pub frame_broken : n ≤ longest_payload → (length m ≡ header_size + n → ⊥) → call_number (frame_verdict m) ≡ 4
-    unfolding frame_verdict call_number len_of
+    pub frame_broken : n ≤ longest_payload → (length m ≡ header_size + n → ⊥) → frame_verdict m ≡ broken
+    unfolding frame_verdict len_of
     frame_broken l q = rw (le-ltb (length m) header_size h, ← e, le-ltb longest_payload n l, ne_eqb (length m) (header_size + n) q)
 
 -- ── the tables ──
@@ -122,33 +122,33 @@ module _ (t : Tables) where
             sound t ≡ sound_copies (transactions_of t.transactions) (chunks most_transactions table_size t.copies)
         copies-left e = transactions-left ∙ and_rest _ _ e
 
--- ── the call number ──
+-- ── the verdict ──
 
 module _ (t : Tables) (reply events : Octets) (c : Connection) (m : Octets) where
-  pub unsized_tables : sized_tables t ≡ false → call_number (request_verdict t reply events c m) ≡ 1
-  unfolding request_verdict call_number
+  pub unsized_tables : sized_tables t ≡ false → request_verdict t reply events c m ≡ wrong_size
+  unfolding request_verdict
   unsized_tables z = rw z
 
   module _ (z : sized_tables t ≡ true) where
-    pub unsized_reply : (length reply ≡ reply_size → ⊥) → call_number (request_verdict t reply events c m) ≡ 1
-    unfolding request_verdict call_number
+    pub unsized_reply : (length reply ≡ reply_size → ⊥) → request_verdict t reply events c m ≡ wrong_size
+    unfolding request_verdict
     unsized_reply r = rw (z, ne_eqb (length reply) reply_size r)
 
     module _ (r : length reply ≡ reply_size) where
-      pub unsized_events : (length events ≡ events_size → ⊥) → call_number (request_verdict t reply events c m) ≡ 1
-      unfolding request_verdict call_number
+      pub unsized_events : (length events ≡ events_size → ⊥) → request_verdict t reply events c m ≡ wrong_size
+      unfolding request_verdict
       unsized_events e = rw (z, eq-eqb (length reply) reply_size r, ne_eqb (length events) events_size e)
 
       module _ (e : length events ≡ events_size) where
-        pub unsound-tables : sound t ≡ false → call_number (request_verdict t reply events c m) ≡ 2
-        unfolding request_verdict call_number
+        pub unsound-tables : sound t ≡ false → request_verdict t reply events c m ≡ unsound
+        unfolding request_verdict
         unsound-tables s = rw (z, eq-eqb (length reply) reply_size r, eq-eqb (length events) events_size e, s)
 
         module _ (s : sound t ≡ true) where
-          pub unknown-sender : known (domain_of c) (domains_of t.domains) ≡ false → call_number (request_verdict t reply events c m) ≡ 3
-          unfolding request_verdict call_number
+          pub unknown-sender : known (domain_of c) (domains_of t.domains) ≡ false → request_verdict t reply events c m ≡ stranger
+          unfolding request_verdict
           unknown-sender k = rw (z, eq-eqb (length reply) reply_size r, eq-eqb (length events) events_size e, s, k)
 
-          pub frame_left : known (domain_of c) (domains_of t.domains) ≡ true → call_number (request_verdict t reply events c m) ≡ call_number (frame_verdict m)
+          pub frame_left : known (domain_of c) (domains_of t.domains) ≡ true → request_verdict t reply events c m ≡ frame_verdict m
           unfolding request_verdict
           frame_left k = rw (z, eq-eqb (length reply) reply_size r, eq-eqb (length events) events_size e, s, k)

@@ -24,17 +24,19 @@ use Rattle.rules.specs.Call.{sound, world_of, type_of, tx_of, len_of, payload_of
 use Rattle.rules.specs.Call.{request_by, request_call}
 use Rattle.rules.proofs.Compare.{both_true}
 use Rattle.rules.proofs.Fields.{length_big}
-use Rattle.replies.specs.declared.kinds.Reply.{Reply}
-use Rattle.replies.specs.declared.kinds.Reply.TheVariants.{Done, Refused}
+use Rattle.std.specs.Prelude.{Ok, Err}
 use Rattle.replies.proofs.Payloads.{payload-fits}
+use Rattle.replies.specs.Meant.{Reply}
 use Rattle.replies.specs.Framed.{Told, Held, Framed}
-use Rattle.replies.specs.Handled.{Handled}
-use Rattle.replies.specs.declared.kinds.Outcome.{Outcome}
+use Rattle.replies.specs.Handled.{Outcome, Handled, reply_of, told_of}
 use Rattle.replies.specs.Does.{all_lent, Shows}
 use Rattle.requests.specs.Served.{Served}
 use Rattle.senders.specs.Speaks.{Speaks}
 use Rattle.senders.specs.declared.Sender.{Sender}
 use Rattle.haabuvilk.specs.Lent.{requested, RequestMeets}
+use Rattle.haabuvilk.specs.Checks.{Checked, refusal_meant, verdict_meant}
+use Rattle.haabuvilk.specs.declared.refusal.Refusal.{Refusal}
+use Rattle.haabuvilk.specs.declared.refusal.Refusal.TheVariants.{WrongSize, Unsound, Stranger, Broken, Overlong, NoEvent}
 
 -- ── the number 0 ──
 
@@ -96,21 +98,24 @@ module _ (t : Tables) (reply events : Octets) (c : Connection) (m : Octets) wher
 
   -- ── the call ──
 
-  by_number : (n : ℕ) (v : Verdict) → n ≡ call_number v → (n ≡ 0 → ⊥) → requested n 0 0 0 0 t reply events ≡ request_by t reply events v c m
-  unfolding request_by turned_away call_number is_handled
-  by_number n handled e z = absurd (z e)
-  by_number n wrong_size e z = rw e refl
-  by_number n unsound e z = rw e refl
-  by_number n stranger e z = rw e refl
-  by_number n broken e z = rw e refl
-  by_number n overlong e z = rw e refl
-  by_number n no_event e z = rw e refl
+  by_refusal : (x : Refusal) → requested (call_number (refusal_meant x)) 0 0 0 0 t reply events ≡ request_by t reply events (refusal_meant x) c m
+  unfolding request_by turned_away is_handled
+  by_refusal WrongSize = refl
+  by_refusal Unsound = refl
+  by_refusal Stranger = refl
+  by_refusal Broken = refl
+  by_refusal Overlong = refl
+  by_refusal NoEvent = refl
 
-  -- where the number is not 0
-  pub turned_away_lem : (n : ℕ) → n ≡ call_number (request_verdict t reply events c m) → (n ≡ 0 → ⊥)
-      → RequestMeets t reply events c m (requested n 0 0 0 0 t reply events)
+  -- where the message is not to be handled
+  pub turned_away_lem : (n : ℕ) (v : Checked) (x : Refusal) → verdict_meant v ≡ request_verdict t reply events c m → v ≡ Err x →
+      n ≡ call_number (refusal_meant x) → RequestMeets t reply events c m (requested n 0 0 0 0 t reply events)
   unfolding request_call
-  turned_away_lem n e z = by_number n (request_verdict t reply events c m) e z
+  turned_away_lem n v x e h k = rw (k, ← e, h) (by_refusal x)
+
+  pub is_to_be : (v : Checked) (x : ⊤) → verdict_meant v ≡ request_verdict t reply events c m → v ≡ Ok x → call_number (request_verdict t reply events c m) ≡ 0
+  unfolding call_number
+  is_to_be v x e h = rw (← e, h) refl
 
   handled_only : (v : Verdict) → call_number v ≡ 0 → request_by t reply events v c m ≡ delivered t reply events m (outcome (world_of t) c m)
   unfolding request_by call_number is_handled
@@ -126,8 +131,9 @@ module _ (t : Tables) (reply events : Octets) (c : Connection) (m : Octets) wher
   pub answered : (type tx : ℕ) (d : Connection) {after : Tables} {told replied recorded : Octets} {r : Outcome} {l : ℕ}
       → call_number (request_verdict t reply events c m) ≡ 0 → type ≡ little_endian m 0 → tx ≡ little_endian m 8 → d ≡ c
       → Handled (outcome_of (world_of t) d tx (parse d type tx (take (length m - header_size) (drop header_size m)))) after reply told events recorded r
-      → Framed m r.reply told replied l
-      → RequestMeets t reply events c m (requested 0 l r.events r.page r.channel after replied recorded)
+      → Framed m (reply_of r) told replied l
+      → RequestMeets t reply events c m
+      (requested 0 l (told_of (λ d. d.events) r) (told_of (λ d. d.page) r) (told_of (λ d. d.channel) r) after replied recorded)
   unfolding request_call outcome type_of tx_of delivered call_number
   answered type tx d {after} {told} {replied} {recorded} {r} {l} e y x s h f =
       let h' : Handled (outcome (world_of t) c m) after reply told events recorded r = rw (← y, ← x, ← s, ← payload-part m) h in
@@ -144,8 +150,8 @@ shown t reply events = record { nodes = refl; copies = refl; watches = refl; tra
 told_held : (a : A.Reply) (r : Reply) (before after : Octets) → Told a r before after → length before ≡ reply_size → length after ≡ length before → Held r
 told_held (done s) r before after t b e =
     subst Held (sym t.0) (subst (λ (k : ℕ). header_size + length s ≤ k) b (payload-fits s before after t.1 e (rw b (omega arith))))
-told_held (refused x) (Done n) before after t b e = absurd (none-ne-some x t.0)
-told_held (refused x) (Refused y) before after t b e = tt
+told_held (refused x) (Ok n) before after t b e = absurd (none-ne-some x t.0)
+told_held (refused x) (Err y) before after t b e = tt
 
 records-long : (rs : List Record) → length rs ≤ length (flat_map record_bytes rs)
 unfolding flat_map record_bytes
@@ -154,10 +160,10 @@ records-long (r ∷ rs) = simp (length-append, length_big) (omega (arith, record
 
 module _ {o : W.Outcome} {t : Tables} {replied replied' recorded recorded' : Octets} {r : Outcome} (h : Handled o t replied replied' recorded recorded' r) where
   -- the payload told is one that the reply has room for
-  pub reply_held : length replied ≡ reply_size → length replied' ≡ length replied → Held r.reply
-  reply_held b e = told_held o.reply r.reply replied replied' h.reply b e
+  pub reply_held : length replied ≡ reply_size → length replied' ≡ length replied → Held (reply_of r)
+  reply_held b e = told_held o.reply (reply_of r) replied replied' h.reply b e
 
   -- no more records than bytes that hold them
-  pub records_fit : length recorded ≡ events_size → length recorded' ≡ length recorded → r.events ≤ events_size
+  pub records_fit : length recorded ≡ events_size → length recorded' ≡ length recorded → told_of (λ d. d.events) r ≤ events_size
   unfolding paste
   records_fit b e = omega (arith, h.count, records-long o.records, simp length-append at (ap length h.events))

@@ -4,11 +4,12 @@ ghost use Rattle.std.proofs.Math.Option.{none};
 ghost use Rattle.rules.specs.Size.{most_transactions, table_size, copies_size, transactions_size};
 ghost use Rattle.rules.specs.Octets.{chunks};
 ghost use Rattle.rules.specs.Layout.{transactions_of};
-ghost use Rattle.rules.specs.Call.{call_number, sized_tables, sound, frame_verdict, request_verdict};
+ghost use Rattle.rules.specs.Call.{sized_tables, sound, frame_verdict, request_verdict};
 ghost use Rattle.transactions.specs.Checks.{sound_copies};
 ghost use Rattle.replies.specs.Does.{tables};
-ghost use Rattle.haabuvilk.specs.Checks.{sound_copy};
+ghost use Rattle.haabuvilk.specs.Checks.{sound_copy, verdict_meant};
 
+use crate::refusal::Refusal;
 use crate::sizes::sized_tables;
 use domains::checks::sound_domains;
 use domains::places::known_sender;
@@ -39,12 +40,10 @@ fn sound_copies(copies: &[u8], transactions: &[u8]) -> bool
     requires { (length copies.now ≡ copies_size) × (length transactions.now ≡ transactions_size) }
     ensures { result ≡ sound_copies (transactions_of transactions.now) (chunks most_transactions table_size copies.now) }
 {
-    let mut i = 0;
-    while i < TRANSACTIONS {
+    for i in 0..TRANSACTIONS {
         if !sound_copy(copies, transactions, i) {
             return false;
         }
-        i += 1;
     }
     true
 }
@@ -76,25 +75,25 @@ pub fn sound_tables(
     sound_copies(copies, transactions)
 }
 
-// The call number for a message's header and length alone.
-fn frame(message: &[u8]) -> u32
-    ensures { result ≡ call_number (frame_verdict message.now) }
+// Whether a message is whole, by its header and its length alone.
+fn frame(message: &[u8]) -> Result<(), Refusal>
+    ensures { verdict_meant result ≡ frame_verdict message.now }
 {
     let n = message.len();
     if n < HEADER_SIZE {
-        return 4;
+        return Err(Refusal::Broken);
     }
     let len = number32(message, LEN_AT);
     if LONGEST_PAYLOAD < len {
-        return 5;
+        return Err(Refusal::Overlong);
     }
     if n == HEADER_SIZE + len as usize {
-        return 0;
+        return Ok(());
     }
-    4
+    Err(Refusal::Broken)
 }
 
-// The call number for what is lent, before the request is looked at: 0 where it is to be handled.
+// Whether a message is to be handled, by what is lent, before its request is looked at.
 pub fn verdict(
     nodes: &[u8],
     copies: &[u8],
@@ -105,25 +104,25 @@ pub fn verdict(
     message: &[u8],
     reply: &[u8],
     events: &[u8],
-) -> u32
-    ensures { result ≡ call_number (request_verdict
+) -> Result<(), Refusal>
+    ensures { verdict_meant result ≡ request_verdict
         (tables nodes.now copies.now watches.now transactions.now domains.now)
-        reply.now events.now sender message.now) }
+        reply.now events.now sender message.now }
 {
     if !sized_tables(nodes, copies, watches, transactions, domains) {
-        return 1;
+        return Err(Refusal::WrongSize);
     }
     if reply.len() != REPLY_SIZE {
-        return 1;
+        return Err(Refusal::WrongSize);
     }
     if events.len() != EVENTS_SIZE {
-        return 1;
+        return Err(Refusal::WrongSize);
     }
     if !sound_tables(nodes, copies, watches, transactions, domains) {
-        return 2;
+        return Err(Refusal::Unsound);
     }
     if !known_sender(domains, sender) {
-        return 3;
+        return Err(Refusal::Stranger);
     }
     frame(message)
 }

@@ -1,9 +1,9 @@
 // The event message of one record for one watch.
 ghost use Rattle.haabuvilk.specs.Lent.{messaged, MessageMeets};
 
+use crate::refusal::{HANDLED, Refusal};
 use crate::sizes::sized_message;
 use domains::checks::sound_domains;
-use events::Sent;
 use watches::checks::sound_watches;
 
 // Puts the event message to the front of the lent buffer, and answers 0; or 1, 2 or 6 with the buffer unaltered.
@@ -22,19 +22,18 @@ pub fn haabuvilk_event_message<'a>(
 {
     *message_length = 0;
     if !sized_message(watches, domains, events, message) {
-        return 1;
+        return Refusal::WrongSize.number();
     }
     if !sound_domains(domains) {
-        return 2;
+        return Refusal::Unsound.number();
     }
     if !sound_watches(watches, domains) {
-        return 2;
+        return Refusal::Unsound.number();
     }
-    match events::message::message(watches, events, event_count, record, watch, message) {
-        Sent::Message(n) => {
-            *message_length = n;
-            0
-        }
-        Sent::Nothing => 6,
-    }
+    let sent = events::message::message(watches, events, event_count, record, watch, message);
+    let Some(n) = sent else {
+        return Refusal::NoEvent.number();
+    };
+    *message_length = n;
+    HANDLED
 }

@@ -6,6 +6,7 @@ ghost use Rattle.rules.specs.Node.{fresh_table};
 ghost use Rattle.replies.specs.Does.{tables};
 ghost use Rattle.haabuvilk.specs.Lent.{refreshed, FreshMeets};
 
+use crate::refusal::{HANDLED, Refusal};
 use crate::sizes::sized_tables;
 use octets::parts::clear;
 
@@ -40,12 +41,12 @@ pub fn haabuvilk_fresh(
         (refreshed result (tables nodes.new copies.new watches.new transactions.new domains.new)) }
 {
     if !sized_tables(nodes, copies, watches, transactions, domains) {
-        return 1;
+        return Refusal::WrongSize.number();
     }
     root_only(nodes);
     empty(copies);
     empty(watches);
     empty(transactions);
     empty(domains);
-    0
+    HANDLED
 }

@@ -4,5 +4,6 @@
 pub mod checks;
 pub mod event_message;
 pub mod fresh;
+pub mod refusal;
 pub mod request;
 pub mod sizes;

@@ -3,14 +3,12 @@ ghost use Rattle.replies.specs.Does.{tables};
 ghost use Rattle.haabuvilk.specs.Lent.{requested, RequestMeets};
 
 use crate::checks::verdict;
+use crate::refusal::HANDLED;
 use octets::numbers::number32;
 use octets::sizes::{HEADER_SIZE, TX_AT};
 use replies::frame::framed;
 use requests::handle::handle;
 use senders::Sender;
-
-// The call number of a message that is to be handled.
-const TO_HANDLE: u32 = 0;
 
 // Handles a message and answers 0; or answers another call number with all four results 0 and nothing lent altered.
 pub fn haabuvilk_request(
@@ -39,7 +37,7 @@ pub fn haabuvilk_request(
     *event_count = 0;
     *page = 0;
     *channel = 0;
-    let v = verdict(
+    let verdict = verdict(
         nodes,
         copies,
         watches,
@@ -50,12 +48,12 @@ pub fn haabuvilk_request(
         reply,
         events,
     );
-    if v != TO_HANDLE {
-        return v;
+    if let Err(refusal) = verdict {
+        return refusal.number();
     }
     let kind = number32(message, 0);
     let tx = number32(message, TX_AT);
-    let o = handle(
+    let outcome = handle(
         nodes,
         copies,
         watches,
@@ -68,10 +66,17 @@ pub fn haabuvilk_request(
         reply,
         events,
     );
-    let r = o.reply;
-    *reply_length = framed(message, reply, r);
-    *event_count = o.events as u32;
-    *page = o.page;
-    *channel = o.channel;
-    0
+    match outcome {
+        Ok(done) => {
+            *reply_length = framed(message, reply, Ok(done.length));
+            *event_count = done.events as u32;
+            *page = done.page;
+            *channel = done.channel;
+            HANDLED
+        }
+        Err(e) => {
+            *reply_length = framed(message, reply, Err(e));
+            HANDLED
+        }
+    }
 }

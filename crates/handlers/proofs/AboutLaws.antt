@@ -15,16 +15,16 @@ use Rattle.rules.specs.Sound.{known}
 use Rattle.rules.specs.World.{World, introduced_text}
 use Rattle.rules.proofs.Joined.{paste-behind, set-paste}
 use Rattle.octets.specs.Numbers.{Put}
-use Rattle.replies.specs.declared.kinds.Reply.TheVariants.{Done}
+use Rattle.std.specs.Prelude.{Ok}
 use Rattle.replies.specs.Framed.{Told}
 
 -- `T` or `F`, as the domains say
 module _ (w : World) (d : Domain) (ds : Domains) (before after : Octets) (e : w.domains ≡ ds) where
-  pub told-introduced : known d ds ≡ true → after ≡ paste header_size (84 ∷ 0 ∷ []) before → Told (done (introduced_text w d ++ nul)) (Done 2) before after
+  pub told-introduced : known d ds ≡ true → after ≡ paste header_size (84 ∷ 0 ∷ []) before → Told (done (introduced_text w d ++ nul)) (Ok 2) before after
   unfolding introduced_text text
   told-introduced k p = rw (e, k) (refl, p)
 
-  pub told-unknown : known d ds ≡ false → after ≡ paste header_size (70 ∷ 0 ∷ []) before → Told (done (introduced_text w d ++ nul)) (Done 2) before after
+  pub told-unknown : known d ds ≡ false → after ≡ paste header_size (70 ∷ 0 ∷ []) before → Told (done (introduced_text w d ++ nul)) (Ok 2) before after
   unfolding introduced_text text
   told-unknown k p = rw (e, k) (refl, p)
 
@@ -58,8 +58,8 @@ base-text d = ap (λ (t : Octets). front ++ (t ++ nul)) (append-nil (decimal d))
 pub base-told : (d : Domain) (end : ℕ) (before l₁ l₂ : Octets) → length before ≡ reply_size → l₁ ≡ paste header_size front before
     → Put 30 (decimal d) l₁ l₂ end →
     end < length l₂ →
-    Told (done (path_text (base d) ++ nul)) (Done (end + 1 - 16)) before (set l₂ end 0)
+    Told (done (path_text (base d) ++ nul)) (Ok (end + 1 - 16)) before (set l₂ end 0)
 unfolding front text
 base-told d end before l₁ l₂ b e p h =
     let n = number-ended d 30 end front before l₁ l₂ refl b (omega arith) e p h in
-    (ap Done (n.0 ∙ ap length (sym (base-text d))), n.1 ∙ ap (λ (x : Octets). paste header_size x before) (sym (base-text d)))
+    (ap Ok (n.0 ∙ ap length (sym (base-text d))), n.1 ∙ ap (λ (x : Octets). paste header_size x before) (sym (base-text d)))

@@ -28,9 +28,14 @@ use Rattle.rules.proofs.GoodAnswers.{change-good, parents-absent}
 use Rattle.rules.proofs.GoodRequests.{AskedGood}
 use Rattle.rules.proofs.SoundWorld.{TableSound, asked-sound, table_encoded, table_decoded}
 use Rattle.transactions.specs.Transaction.{change_given}
-use Rattle.nodes.specs.Answers.{Ready, effect_meant}
+use Rattle.nodes.specs.Answers.{Ready, change_of, effect_meant, told}
+use Rattle.nodes.specs.Answers as nodes
 use Rattle.nodes.specs.declared.kinds.Effect.{Effect}
-use Rattle.nodes.specs.declared.kinds.Effect.TheVariants.{Wrote, Removed}
+use Rattle.nodes.specs.declared.kinds.Effect.TheVariants.{Nothing, Wrote, Removed}
+use Rattle.nodes.specs.declared.kinds.Given.{Given}
+use Rattle.replies.specs.Handled.{Outcome, with_events}
+use Rattle.replies.specs.declared.kinds.Errno.{Errno}
+use Rattle.std.specs.Prelude.{Ok, Err}
 use Rattle.payload.proofs.Kept.{ask-good, ask-fits}
 use Rattle.payload.specs.Meaning.{ask_meant, AskSound}
 use Rattle.payload.specs.declared.answer.Ask.{Ask}
@@ -100,20 +105,40 @@ module _ (d : Domain) (ns : Names) (t : Table) where
     unfolding answer
     table_still e = (answered_okay a (reach t ns).left (reach t ns).slot).1 e
 
--- ── the effect of a change ──
+-- ── the change of an answer ──
 
--- an effect is this change of the path
-abbrev pub Makes : Effect → Octets → Bool → ℕ → Type 0
-Makes x path removed parents = effect_meant x (names_in path) ≡ some (change_given removed parents path)
+-- an answer makes this change of the path, or none
+abbrev pub Makes : nodes.Answer → Octets → Bool → ℕ → Type 0
+Makes r path removed parents = change_of r (names_in path) ≡ some (change_given removed parents path)
 
-module _ (path : Octets) (x : Effect) where
-  pub wrote_makes : (parents : ℕ) → x ≡ Wrote parents → Makes x path false parents
-  unfolding change_given
-  wrote_makes parents e = ap (λ (y : Effect). effect_meant y (names_in path)) e
+abbrev pub Still : nodes.Answer → Octets → Type 0
+Still r path = change_of r (names_in path) ≡ none
 
-  pub removed_makes : x ≡ Removed → Makes x path true 0
-  unfolding change_given
-  removed_makes e = ap (λ (y : Effect). effect_meant y (names_in path)) e
+module _ (path : Octets) (r : nodes.Answer) where
+  pub refused-still : (e : Errno) → r ≡ Err e → Still r path
+  refused-still e h = ap (λ (y : nodes.Answer). change_of y (names_in path)) h
+
+  module _ (g : Given) (h : r ≡ Ok g) where
+    does : (x : Effect) → g.effect ≡ x → change_of r (names_in path) ≡ effect_meant x (names_in path)
+    does x e = ap (λ (y : nodes.Answer). change_of y (names_in path)) h ∙ ap (λ (y : Effect). effect_meant y (names_in path)) e
+
+    pub nothing-still : g.effect ≡ Nothing → Still r path
+    nothing-still e = does Nothing e
+
+    pub wrote_makes : (parents : ℕ) → g.effect ≡ Wrote parents → Makes r path false parents
+    unfolding change_given
+    wrote_makes parents e = does (Wrote parents) e
+
+    pub removed_makes : g.effect ≡ Removed → Makes r path true 0
+    unfolding change_given
+    removed_makes e = does Removed e
+
+-- what an answer tells, as the outcome
+pub given_told : (r : nodes.Answer) (g : Given) (n : ℕ) (o : Outcome) → r ≡ Ok g → o ≡ with_events (Ok g.length) n → o ≡ with_events (told r) n
+given_told r g n o h p = rw h p
+
+pub refused_told : (r : nodes.Answer) (e : Errno) (o : Outcome) → r ≡ Err e → o ≡ Err e → o ≡ with_events (told r) 0
+refused_told r e o h p = rw h p
 
 -- ── a request in its bounds ──
 

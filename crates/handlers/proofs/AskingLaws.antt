@@ -29,22 +29,19 @@ use Rattle.slots.proofs.Canonical.{sound_canonical}
 use Rattle.transactions.specs.Transaction.{transaction_of, change_given, changed_by, RoomForChange}
 use Rattle.payload.specs.Meaning.{ask_meant}
 use Rattle.payload.specs.declared.answer.Ask.{Ask}
-use Rattle.nodes.specs.Answers.{effect_meant, Answers, Answered}
+use Rattle.nodes.specs.Answers.{Answer, Answers, Answered, change_of, told}
 use Rattle.replies.specs.declared.kinds.Errno.TheVariants.{NoSpace}
-use Rattle.replies.specs.declared.kinds.Reply.{Reply}
-use Rattle.replies.specs.declared.kinds.Reply.TheVariants.{Refused}
-use Rattle.nodes.specs.declared.kinds.Effect.{Effect}
-use Rattle.nodes.specs.declared.kinds.Effect.TheVariants.{Nothing}
-use Rattle.nodes.specs.declared.kinds.Answer.{Answer}
+use Rattle.std.specs.Prelude.{Err}
+use Rattle.nodes.specs.declared.kinds.Given.{Given}
+use Rattle.replies.specs.Meant.{Reply}
 use Rattle.replies.specs.Framed.{Told}
-use Rattle.replies.specs.Handled.{Handled}
-use Rattle.replies.specs.declared.kinds.Outcome.{Outcome}
+use Rattle.replies.specs.Handled.{Outcome, Handled, reply_of, with_events}
 use Rattle.replies.specs.Does.{tables, its_nodes, its_watches, its_domains}
 use Rattle.handlers.specs.Asking.{copy_in, Asking, InCopy, ninth_reply}
 use Rattle.handlers.proofs.Alone.{copies-alone, transactions-alone}
-use Rattle.handlers.proofs.Ways.{outcome_of, same_tables_lem, done_so}
+use Rattle.handlers.proofs.Ways.{back, same_tables_lem, done_so}
 use Rattle.handlers.proofs.StartLaws.{copy_put}
-use Rattle.handlers.proofs.Answers.{change_okay, table_still, Makes, left-sound, path-short, parents_small}
+use Rattle.handlers.proofs.Answers.{change_okay, table_still, Makes, Still, left-sound, path-short, parents_small}
 
 -- ── bytes ──
 
@@ -89,7 +86,7 @@ copy_of_lem w cs k e h =
 -- ── replies ──
 
 -- a reply that said `OK`, and is refused for want of space
-over_told : (r : Reply) (before after : Octets) → length before ≡ reply_size → Told OK r before after → Told (refused ENOSPC) (Refused NoSpace) before after
+over_told : (r : Reply) (before after : Octets) → length before ≡ reply_size → Told OK r before after → Told (refused ENOSPC) (Err NoSpace) before after
 unfolding OK text errno_text
 over_told r before after l h = (refl, ap (paste header_size (errno_text ENOSPC ++ nul)) h.1 ∙ paste_over 16 _ _ before (omega arith) (rw l (omega arith)))
 
@@ -106,29 +103,29 @@ module _ (a : A.Answer) where
 
 -- what is told in a transaction that has eight changes, by an answer on a table of the copy's bytes
 module _ (d : Domain) (a : P.Ask) (path copied t t' reply reply' : Octets) (here : t ≡ copied) (r : Answer)
-    (told : Answered d a path t t' reply reply' r) (o : Outcome) where
+    (told_so : Answered d a path t t' reply reply' r) (o : Outcome) where
   abbrev own : A.Answer
   own = answer d a (names_in path) (table_of copied)
 
   abbrev Eighth : Type 0
-  Eighth = Told (ninth_reply own) o.reply reply reply' × (o ≡ outcome_of o.reply 0)
+  Eighth = Told (ninth_reply own) (reply_of o) reply reply' × (o ≡ with_events (reply_of o) 0)
 
   answered_here : Answers (names_in path) own t' reply reply' r
-  answered_here = subst (λ (x : Octets). Answers (names_in path) (answer d a (names_in path) (table_of x)) t' reply reply' r) here told
+  answered_here = subst (λ (x : Octets). Answers (names_in path) (answer d a (names_in path) (table_of x)) t' reply reply' r) here told_so
 
-  pub eight_still : r.effect ≡ Nothing → o ≡ outcome_of r.reply 0 → Eighth
+  pub eight_still : Still r path → o ≡ with_events (told r) 0 → Eighth
   eight_still e p =
-      let q = still_reply own (sym answered_here.change ∙ ap (λ (y : Effect). effect_meant y (names_in path)) e) in
-      rw p (subst (λ (y : A.Reply). Told y r.reply reply reply') (sym q) answered_here.reply, refl)
+      let q = still_reply own (sym answered_here.change ∙ e) in
+      rw (p, back (told r) 0) (subst (λ (y : A.Reply). Told y (told r) reply reply') (sym q) answered_here.reply, refl)
 
-  pub eight_refused : length reply ≡ reply_size → (removed : Bool) (parents : ℕ) → Makes r.effect path removed parents →
-      o ≡ outcome_of (Refused NoSpace) 0 → Eighth
+  pub eight_refused : length reply ≡ reply_size → (removed : Bool) (parents : ℕ) → Makes r path removed parents →
+      o ≡ Err NoSpace → Eighth
   eight_refused l removed parents x p =
       let c = change_given removed parents path in
       let e = sym answered_here.change ∙ x in
       let okay = change_okay d (names_in path) (table_of copied) a c e in
-      let over = over_told r.reply reply reply' l (subst (λ (u : A.Reply). Told u r.reply reply reply') okay answered_here.reply) in
-      rw p (subst (λ (u : A.Reply). Told u (Refused NoSpace) reply reply') (sym (ninth_reply_lem own c e)) over, refl)
+      let over = over_told (told r) reply reply' l (subst (λ (u : A.Reply). Told u (told r) reply reply') okay answered_here.reply) in
+      rw p (subst (λ (u : A.Reply). Told u (Err NoSpace) reply reply') (sym (ninth_reply_lem own c e)) over, refl)
 
 -- ── in a transaction ──
 
@@ -158,25 +155,25 @@ module _ (cs xs : Octets) (k : ℕ) (reply : Octets) (s : InCopy cs xs k reply) 
     (cw : w.copies ≡ chunks most_transactions table_size cs) (xw : w.transactions ≡ transactions_of xs) where
   -- it has eight changes
   pub full-handled : (a : N.Table → A.Answer) → most_changes ≤ length (transaction_of xs k).changes → (events reply' : Octets) (o : Outcome) →
-      Told (ninth_reply (a (table_of (take (k * table_size + table_size - k * table_size) (drop (k * table_size) cs))))) o.reply reply reply' →
-      o ≡ outcome_of o.reply 0 →
+      Told (ninth_reply (a (table_of (take (k * table_size + table_size - k * table_size) (drop (k * table_size) cs))))) (reply_of o) reply reply' →
+      o ≡ with_events (reply_of o) 0 →
       Handled (W.in_transaction w k (transaction_of xs k) (a (copy_of w k))) (tables (its_nodes w) cs (its_watches w) xs (its_domains w)) reply reply'
       events events o
   full-handled a many events reply' o t p =
       let here = ap table_of (copy-part cs k) ∙ sym (copy_of_lem w cs k cw s.place.below) in
-      done_so w _ reply o events (ninth_reply (a (copy_of w k))) w reply' o.reply _ (in_transaction_full w k (transaction_of xs k) (a (copy_of w k)) many) p
-      (subst (λ (y : N.Table). Told (ninth_reply (a y)) o.reply reply reply') here t)
+      done_so w _ reply o events (ninth_reply (a (copy_of w k))) w reply' (reply_of o) _ (in_transaction_full w k (transaction_of xs k) (a (copy_of w k)) many) p
+      (subst (λ (y : N.Table). Told (ninth_reply (a y)) (reply_of o) reply reply') here t)
       (same_tables_lem refl (copies-alone w cs s.whole cw) refl (transactions-alone w xs s.place.kept xw) refl)
 
 module _ {d : Domain} {ask : Ask} {path v : Octets} (q : Asking d ask path v) where
   module _ (cs xs : Octets) (k : ℕ) (reply : Octets) (s : InCopy cs xs k reply) (t t' reply' : Octets) (r : Answer) (here : t ≡ copy_in cs k)
-      (told : Answered d (ask_meant v ask) path t t' reply reply' r) where
+      (told_so : Answered d (ask_meant v ask) path t t' reply reply' r) where
     -- what a change's entry wants
-    pub changing : length (transaction_of xs k).changes < most_changes → (removed : Bool) (parents : ℕ) → Makes r.effect path removed parents →
+    pub changing : length (transaction_of xs k).changes < most_changes → (removed : Bool) (parents : ℕ) → Makes r path removed parents →
         RoomForChange xs k parents path
     unfolding change_given
     changing few removed parents e =
-        let made = sym told.change ∙ e in
+        let made = sym told_so.change ∙ e in
         let sound : sound_table t ≡ true = rw here s.sound in
         record { place = s.place; few = few; fits = parents_small q t sound _ made; full = q.full; short = path-short q t sound _ made }
 
@@ -186,7 +183,7 @@ module _ {d : Domain} {ask : Ask} {path v : Octets} (q : Asking d ask path v) wh
       cs' = put_mid (k * table_size) (k * table_size + table_size - k * table_size) cs t'
 
       long : length t' ≡ table_size
-      long = (left-sound q t (rw here s.sound) t' told.table).1
+      long = (left-sound q t (rw here s.sound) t' told_so.table).1
 
       abbrev z : A.Answer
       z = answer d (ask_meant v ask) (names_in path) (copy_of w k)
@@ -196,31 +193,31 @@ module _ {d : Domain} {ask : Ask} {path v : Octets} (q : Asking d ask path v) wh
 
       answered : Answers (names_in path) z t' reply reply' r
       answered =
-          subst (λ (y : N.Table). Answers (names_in path) (answer d (ask_meant v ask) (names_in path) y) t' reply reply' r) copied told
+          subst (λ (y : N.Table). Answers (names_in path) (answer d (ask_meant v ask) (names_in path) y) t' reply reply' r) copied told_so
 
-      pub nothing_handled : r.effect ≡ Nothing → o ≡ outcome_of r.reply 0 →
+      pub nothing_handled : Still r path → o ≡ with_events (told r) 0 →
           Handled (W.in_transaction w k (transaction_of xs k) z) (tables (its_nodes w) cs' (its_watches w) xs (its_domains w)) reply reply' events events o
       nothing_handled e p =
-          let f : z.change ≡ none = sym answered.change ∙ ap (λ (y : Effect). effect_meant y (names_in path)) e in
+          let f : z.change ≡ none = sym answered.change ∙ e in
           let still = table_still d (names_in path) (copy_of w k) (ask_meant v ask) f in
           let u : t' ≡ copy_in cs k =
           answered.table ∙ ap table_bytes (still ∙ copy_of_lem w cs k cw s.place.below) ∙ (sound_canonical (copy_in cs k) s.sound).kept in
           let own = paste-own (k * table_size) table_size cs (omega (arith, s.whole, s.place.below)) in
-          done_so w _ reply o events z.reply w reply' r.reply _ (in_transaction_still w k _ z f) p answered.reply
+          done_so w _ reply o events z.reply w reply' (told r) _ (in_transaction_still w k _ z f) p answered.reply
           (same_tables_lem refl
           (part_put cs t' k long ∙ ap (λ (y : Octets). paste (k * table_size) y cs) u ∙ own ∙ copies-alone w cs s.whole cw) refl
           (transactions-alone w xs s.place.kept xw) refl)
 
-      pub change-handled : (removed : Bool) (parents : ℕ) → Makes r.effect path removed parents →
+      pub change-handled : (removed : Bool) (parents : ℕ) → Makes r path removed parents →
           length (transaction_of xs k).changes < most_changes → (xs' : Octets) →
-          xs' ≡ transactions_bytes (set (transactions_of xs) k (some (changed_by (transaction_of xs k) removed parents path))) → o ≡ outcome_of r.reply 0 →
+          xs' ≡ transactions_bytes (set (transactions_of xs) k (some (changed_by (transaction_of xs k) removed parents path))) → o ≡ with_events (told r) 0 →
           Handled (W.in_transaction w k (transaction_of xs k) z) (tables (its_nodes w) cs' (its_watches w) xs' (its_domains w)) reply reply' events events o
       unfolding changed_by
       change-handled removed parents e few xs' b p =
           let c = change_given removed parents path in
           let made = sym answered.change ∙ e in
           let put = copy_put cs k t' cs' s.whole long s.place.below (part_put cs t' k long) in
-          done_so w _ reply o events z.reply _ reply' r.reply _ (in_transaction_done w k (transaction_of xs k) z c made few) p answered.reply
+          done_so w _ reply o events z.reply _ reply' (told r) _ (in_transaction_done w k (transaction_of xs k) z c made few) p answered.reply
           (same_tables_lem refl
           (put ∙ ap₂ (λ (y : List Octets) (u : Octets). flat_map whole (set y k u)) (sym cw) answered.table) refl
           (b ∙ ap (λ (y : Transactions). transactions_bytes (set y k (some (changed_by (transaction_of xs k) removed parents path)))) (sym xw)) refl)

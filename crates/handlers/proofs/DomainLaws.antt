@@ -18,10 +18,9 @@ use Rattle.rules.specs.Sound.{introduced}
 use Rattle.rules.specs.World as W
 use Rattle.rules.specs.World.{World, left, introducing, with_domains}
 use Rattle.rules.specs.Call.{Tables, tables_of}
-use Rattle.replies.specs.declared.kinds.Reply.{Reply}
+use Rattle.std.specs.Prelude.{Ok}
 use Rattle.replies.specs.Framed.{Told}
-use Rattle.replies.specs.Handled.{Handled}
-use Rattle.replies.specs.declared.kinds.Outcome.{Outcome}
+use Rattle.replies.specs.Handled.{Outcome, Handled}
 use Rattle.handlers.proofs.Ways.{its_tables}
 
 module _ (w : World) (d : Domain) (page channel : ℕ) (ds : Domains) (here : w.domains ≡ ds) (all : length ds ≡ most_domains) where
@@ -46,10 +45,10 @@ module _ (w : World) (d : Domain) (page channel : ℕ) (ds : Domains) (here : w.
     introduce-done h = rw (here, new, all, ← found, lt-ltb k most_domains h) refl
 
 -- an outcome with a page and a channel
-pub introduced_so : (o : W.Outcome) (after : World) (rs : List Record) (page channel : ℕ) (reply reply' events events' : Octets) (x : Reply) (n : ℕ)
+pub introduced_so : (o : W.Outcome) (after : World) (rs : List Record) (page channel : ℕ) (reply reply' events events' : Octets) (x n : ℕ)
     (t : Tables) (r : Outcome) → o ≡ record { reply = OK; world = after; records = rs; page = page; channel = channel } →
-    r ≡ record { reply = x; events = n; page = page; channel = channel } →
-    Told OK x reply reply' → events' ≡ paste 0 (flat_map record_bytes rs) events → n ≡ length rs → t ≡ its_tables after →
+    r ≡ Ok (record { length = x; events = n; page = page; channel = channel }) →
+    Told OK (Ok x) reply reply' → events' ≡ paste 0 (flat_map record_bytes rs) events → n ≡ length rs → t ≡ its_tables after →
     Handled o t reply reply' events events' r
 unfolding tables_of
 introduced_so o after rs page channel reply reply' events events' x n t r q p h b l k =

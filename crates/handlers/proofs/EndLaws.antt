@@ -20,16 +20,15 @@ use Rattle.rules.proofs.Paste.{paste-whole}
 use Rattle.domains.specs.Entry.{taken, passes, entry_or}
 use Rattle.transactions.specs.Transaction.{KeptTransactions, transaction_of, held_by, OpenTransaction}
 use Rattle.slots.proofs.Canonical.{sound_canonical}
-use Rattle.replies.specs.declared.kinds.Reply as Reply
+use Rattle.std.specs.Prelude.{Ok}
 use Rattle.events.specs.Records as Events
 use Rattle.events.specs.Stores.{Stores}
 use Rattle.replies.specs.Framed.{Told}
-use Rattle.replies.specs.Handled.{Handled}
-use Rattle.replies.specs.declared.kinds.Outcome.{Outcome}
+use Rattle.replies.specs.Handled.{Outcome, Handled, with_events}
 use Rattle.replies.specs.Does.{tables, its_copies, its_watches, its_domains}
 use Rattle.handlers.specs.Asking.{copy_in}
 use Rattle.handlers.specs.Transacting.{Holds, HeldOr, Committable}
-use Rattle.handlers.proofs.Ways.{outcome_of, same_tables_lem, heard_so}
+use Rattle.handlers.proofs.Ways.{same_tables_lem, heard_so}
 use Rattle.handlers.proofs.AskingLaws.{copy-part, copy_of_lem}
 use Rattle.handlers.proofs.PlainLaws.{recorded-first}
 use Rattle.handlers.proofs.StartLaws.{three_transactions}
@@ -180,10 +179,10 @@ module _ (nodes cs ws xs reply events : Octets) (s : Committable nodes cs ws xs 
   module _ (nodes' : Octets) (put : nodes' ≡ paste 0 t nodes) (w : World) (nw : w.nodes ≡ table_of nodes)
       (cw : w.copies ≡ chunks most_transactions table_size cs) (ww : w.watches ≡ watches_of ws)
       (xw : w.transactions ≡ transactions_of xs) where
-    pub commit_handled : (xs' reply' events' : Octets) (n : ℕ) (r : Reply.Reply) (out : Outcome)
+    pub commit_handled : (xs' reply' events' : Octets) (n r : ℕ) (out : Outcome)
         → xs' ≡ transactions_bytes (staled_if (not (is_empty (transaction_of xs k).changes)) (set (transactions_of xs) k none))
         → Events.Recorded 0 (heard (table_of nodes) (table_of t) (watches_of ws) (transaction_of xs k).changes) events events' n
-        → Told OK r reply reply' → out ≡ outcome_of r n
+        → Told OK (Ok r) reply reply' → out ≡ with_events (Ok r) n
         → Handled (committing w k (transaction_of xs k)) (tables nodes' (its_copies w) (its_watches w) xs' (its_domains w)) reply reply' events events' out
     commit_handled xs' reply' events' n r out e h told p =
         let f = recorded-first _ _ _ _ h in

@@ -39,13 +39,12 @@ use Rattle.watches.proofs.Written.{without-watches}
 use Rattle.events.specs.Records as Events
 use Rattle.events.specs.Stores.{Stores, removal_of, event_name}
 use Rattle.events.proofs.RecordLaws.{recorded_more, recorded-length}
-use Rattle.replies.specs.declared.kinds.Reply.{Reply}
+use Rattle.std.specs.Prelude.{Ok}
 use Rattle.replies.specs.Framed.{Told}
-use Rattle.replies.specs.Handled.{Handled}
-use Rattle.replies.specs.declared.kinds.Outcome.{Outcome}
+use Rattle.replies.specs.Handled.{Outcome, Handled, with_events}
 use Rattle.replies.specs.Does.{tables, its_copies}
 use Rattle.handlers.specs.Releasing.{Forgotten, Releasable, Released}
-use Rattle.handlers.proofs.Ways.{outcome_of, same_tables_lem, heard_so}
+use Rattle.handlers.proofs.Ways.{same_tables_lem, heard_so}
 use Rattle.handlers.proofs.PlainLaws.{recorded-first}
 
 -- ── the side tables ──
@@ -188,8 +187,8 @@ module _ (nodes ws xs ds : Octets) (d : Domain) (events nodes' ws' xs' ds' event
     (q : Released nodes ws xs ds d events nodes' ws' xs' ds' events' n)
     (w : World) (nw : w.nodes ≡ table_of nodes) (ww : w.watches ≡ watches_of ws) (xw : w.transactions ≡ transactions_of xs)
     (dw : w.domains ≡ domains_of ds) where
-  pub released-handled : 1 ≤ d → d ≤ last_domain → introduced d (domains_of ds) ≡ true → (reply reply' : Octets) (x : Reply) (r : Outcome) →
-      Told OK x reply reply' → r ≡ outcome_of x n →
+  pub released-handled : 1 ≤ d → d ≤ last_domain → introduced d (domains_of ds) ≡ true → (reply reply' : Octets) (x : ℕ) (r : Outcome) →
+      Told OK (Ok x) reply reply' → r ≡ with_events (Ok x) n →
       Handled (releasing w d) (tables nodes' (its_copies w) ws' xs' ds') reply reply' events events' r
   released-handled low high h reply reply' x r t p =
       let e = release-done w d (domains_of ds) dw low high h in

@@ -19,7 +19,7 @@ use Rattle.rules.proofs.Tables.{length-chunks}
 use Rattle.rules.proofs.EntryLayouts.{whole, copy_written, rows_sized, rows_joined}
 use Rattle.octets.specs.Numbers.{Put}
 use Rattle.slots.specs.Slot.{Canonical}
-use Rattle.replies.specs.declared.kinds.Reply.TheVariants.{Done}
+use Rattle.std.specs.Prelude.{Ok}
 use Rattle.replies.specs.Framed.{Told}
 use Rattle.handlers.proofs.AboutLaws.{number-ended}
 
@@ -57,7 +57,7 @@ module _ (w : World) (c : Connection) (xs : Transactions) (here : w.transactions
 
 -- the id and a nul behind the header
 pub id_told : (n end : ℕ) (before l : Octets) → length before ≡ reply_size → Put header_size (decimal n) before l end → end < length l →
-    Told (done (decimal n ++ nul)) (Done (end + 1 - 16)) before (set l end 0)
+    Told (done (decimal n ++ nul)) (Ok (end + 1 - 16)) before (set l end 0)
 id_told n end before l b p h =
     let k = number-ended n 16 end [] before before l refl b (omega arith) (sym (paste_nil 16 before)) p h in
-    (ap Done k.0, k.1)
+    (ap Ok k.0, k.1)

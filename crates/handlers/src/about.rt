@@ -1,5 +1,5 @@
 // Requests about a domain that change nothing: GET_DOMAIN_PATH and IS_DOMAIN_INTRODUCED.
-ghost use Rattle.std.specs.Prelude.{◌≡◌, ◌++◌, length};
+ghost use Rattle.std.specs.Prelude.{Ok, ◌≡◌, ◌++◌, length};
 ghost use Rattle.rules.specs.Size.{reply_size, domains_size};
 ghost use Rattle.rules.specs.Octets.{nul};
 ghost use Rattle.rules.specs.Path.{base, path_text};
@@ -12,26 +12,25 @@ use domains::places::known;
 use octets::parts::copy;
 use octets::sizes::HEADER_SIZE;
 use octets::written::put_decimal;
-use replies::kinds::Reply;
 
 // Where a domain's id stands in its base's path.
 const ID_AT: usize = 14;
 
-// The path of a domain's base.
-pub fn domain_path(domain: u32, reply: &mut [u8]) -> Reply
+// Puts the path of a domain's base and a nul behind the header, and gives their length.
+pub fn domain_path(domain: u32, reply: &mut [u8]) -> usize
     requires { length reply.old ≡ reply_size }
-    ensures { Told (done (path_text (base domain) ++ nul)) result reply.old reply.new }
+    ensures { Told (done (path_text (base domain) ++ nul)) (Ok result) reply.old reply.new }
 {
     copy(reply, HEADER_SIZE, b"/local/domain/");
     let at = put_decimal(reply, HEADER_SIZE + ID_AT, domain as u64);
     reply[at] = 0;
-    Reply::Done(at + 1 - HEADER_SIZE)
+    at + 1 - HEADER_SIZE
 }
 
-// `T` or `F`, for whether a domain is introduced; `T` for 0.
-pub fn is_introduced(domains: &[u8], domain: u32, reply: &mut [u8]) -> Reply
+// Puts `T` or `F`, for whether a domain is introduced, and a nul behind the header, and gives their length; `T` for 0.
+pub fn is_introduced(domains: &[u8], domain: u32, reply: &mut [u8]) -> usize
     requires { (length domains.now ≡ domains_size) × (length reply.old ≡ reply_size) }
-    ensures { (w : World) → w.domains ≡ domains_of domains.now → Told (done (introduced_text w domain ++ nul)) result reply.old
+    ensures { (w : World) → w.domains ≡ domains_of domains.now → Told (done (introduced_text w domain ++ nul)) (Ok result) reply.old
         reply.new }
 {
     if known(domains, domain) {
@@ -39,5 +38,5 @@ pub fn is_introduced(domains: &[u8], domain: u32, reply: &mut [u8]) -> Reply
     } else {
         copy(reply, HEADER_SIZE, b"F\0");
     }
-    Reply::Done(2)
+    2
 }

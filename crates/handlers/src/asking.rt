@@ -15,6 +15,7 @@ ghost use Rattle.events.specs.Records.{Mask};
 ghost use Rattle.events.specs.Stores.{Store, happened, NewAbove};
 ghost use Rattle.payload.specs.Meaning.{ask_meant};
 ghost use Rattle.replies.specs.Framed.{Told};
+ghost use Rattle.replies.specs.Handled.{reply_of, with_events};
 ghost use Rattle.replies.specs.Does.{lent, Does};
 ghost use Rattle.handlers.specs.Asking.{Asking, OnStore, Hearing, Changed, InCopy, ninth_reply};
 
@@ -25,7 +26,7 @@ use nodes::kinds::Effect;
 use octets::parts::copy;
 use octets::sizes::{MOST_CHANGES, TABLE_SIZE};
 use payload::answer::Ask;
-use replies::kinds::{Errno, Outcome, Reply, with_events};
+use replies::kinds::{Done, Errno, Outcome};
 use transactions::changes::{add_change, stale_all};
 use transactions::places::changes;
 
@@ -35,13 +36,9 @@ fn hearing(ask: Ask, nodes: &[u8], watches: &[u8], path: &[u8]) -> u32
     ensures { Hearing ask (table_of nodes.now) (watches_of watches.now) path.now result }
 {
     match ask {
-        Ask::Directory => 0,
-        Ask::Read => 0,
-        Ask::GetPerms => 0,
-        Ask::Write(_) => in_store(nodes, watches, path, false),
-        Ask::Mkdir => in_store(nodes, watches, path, false),
+        Ask::Directory | Ask::Read | Ask::GetPerms => 0,
+        Ask::Write(_) | Ask::Mkdir | Ask::SetPerms(_) => in_store(nodes, watches, path, false),
         Ask::Rm => in_store(nodes, watches, path, true),
-        Ask::SetPerms(_) => in_store(nodes, watches, path, false),
     }
 }
 
@@ -88,14 +85,11 @@ pub fn on_store(
         (lent (some nodes.new) none none (some transactions.new) none reply.new (some events.new)) result }
 {
     let heard = hearing(ask, nodes, watches, path);
-    let a = answer(nodes, domain, ask, path, s, reply);
-    let r = a.reply;
-    let effect = a.effect;
-    match effect {
-        Effect::Nothing => with_events(r, 0),
-        Effect::Wrote(parents) => with_events(
-            r,
-            after_change(
+    let given = answer(nodes, domain, ask, path, s, reply)?;
+    match given.effect {
+        Effect::Nothing => Ok(Done::with_events(given.length, 0)),
+        Effect::Wrote(parents) => {
+            let n = after_change(
                 heard,
                 nodes,
                 watches,
@@ -104,12 +98,13 @@ pub fn on_store(
                 false,
                 parents,
                 events,
-            ),
-        ),
-        Effect::Removed => with_events(
-            r,
-            after_change(heard, nodes, watches, transactions, path, true, 0, events),
-        ),
+            );
+            Ok(Done::with_events(given.length, n))
+        }
+        Effect::Removed => {
+            let n = after_change(heard, nodes, watches, transactions, path, true, 0, events);
+            Ok(Done::with_events(given.length, n))
+        }
     }
 }
 
@@ -125,36 +120,34 @@ fn in_full_transaction(
     requires { (sound_table copied.now ≡ true) × Asking domain ask path.now s.now × (length reply.old ≡ reply_size) }
     ensures { Told
         (ninth_reply (answer domain (ask_meant s.now ask) (names_in path.now) (table_of copied.now)))
-        result.reply reply.entry.now reply.exit.now × (result ≡ record { reply = result.reply; events = 0; page = 0; channel = 0 }) }
+        (reply_of result) reply.entry.now reply.exit.now × (result ≡ with_events (reply_of result) 0) }
 {
     let mut t = [0u8; TABLE_SIZE];
     copy(&mut t, 0, copied);
-    let a = answer(&mut t, domain, ask, path, s, reply);
-    let r = a.reply;
-    let effect = a.effect;
-    match effect {
-        Effect::Nothing => with_events(r, 0),
-        Effect::Wrote(_) => with_events(Reply::Refused(Errno::NoSpace), 0),
-        Effect::Removed => with_events(Reply::Refused(Errno::NoSpace), 0),
+    let given = answer(&mut t, domain, ask, path, s, reply)?;
+    match given.effect {
+        Effect::Nothing => Ok(Done::with_events(given.length, 0)),
+        Effect::Wrote(_) => Err(Errno::NoSpace),
+        Effect::Removed => Err(Errno::NoSpace),
     }
 }
 
-// Enters a change in the transaction in place k.
+// Enters a change in the transaction in place k; the request gave a payload of that length.
 fn enter_change(
     transactions: &mut [u8],
     k: usize,
     removed: bool,
     parents: usize,
     path: &[u8],
-    r: Reply,
-) -> Outcome
+    length: usize,
+) -> Done
     requires { RoomForChange transactions.old k parents path.now }
     ensures { (transactions.new ≡ transactions_bytes (set (transactions_of transactions.old) k
         (some (changed_by (transaction_of transactions.old k) removed parents path.now)))) ×
-        (result ≡ record { reply = r; events = 0; page = 0; channel = 0 }) }
+        (result ≡ record { length = «length»; events = 0; page = 0; channel = 0 }) }
 {
     add_change(transactions, k, removed, parents, path);
-    with_events(r, 0)
+    Done::with_events(length, 0)
 }
 
 // A domain's request in the transaction in place k; s is its payload.
@@ -180,12 +173,13 @@ pub fn in_transaction(
     if MOST_CHANGES <= changes(transactions, k) {
         return in_full_transaction(&copies[from..end], domain, ask, path, s, reply);
     }
-    let a = answer(&mut copies[from..end], domain, ask, path, s, reply);
-    let r = a.reply;
-    let effect = a.effect;
-    match effect {
-        Effect::Nothing => with_events(r, 0),
-        Effect::Wrote(parents) => enter_change(transactions, k, false, parents, path, r),
-        Effect::Removed => enter_change(transactions, k, true, 0, path, r),
+    let given = answer(&mut copies[from..end], domain, ask, path, s, reply)?;
+    let length = given.length;
+    match given.effect {
+        Effect::Nothing => Ok(Done::with_events(length, 0)),
+        Effect::Wrote(parents) => Ok(enter_change(
+            transactions, k, false, parents, path, length,
+        )),
+        Effect::Removed => Ok(enter_change(transactions, k, true, 0, path, length)),
     }
 }

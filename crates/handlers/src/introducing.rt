@@ -16,8 +16,8 @@ use events::domain_events::of_domain;
 use lookup::owned::owned;
 use making::removing::remove_all;
 use octets::parts::copy;
-use octets::sizes::{DOMAINS, SLOTS, TABLE_SIZE};
-use replies::kinds::{Errno, Outcome, Reply, okay, with_events};
+use octets::sizes::{SLOTS, TABLE_SIZE};
+use replies::kinds::{Done, Errno, Outcome, okay};
 use transactions::changes::{remove_of as end_all_of, stale_all};
 use watches::changes::remove_of;
 
@@ -39,21 +39,19 @@ pub fn introduce(
         (lent none none none none (some domains.new) reply.new (some events.new)) result }
 {
     if introduced(domains, domain) {
-        return with_events(Reply::Refused(Errno::Exists), 0);
+        return Err(Errno::Exists);
     }
-    let k = lowest_free(domains);
-    if DOMAINS <= k {
-        return with_events(Reply::Refused(Errno::NoSpace), 0);
-    }
+    let Some(k) = lowest_free(domains) else {
+        return Err(Errno::NoSpace);
+    };
     add(domains, k, domain);
     let events = of_domain(false, domain, watches, 0, events);
-    let reply = okay(reply);
-    Outcome {
-        reply,
+    Ok(Done {
+        length: okay(reply),
         events,
         page,
         channel,
-    }
+    })
 }
 
 // Drops a domain's watches and transactions and forgets it; where a node was removed, all other transactions become stale.
@@ -119,8 +117,8 @@ pub fn release(
         reply.new (some events.new)) result }
 {
     if !introduced(domains, domain) {
-        return with_events(Reply::Refused(Errno::NoEntry), 0);
+        return Err(Errno::NoEntry);
     }
     let n = clear_out(nodes, watches, transactions, domains, domain, events);
-    with_events(okay(reply), n)
+    Ok(Done::with_events(okay(reply), n))
 }

@@ -12,9 +12,9 @@ ghost use Rattle.replies.specs.Does.{lent, Does};
 
 use events::changes::changes;
 use octets::parts::copy;
-use octets::sizes::{HEADER_SIZE, TABLE_SIZE, TRANSACTIONS};
+use octets::sizes::{HEADER_SIZE, TABLE_SIZE};
 use octets::written::put_decimal;
-use replies::kinds::{Errno, Outcome, Reply, okay, with_events};
+use replies::kinds::{Done, Errno, Outcome, okay};
 use transactions::changes::{close, open, stale_all};
 use transactions::places::{held, lowest_free, stale};
 
@@ -33,15 +33,14 @@ pub fn start(
         (λ (w : World). starting w c)
         (lent none (some copies.new) none (some transactions.new) none reply.new none) result }
 {
-    let k = lowest_free(transactions);
-    if TRANSACTIONS <= k {
-        return with_events(Reply::Refused(Errno::NoSpace), 0);
-    }
+    let Some(k) = lowest_free(transactions) else {
+        return Err(Errno::NoSpace);
+    };
     copy(copies, k * TABLE_SIZE, nodes);
     open(transactions, k, c);
     let end = put_decimal(reply, HEADER_SIZE, (k + 1) as u64);
     reply[end] = 0;
-    with_events(Reply::Done(end + 1 - HEADER_SIZE), 0)
+    Ok(Done::with_events(end + 1 - HEADER_SIZE, 0))
 }
 
 // Whether a connection holds an open transaction of that id.
@@ -94,7 +93,7 @@ fn commit(
     let n = changes(nodes, copied, watches, transactions, k, events);
     copy(nodes, 0, copied);
     close_committed(transactions, k);
-    with_events(okay(reply), n)
+    Ok(Done::with_events(okay(reply), n))
 }
 
 // Ends a connection's transaction; a commit of one that is stale is told to try again.
@@ -117,16 +116,16 @@ pub fn end(
         (lent (some nodes.new) none none (some transactions.new) none reply.new (some events.new)) result }
 {
     if !is_held(transactions, c, tx) {
-        return with_events(Reply::Refused(Errno::NoEntry), 0);
+        return Err(Errno::NoEntry);
     }
     let k = (tx - 1) as usize;
     if !commits {
         close(transactions, k);
-        return with_events(okay(reply), 0);
+        return Ok(Done::with_events(okay(reply), 0));
     }
     if stale(transactions, k) {
         close(transactions, k);
-        return with_events(Reply::Refused(Errno::Again), 0);
+        return Err(Errno::Again);
     }
     commit(nodes, copies, watches, transactions, k, reply, events)
 }

@@ -6,18 +6,18 @@ ghost use Rattle.rules.specs.Payload.{Place};
 ghost use Rattle.rules.specs.Event.{place_text};
 ghost use Rattle.rules.specs.Layout.{place_in};
 ghost use Rattle.rules.specs.World.{World, place_fits, watching, unwatching, resetting};
-ghost use Rattle.watches.specs.Watch.{KeptWatches, depth_meant};
+ghost use Rattle.octets.specs.Options.{meant};
+ghost use Rattle.watches.specs.Watch.{KeptWatches};
 ghost use Rattle.transactions.specs.Transaction.{KeptTransactions};
 ghost use Rattle.replies.specs.Does.{lent, Does};
 ghost use Rattle.domains.specs.Entry.{entry_or};
 ghost use Rattle.handlers.specs.Watching.{PlacedAs, NamedSo};
 
 use events::domain_events::first;
-use octets::sizes::{LONGEST_TOKEN, WATCHES};
+use octets::sizes::LONGEST_TOKEN;
 use paths::names::fits;
-use replies::kinds::{Errno, Outcome, Reply, okay, with_events};
+use replies::kinds::{Done, Errno, Outcome, okay};
 use transactions::changes::remove_of as end_all_of;
-use watches::Depth;
 use watches::changes::{add, remove_of, remove_twin};
 use watches::places::{lowest_free, watched};
 
@@ -43,31 +43,30 @@ pub fn watch(
     path: &[u8],
     special: bool,
     relative: bool,
-    depth: Depth,
+    depth: Option<u8>,
     token: &[u8],
     reply: &mut [u8],
     events: &mut [u8],
 ) -> Outcome
-    requires { KeptWatches watches.old × (c < 65536) × PlacedAs special path.now × NamedSo special relative × (entry_or 0 (depth_meant depth) < 256) ×
+    requires { KeptWatches watches.old × (c < 65536) × PlacedAs special path.now × NamedSo special relative × (entry_or 0 (meant depth) < 256) ×
         (length reply.old ≡ reply_size) × (length events.old ≡ events_size) }
     ensures { Does
         (lent none none (some watches.old) none none reply.old (some events.old))
-        (λ (w : World). watching w c (place_in relative path.now) token.now (depth_meant depth))
+        (λ (w : World). watching w c (place_in relative path.now) token.now (meant depth))
         (lent none none (some watches.new) none none reply.new (some events.new)) result }
 {
     if watched(watches, c, path, token) {
-        return with_events(Reply::Refused(Errno::Exists), 0);
+        return Err(Errno::Exists);
     }
     if !is_short(path, special, token) {
-        return with_events(Reply::Refused(Errno::NoSpace), 0);
+        return Err(Errno::NoSpace);
     }
-    let k = lowest_free(watches);
-    if WATCHES <= k {
-        return with_events(Reply::Refused(Errno::NoSpace), 0);
-    }
+    let Some(k) = lowest_free(watches) else {
+        return Err(Errno::NoSpace);
+    };
     add(watches, k, c, path, relative, depth, token);
     let n = first(watches, k, events);
-    with_events(okay(reply), n)
+    Ok(Done::with_events(okay(reply), n))
 }
 
 // Drops a connection's watch of a full path, or an event's name, and a token.
@@ -79,10 +78,10 @@ pub fn unwatch(watches: &mut [u8], c: u32, path: &[u8], token: &[u8], reply: &mu
         (lent none none (some watches.new) none none reply.new none) result }
 {
     if !watched(watches, c, path, token) {
-        return with_events(Reply::Refused(Errno::NoEntry), 0);
+        return Err(Errno::NoEntry);
     }
     remove_twin(watches, c, path, token);
-    with_events(okay(reply), 0)
+    Ok(Done::with_events(okay(reply), 0))
 }
 
 // Drops a connection's watches and transactions.
@@ -95,5 +94,5 @@ pub fn reset(watches: &mut [u8], transactions: &mut [u8], c: u32, reply: &mut [u
 {
     remove_of(watches, c);
     end_all_of(transactions, c);
-    with_events(okay(reply), 0)
+    Ok(Done::with_events(okay(reply), 0))
 }

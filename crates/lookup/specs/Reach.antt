@@ -1,6 +1,5 @@
 -- What a look-up finds, in the code's terms.
 use Rattle.std.specs.Prelude.{◌≡◌, true, ℕ, ◌<◌}
-use Rattle.std.proofs.Math.Option.{Option, none, some}
 use Rattle.rules.specs.Size.{slots}
 use Rattle.rules.specs.Octets.{Octets}
 use Rattle.rules.specs.Path.{names_in}
@@ -8,12 +7,6 @@ use Rattle.rules.specs.Node.{reach}
 use Rattle.rules.specs.Layout.{table_of}
 use Rattle.slots.specs.Slot.{slot_at, is_used}
 use Rattle.slots.specs.Left.{left_at}
-use Rattle.lookup.specs.declared.reach.Found.{Found}
-use Rattle.lookup.specs.declared.reach.Found.TheVariants.{At, Nowhere}
-
-abbrev pub found_meant : Found → Option ℕ
-found_meant (At i) = some i
-found_meant Nowhere = none
 
 -- the slot that a path leads to, and the place in its text where what is left begins
 pub record Reaches (t p : Octets) (slot at : ℕ) : Type 0 where

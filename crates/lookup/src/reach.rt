@@ -5,19 +5,14 @@ ghost use Rattle.rules.specs.Path.{is_full};
 ghost use Rattle.rules.specs.Node.{is_child, child};
 ghost use Rattle.rules.specs.Layout.{table_of};
 ghost use Rattle.rules.specs.Sound.{sound_table};
+ghost use Rattle.octets.specs.Options.{meant};
 ghost use Rattle.slots.specs.Slot.{slot_at};
-ghost use Rattle.lookup.specs.Reach.{found_meant, Reaches};
+ghost use Rattle.lookup.specs.Reach.{Reaches};
 
 use octets::compare::same;
 use octets::sizes::SLOTS;
 use paths::names::name_end;
 use slots::fields::{name, parent, used};
-
-#[derive(Drop)]
-pub enum Found {
-    At(usize),
-    Nowhere,
-}
 
 #[derive(Drop)]
 pub struct Reached {
@@ -40,16 +35,16 @@ fn is_child(t: &[u8], i: usize, p: usize, n: &[u8]) -> bool
 }
 
 // The child of slot p with a name.
-pub fn child(t: &[u8], p: usize, n: &[u8]) -> Found
+pub fn child(t: &[u8], p: usize, n: &[u8]) -> Option<usize>
     requires { sound_table t.now ≡ true }
-    ensures { found_meant result ≡ child (table_of t.now) p n.now }
+    ensures { meant result ≡ child (table_of t.now) p n.now }
 {
     for i in 0..SLOTS {
         if is_child(t, i, p, n) {
-            return Found::At(i);
+            return Some(i);
         }
     }
-    Found::Nowhere
+    None
 }
 
 // How far a full path leads: the last slot that is there, and where in the text the first missing name begins, or its end.
@@ -61,13 +56,11 @@ pub fn reach(t: &[u8], path: &[u8]) -> Reached
     let mut at = 1;
     while at < path.len() {
         let end = name_end(path, at);
-        match child(t, slot, &path[at..end]) {
-            Found::At(i) => {
-                slot = i;
-                at = end + 1;
-            }
-            Found::Nowhere => return Reached { slot, at },
-        }
+        let Some(i) = child(t, slot, &path[at..end]) else {
+            return Reached { slot, at };
+        };
+        slot = i;
+        at = end + 1;
     }
     Reached { slot, at }
 }

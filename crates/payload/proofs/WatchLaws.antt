@@ -132,7 +132,9 @@ module _ (s : Octets) (a b : ℕ) where
     three_at : (d : Domain) (k : Option ℕ) → number_in 0 deepest_watch (part (b + 1) n s) ≡ k →
         watch_payload d (strings s) ≡ elim (place_of d (given (take a s))) [ none ↦ invalid | some p ↦ watching_to p (part (a + 1) b s) k ]
     unfolding watch_payload
-    three_at d k h = ap (watch_payload d) all ∙ ap (λ (x : Option ℕ). elim (place_of d (given (take a s))) [ none ↦ invalid | some p ↦ watching_to p (part (a + 1) b s) x ]) h
+    three_at d k h =
+        ap (watch_payload d) all
+        ∙ ap (λ (x : Option ℕ). elim (place_of d (given (take a s))) [ none ↦ invalid | some p ↦ watching_to p (part (a + 1) b s) x ]) h
 
     pub watch_no_depth : number_in 0 deepest_watch (part (b + 1) n s) ≡ none → Means s Invalid (λ (c : Connection). watch_payload (domain_of c) (strings s))
     unfolding watching_to

@@ -14,6 +14,11 @@ use Rattle.replies.specs.declared.kinds.Done.{Done}
 abbrev pub Outcome : Type 0
 Outcome = Result Done Errno
 
+-- a reply with so many event records; an error has none
+abbrev pub with_events : Reply → ℕ → Outcome
+with_events (Ok n) k = Ok (record { length = n; events = k; page = 0; channel = 0 })
+with_events (Err e) k = Err e
+
 -- its reply
 abbrev pub reply_of : Outcome → Reply
 reply_of (Ok d) = Ok d.length

@@ -36,8 +36,8 @@ use Rattle.domains.proofs.Search.{taken-some}
 use Rattle.domains.proofs.Laws as domains
 use Rattle.watches.proofs.Written as watches
 use Rattle.transactions.proofs.Good as transactions
-use Rattle.replies.specs.Handled.{Handled}
-use Rattle.replies.specs.declared.kinds.Outcome.{Outcome}
+use Rattle.std.specs.Prelude as code
+use Rattle.replies.specs.Handled.{Outcome, Handled}
 use Rattle.replies.specs.Does.{lent, Shows, its_nodes, its_copies, its_watches, its_transactions, its_domains}
 use Rattle.handlers.specs.Asking.{copy_in}
 use Rattle.handlers.specs.Transacting.{Committable}
@@ -50,7 +50,6 @@ use Rattle.payload.specs.declared.answer.Request.{Request}
 use Rattle.payload.specs.declared.answer.Request.TheVariants as request
 use Rattle.payload.specs.declared.answer.Ask.{Ask}
 use Rattle.payload.specs.declared.answer.Path.{Path}
-use Rattle.payload.specs.declared.answer.Depth.{Depth}
 use Rattle.payload.proofs.Kept.{kept-outcome}
 use Rattle.requests.specs.Kinds.{AsksNoNode}
 use Rattle.requests.specs.Served.{Served}
@@ -180,7 +179,7 @@ asks_no_node request.Reset h = tt
 
 -- a request of no other kind, and no ask, is an unknown one
 pub is_unknown : (r : Request) → AsksNoNode r → (r ≡ request.Invalid → ⊥)
-    → ((p : Path) (a e : ℕ) (d : Depth) → r ≡ request.Watch p a e d → ⊥) → ((p : Path) (a e : ℕ) → r ≡ request.Unwatch p a e → ⊥)
+    → ((p : Path) (a e : ℕ) (d : code.Option ℕ) → r ≡ request.Watch p a e d → ⊥) → ((p : Path) (a e : ℕ) → r ≡ request.Unwatch p a e → ⊥)
     → (r ≡ request.Start → ⊥) → ((b : Bool) → r ≡ request.End b → ⊥) → ((i p c : ℕ) → r ≡ request.Introduce i p c → ⊥)
     → ((i : ℕ) → r ≡ request.Release i → ⊥) → ((i : ℕ) → r ≡ request.DomainPath i → ⊥) → ((i : ℕ) → r ≡ request.IsIntroduced i → ⊥)
     → (r ≡ request.Reset → ⊥) → r ≡ request.Unknown

@@ -10,7 +10,7 @@ ghost use Rattle.replies.specs.Does.{lent, Does};
 ghost use Rattle.handlers.specs.Releasing.{Releasable};
 
 use handlers::introducing::{introduce, release};
-use replies::kinds::{Errno, Outcome, Reply, with_events};
+use replies::kinds::{Errno, Outcome};
 use senders::{Sender, is_control};
 
 // A sender's INTRODUCE.
@@ -32,7 +32,7 @@ pub fn introduce_by(
         (lent none none none none (some domains.new) reply.new (some events.new)) result }
 {
     if !is_control(sender.domain) {
-        return with_events(Reply::Refused(Errno::Access), 0);
+        return Err(Errno::Access);
     }
     introduce(watches, domains, domain, page, channel, reply, events)
 }
@@ -58,7 +58,7 @@ pub fn release_by(
         reply.new (some events.new)) result }
 {
     if !is_control(sender.domain) {
-        return with_events(Reply::Refused(Errno::Access), 0);
+        return Err(Errno::Access);
     }
     release(nodes, watches, transactions, domains, domain, reply, events)
 }

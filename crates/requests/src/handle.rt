@@ -15,7 +15,7 @@ use handlers::transacting::{end as end_transaction, start as start_transaction};
 use handlers::watching::reset;
 use payload::answer::Request;
 use payload::parse::parse;
-use replies::kinds::{Errno, Outcome, Reply, with_events};
+use replies::kinds::{Done, Errno, Outcome};
 use senders::Sender;
 
 // What a sender's message of a type, a transaction and a payload does to the tables.
@@ -96,7 +96,7 @@ fn other_request(
 {
     let c = sender.connection;
     match r {
-        Request::Invalid => with_events(Reply::Refused(Errno::Invalid), 0),
+        Request::Invalid => Err(Errno::Invalid),
         Request::Watch {
             path,
             start,
@@ -135,9 +135,11 @@ fn other_request(
             reply,
             events,
         ),
-        Request::DomainPath(domain) => with_events(domain_path(domain, reply), 0),
-        Request::IsIntroduced(domain) => with_events(is_introduced(domains, domain, reply), 0),
+        Request::DomainPath(domain) => Ok(Done::with_events(domain_path(domain, reply), 0)),
+        Request::IsIntroduced(domain) => {
+            Ok(Done::with_events(is_introduced(domains, domain, reply), 0))
+        }
         Request::Reset => reset(watches, transactions, c, reply),
-        _ => with_events(Reply::Refused(Errno::NoSystem), 0),
+        _ => Err(Errno::NoSystem),
     }
 }

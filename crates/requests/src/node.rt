@@ -16,7 +16,7 @@ use handlers::asking::{in_transaction, on_store};
 use handlers::transacting::is_held;
 use paths::answer::Form;
 use payload::answer::{Ask, Path};
-use replies::kinds::{Errno, Outcome, Reply, with_events};
+use replies::kinds::{Errno, Outcome};
 use senders::Sender;
 
 // What a sender asks for a full path: on the store, or in its transaction.
@@ -57,7 +57,7 @@ fn asked(
         );
     }
     if !is_held(transactions, sender.connection, tx) {
-        return with_events(Reply::Refused(Errno::NoEntry), 0);
+        return Err(Errno::NoEntry);
     }
     let k = (tx - 1) as usize;
     in_transaction(copies, transactions, k, domain, ask, path, s, reply)

@@ -120,19 +120,10 @@ module _ (t : Octets) (bytes : Bytes t) (whole : length t ≡ table_size) (i : �
   -- entry k by the three bytes that hold it
   pub entry_three : (k : ℕ) → k < 4 →
       let bits = field t (i * slot_size + fields_size + 2 * k) 3 in
-      (bits / 4 ^ (3 - k) / 65536 % 4 ≡ (entry_of t i k).access) × (bits / 4 ^ (3 - k) % 65536 ≡ (entry_of t i k).domain)
+      (bits / 2 ^ (6 - 2 * k) / 65536 % 4 ≡ (entry_of t i k).access) × (bits / 2 ^ (6 - 2 * k) % 65536 ≡ (entry_of t i k).domain)
   unfolding entry_of entry_at bits_at
   entry_three zero h = omega (arith, apart 0 6 refl)
   entry_three (suc zero) h = omega (arith, apart 2 4 refl)
   entry_three (suc (suc zero)) h = omega (arith, apart 4 2 refl)
   entry_three (suc (suc (suc zero))) h = omega (arith, apart 6 0 refl)
   entry_three (suc (suc (suc (suc k)))) h = absurd (omega arith)
-
-  -- the same, as the code has it where its k is n
-  pub entry_read : (k n : ℕ) → k ≡ n → n < 4 → (b a d : ℕ) → b ≡ field t (i * slot_size + fields_size + 2 * k) 3 →
-      a ≡ b / 4 ^ (3 - n) / 65536 % 4 → d ≡ b / 4 ^ (3 - n) % 65536 →
-      (a ≡ (entry_of t i k).access) × (d ≡ (entry_of t i k).domain)
-  entry_read k n e h b a d hb ha hd =
-      let hn : b ≡ field t (i * slot_size + fields_size + 2 * n) 3 = rw e at hb in
-      rw e
-      (ha ∙ ap (λ (m : ℕ). m / 4 ^ (3 - n) / 65536 % 4) hn ∙ (entry_three n h).0, hd ∙ ap (λ (m : ℕ). m / 4 ^ (3 - n) % 65536) hn ∙ (entry_three n h).1)

@@ -5,7 +5,7 @@ ghost use Rattle.rules.specs.Layout.{table_of};
 ghost use Rattle.rules.specs.Node.{node_at};
 ghost use Rattle.slots.specs.Slot.{slot_at, is_used, name_length, value_length, entry_count, entry_of};
 
-use octets::numbers::three;
+use octets::numbers::number;
 use octets::sizes::{FIELDS_SIZE, NAME_AT, SLOT_SIZE, VALUE_AT};
 
 pub fn used(t: &[u8], i: usize) -> bool
@@ -71,30 +71,14 @@ pub struct Entry {
     pub domain: u32,
 }
 
-// The entry in the low 18 bits of a number.
-fn parted(bits: u32) -> Entry
-    ensures { (result.access ≡ bits / 65536 % 4) × (result.domain ≡ bits % 65536) }
-{
-    Entry {
-        access: bits / 65536 % 4,
-        domain: bits % 65536,
-    }
-}
-
-// Entry k, the owner's first.
+// Entry k, the owner's first: 18 bits that begin 2 * k bits into the three bytes.
 pub fn entry_at(t: &[u8], i: usize, k: usize) -> Entry
     requires { (i < slots) × (length t.now ≡ table_size) × (k < most_entries) }
     ensures { (result.access ≡ (entry_of t.now i k).access) × (result.domain ≡ (entry_of t.now i k).domain) }
 {
-    let bits = three(t, i * SLOT_SIZE + FIELDS_SIZE + 2 * k);
-    if k == 0 {
-        return parted(bits / 64);
+    let bits = number::<3>(t, i * SLOT_SIZE + FIELDS_SIZE + 2 * k) >> (6 - 2 * k);
+    Entry {
+        access: (bits / 65536 % 4) as u32,
+        domain: (bits % 65536) as u32,
     }
-    if k == 1 {
-        return parted(bits / 16);
-    }
-    if k == 2 {
-        return parted(bits / 4);
-    }
-    parted(bits)
 }

@@ -2,12 +2,13 @@
 use mathlib.Core.Path.{◌≡◌, refl, sym, ap, ◌∙◌}
 use mathlib.Core.Bool.{Bool, true, false, ◌&&◌, ◌||◌, and-true, and-false, and_assoc, or-false}
 use mathlib.Core.List.{[], ◌∷◌, ◌++◌, append_assoc}
+use mathlib.Core.Logic.{◌⊎◌, inl, inr}
 use Prim.Native.Nat.{ℕ, zero, suc, ◌+◌, ◌*◌, ◌-◌, ◌≤◌, ◌<◌}
 use native.Mathlib.Nat.{add-sub_cancel_left}
 use native.Mathlib.Numerals.{add-one}
 use native.Mathlib.Omega.{arith}
 use lib.ListN.{length, get_or, take, drop, replicate, length-replicate, length-drop, replicate-append-replicate, drop_of_length-le}
-use lib.Seq.{drop-cons, drop_at, take-take, length-take-le}
+use lib.Seq.{take_all, drop-cons, drop_at, take-take, length-take-le}
 use lib.Dec.{eqb, leb}
 use borrow.Author.Tests.{eq-eqb, ne_eqb, leb-true}
 use Rattle.rules.specs.Size.{slots, table_size, slot_size, name_at, longest_name}
@@ -26,15 +27,20 @@ use Rattle.octets.proofs.Padding.{late_fault, no_fault, first_decides, behind, p
 
 -- ── a turn of `small_letters`, and its end ──
 
-pub letters_turn : (s l : Octets) (i j : ℕ) (a : Bool) {w : Bool} → i < length s → j < length l → w ≡ a && small_letters (drop i s) (drop j l) →
-    w ≡ (a && (leb (get_or s i 0) (get_or l j 0) && (leb 97 (get_or s i 0) || eqb (get_or l j 0) 0))) && small_letters (drop (i + 1) s) (drop (j + 1) l)
+pub letters_turn : {s l xs zs : Octets} {b z : ℕ} (a : Bool) {w : Bool} → s ≡ b ∷ xs → l ≡ z ∷ zs → w ≡ a && small_letters s l →
+    w ≡ (a && (leb b z && (leb 97 b || eqb z 0))) && small_letters xs zs
 unfolding small_letters
-letters_turn s l i j a h k e =
-    e ∙ rw (drop-cons s i 0 h, drop-cons l j 0 k, add-one i, add-one j) (sym (and_assoc a _ _))
+letters_turn a h k e = e ∙ rw (h, k) (sym (and_assoc a _ _))
 
-pub letters_end : (s m : Octets) (i : ℕ) (a : Bool) {w : Bool} → length s ≤ i → w ≡ a && small_letters (drop i s) m → a ≡ w
+pub letters_end : (s l : Octets) (a : Bool) {w : Bool} → (length s ≡ 0) ⊎ (length l ≡ 0) → w ≡ a && small_letters s l → a ≡ w
 unfolding small_letters
-letters_end s m i a h e = sym (e ∙ rw (drop_of_length-le s {i = i} h) (and-true a))
+letters_end s l a h e = sym (e ∙ rw (by s l h) (and-true a))
+  where
+    by : (s l : Octets) → (length s ≡ 0) ⊎ (length l ≡ 0) → small_letters s l ≡ true
+    by [] l h = refl
+    by (c ∷ cs) [] h = refl
+    by (c ∷ cs) (z ∷ zs) (inl h) = absurd (omega arith)
+    by (c ∷ cs) (z ∷ zs) (inr h) = absurd (omega arith)
 
 -- ── what small letters and zeros are ──
 
@@ -62,6 +68,9 @@ letters (suc n) (c ∷ cs) zs h e =
 -- sixteen places for small letters, then sixteen for zeros
 abbrev pub lasts : Octets
 lasts = replicate 16 122 ++ replicate 16 0
+
+pub lasts_whole : (n : ℕ) → take (32 - (half_name - n)) (drop (half_name - n) lasts) ≡ drop (half_name - n) lasts
+lasts_whole n = take_all _ _ (omega (arith, length-drop (half_name - n) lasts))
 
 lasts_from : (n : ℕ) → n ≤ 16 → drop (half_name - n) lasts ≡ replicate n 122 ++ replicate 16 0
 lasts_from n h =

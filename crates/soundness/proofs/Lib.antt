@@ -1,7 +1,5 @@
 pub mod Tests
 pub mod EntryLaws
-pub mod LoneEntry
-pub mod TwoEntries
 pub mod NameLaws
 pub mod SlotLaws
 pub mod KeptNames

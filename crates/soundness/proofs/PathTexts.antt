@@ -7,6 +7,8 @@ use native.Mathlib.Nat.{zero-add}
 use native.Mathlib.Omega.{arith}
 use lib.ListN.{length, set, replicate}
 use borrow.Author.Tests.{ne_eqb}
+use Rattle.std.specs.Prelude.{Some, None}
+use Rattle.std.specs.Prelude as std
 use Rattle.rules.specs.Size.{slots, longest_path}
 use Rattle.rules.specs.Octets.{Octets}
 use Rattle.rules.specs.Path.{Names, Name, slashed, path_text}
@@ -20,10 +22,9 @@ use Rattle.rules.proofs.GoodTables.{Good, good_of}
 use Rattle.octets.specs.Numbers.{Put}
 use Rattle.slots.specs.Slot.{slot_at, is_used}
 use Rattle.slots.proofs.Canonical.{sound_canonical, sound-good, name-length_is, node-fits, used-some}
-use Rattle.soundness.specs.declared.answer.Walk.{Walk}
-use Rattle.soundness.specs.declared.answer.Walk.TheVariants.{Lost, Root}
+use Rattle.soundness.specs.declared.answer.Way.{Way}
 use Rattle.soundness.specs.Walks.{Short, Lent, steps_to, text_to, taken, Walked}
-use Rattle.soundness.proofs.WalkLaws.{up_append, all-taken, none-known}
+use Rattle.soundness.proofs.WalkLaws.{up_append, all-taken, none-known, way}
 
 -- ── what a sound table's slots satisfy ──
 
@@ -73,20 +74,21 @@ pub root_put : (t into : Octets) (i : ℕ) → i ≡ 0 → 0 < length into → P
 unfolding path_text path_of path_up
 root_put t into i e h = rw e (record { bytes = set-paste into 0 47 h; behind = refl })
 
-module _ (t into after : Octets) (i : ℕ) (h : i ≡ 0 → ⊥) (r : reaches_root 8 (table_of t) i ≡ true) (l : length into ≡ longest_path) (way : Walk)
-    (w : Walked 8 t i into after way) where
-  found : way ≡ Root (steps_to 8 t i) (length (taken (text_to 8 t i) into))
+module _ (t into after : Octets) (i : ℕ) (h : i ≡ 0 → ⊥) (r : reaches_root 8 (table_of t) i ≡ true) (l : length into ≡ longest_path) (o : std.Option Way)
+    (w : Walked 8 t i into after o) where
+  found : o ≡ way (steps_to 8 t i) (length (taken (text_to 8 t i) into))
   found = w.found ∙ rw r refl
 
-  pub never_lost : way ≡ Lost → ⊥
+  pub never_lost : o ≡ None → ⊥
   never_lost e =
       let f = found in
       let z : ◌≡◌ {A = ℕ} 0 1 = cc in
       omega arith
 
-  pub path_put : (k n : ℕ) → way ≡ Root k n → Put 0 (path_text (path_of (table_of t) i)) into after n
+  pub path_put : (k n : ℕ) → o ≡ way k n → Put 0 (path_text (path_of (table_of t) i)) into after n
   path_put k n e =
       let f = found in
-      let same : n ≡ length (taken (text_to 8 t i) into) = cc in
+      let ways : ◌≡◌ {A = Way} (record { steps = k; length = n }) (record { steps = steps_to 8 t i; length = length (taken (text_to 8 t i) into) }) = cc in
+      let same : n ≡ length (taken (text_to 8 t i) into) = ap (λ (x : Way). x.length) ways in
       let whole : taken (text_to 8 t i) into ≡ path_text (path_of (table_of t) i) = all-taken (text_to 8 t i) into (λ z. omega arith) ∙ sym (path-text t i h) in
       record { bytes = w.left ∙ rw (r, whole) refl; behind = same ∙ ap length whole ∙ sym (zero-add (length (path_text (path_of (table_of t) i)))) }

@@ -12,6 +12,8 @@ use lib.ListN.{length, get_or, take, drop, set, replicate, length-set, length-re
 use lib.Seq.{get_or-set_same, get_or-set_other}
 use lib.Dec.{eqb}
 use borrow.Author.Tests.{eq-eqb, ne_eqb}
+use Rattle.std.specs.Prelude.{Some, None}
+use Rattle.std.specs.Prelude as std
 use Rattle.rules.specs.Size.{slots, slot_size, table_size, deepest, longest_name}
 use Rattle.rules.specs.Octets.{Octets, same}
 use Rattle.rules.specs.Domain.{is_control}
@@ -26,13 +28,12 @@ use Rattle.octets.specs.Two.{Bytes}
 use Rattle.slots.specs.Slot.{slot_at, is_used, name_length, entry_of}
 use Rattle.slots.proofs.Reading.{node-some}
 use Rattle.slots.proofs.Canonical.{entry_is, used-some}
-use Rattle.soundness.specs.declared.answer.Walk.{Walk}
-use Rattle.soundness.specs.declared.answer.Walk.TheVariants.{Lost, Root}
+use Rattle.soundness.specs.declared.answer.Way.{Way}
 use Rattle.soundness.specs.Parts.{fair, good_slot, sized, every, Used}
 use Rattle.soundness.specs.Walks.{Short, Walked, Level, Lent, chained}
 use Rattle.soundness.proofs.Tests.{both}
 use Rattle.soundness.proofs.SlotLaws.{unsized, sizes_of}
-use Rattle.soundness.proofs.WalkLaws.{lost_case, root_case, steps_bound, none-known}
+use Rattle.soundness.proofs.WalkLaws.{lost_case, root_case, steps_bound, none-known, way}
 
 -- ── every slot ──
 
@@ -143,12 +144,12 @@ wrong-length t n = sym (rw (ne_eqb (length t) table_size n) refl)
 
 -- ── chains ──
 
-module _ (t : Octets) (i : ℕ) (into after : Octets) (way : Walk) (w : Walked 8 t i into after way) where
-  pub lost_chained : is_used (slot_at t i) ≡ true → way ≡ Lost → chained t i ≡ false
+module _ (t : Octets) (i : ℕ) (into after : Octets) (r : std.Option Way) (w : Walked 8 t i into after r) where
+  pub lost_chained : is_used (slot_at t i) ≡ true → r ≡ None → chained t i ≡ false
   unfolding chained
   lost_chained u e = rw u (lost_case (reaches_root 8 (table_of t) i) _ _ w.found e)
 
-  module _ (n at : ℕ) (e : way ≡ Root n at) where
+  module _ (n at : ℕ) (e : r ≡ way n at) where
     pub root-chained : is_used (slot_at t i) ≡ true → chained t i ≡ true
     unfolding chained
     root-chained u = rw u (root_case (reaches_root 8 (table_of t) i) _ _ n at w.found e).0

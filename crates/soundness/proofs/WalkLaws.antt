@@ -9,7 +9,9 @@ use native.Mathlib.Decide.{ℕ_discrete}
 use lib.ListN.{length, get_or, set, replicate, length-append}
 use lib.Dec.{eqb}
 use borrow.Author.Tests.{eq-eqb, ne_eqb}
-use Rattle.rules.specs.Size.{longest_name, longest_path, deepest}
+use Rattle.std.specs.Prelude.{Some, None}
+use Rattle.std.specs.Prelude as std
+use Rattle.rules.specs.Size.{slots, longest_name, longest_path, deepest}
 use Rattle.rules.specs.Octets.{Octets, paste}
 use Rattle.rules.specs.Path.{Names, slashed}
 use Rattle.rules.specs.Node.{Node, Table, node_at, path_up}
@@ -23,8 +25,7 @@ use Rattle.rules.proofs.RootWays.{root_reaches, reaches_node, reaches_zero}
 use Rattle.slots.proofs.Canonical.{used-some}
 use Rattle.slots.specs.Slot.{slot_at, is_used}
 use Rattle.slots.proofs.Reading.{node-some}
-use Rattle.soundness.specs.declared.answer.Walk.{Walk}
-use Rattle.soundness.specs.declared.answer.Walk.TheVariants.{Lost, Root}
+use Rattle.soundness.specs.declared.answer.Way.{Way}
 use Rattle.soundness.specs.Walks.{steps_to, text_to, taken, Walked, Lent}
 
 pub name-short : (t : Octets) (i : ℕ) → length (node_at (table_of t) i).name ≤ longest_name
@@ -136,12 +137,18 @@ steps-same (suc n) m t i r h = by m i r h (λ k p. steps-same n k t p)
 
 -- ── the walk ──
 
-pub lost_case : {up : Walk} (b : Bool) (x y : ℕ) → up ≡ cond b (Root x y) Lost → up ≡ Lost → b ≡ false
+-- the root is reached in x steps, with a text of y bytes in the buffer
+abbrev pub way : ℕ → ℕ → std.Option Way
+way x y = Some (record { steps = x; length = y })
+
+pub lost_case : {up : std.Option Way} (b : Bool) (x y : ℕ) → up ≡ cond b (way x y) None → up ≡ None → b ≡ false
 lost_case true x y p q = let z : ◌≡◌ {A = ℕ} 0 1 = cc in absurd (omega arith)
 lost_case false x y p q = refl
 
-pub root_case : {up : Walk} (b : Bool) (x y m at : ℕ) → up ≡ cond b (Root x y) Lost → up ≡ Root m at → (b ≡ true) × (m ≡ x) × (at ≡ y)
-root_case true x y m at p q = (refl, cc, cc)
+pub root_case : {up : std.Option Way} (b : Bool) (x y m at : ℕ) → up ≡ cond b (way x y) None → up ≡ way m at → (b ≡ true) × (m ≡ x) × (at ≡ y)
+root_case true x y m at p q =
+    let e : ◌≡◌ {A = Way} (record { steps = m; length = at }) (record { steps = x; length = y }) = cc in
+    (refl, ap (λ (w : Way). w.steps) e, ap (λ (w : Way). w.length) e)
 root_case false x y m at p q = let z : ◌≡◌ {A = ℕ} 0 1 = cc in absurd (omega arith)
 
 unused_none : (x : Option Node) → is_used x ≡ false → x ≡ none
@@ -177,21 +184,27 @@ pub record Step (t : Octets) (k i p : ℕ) : Type 0 where
   pub used : is_used (slot_at t i) ≡ true
   pub parent : p ≡ (node_at (table_of t) i).parent
 
+-- what a walk up is lent makes a step
+pub step_up : {t known into : Octets} {k i p : ℕ} →
+    (0 < i) × (i < slots) × (is_used (slot_at t i) ≡ true) × (0 < k) × (k ≤ deepest) × Lent t known into →
+    p ≡ (node_at (table_of t) i).parent → Step t k i p
+step_up h e = record { below = h.0; left = h.3; used = h.2; parent = e }
+
 module _ (t into : Octets) where
-  not_reached : (k i : ℕ) → reaches_root k (table_of t) i ≡ false → Walked k t i into into Lost
+  not_reached : (k i : ℕ) → reaches_root k (table_of t) i ≡ false → Walked k t i into into None
   not_reached k i e = record { found = rw e refl; left = rw e refl }
 
   -- the root is reached, and nothing is put
-  bare : (k i m : ℕ) → reaches_root k (table_of t) i ≡ true → steps_to k t i ≡ m → taken (text_to k t i) into ≡ [] → Walked k t i into into (Root m 0)
+  bare : (k i m : ℕ) → reaches_root k (table_of t) i ≡ true → steps_to k t i ≡ m → taken (text_to k t i) into ≡ [] → Walked k t i into into (way m 0)
   bare k i m r s e = record { found = rw (r, s, e) refl; left = rw (r, e) (sym (paste_nil 0 into)) }
 
-  pub walked_root : (k i : ℕ) → i ≡ 0 → Walked k t i into into (Root 0 0)
+  pub walked_root : (k i : ℕ) → i ≡ 0 → Walked k t i into into (way 0 0)
   walked_root k i e = rw e (bare k 0 0 (root_reaches k (table_of t) 0 refl) (root-steps k t) (rw (root-text k t) (nil_taken into)))
 
-  pub walked_none : (k i : ℕ) → (i ≡ 0 → ⊥) → k ≡ 0 → Walked k t i into into Lost
+  pub walked_none : (k i : ℕ) → (i ≡ 0 → ⊥) → k ≡ 0 → Walked k t i into into None
   walked_none k i n e = not_reached k i (rw e (no_steps (table_of t) i n))
 
-  pub walked_unused : (k i : ℕ) → (i ≡ 0 → ⊥) → is_used (slot_at t i) ≡ false → Walked k t i into into Lost
+  pub walked_unused : (k i : ℕ) → (i ≡ 0 → ⊥) → is_used (slot_at t i) ≡ false → Walked k t i into into None
   walked_unused k i n u = not_reached k i (none_up k (table_of t) i n (unused_none (slot_at t i) u))
 
   module _ (k i p : ℕ) (g : Step t k i p) where
@@ -216,7 +229,7 @@ module _ (t into : Octets) where
 
     -- the parent's way is known
     module _ (b : k ≤ deepest) (known : Octets) (o : Lent t known into) (z : get_or known p 0 ≡ 0 → ⊥) where
-      pub walked_far : k < get_or known p 0 → Walked k t i into into Lost
+      pub walked_far : k < get_or known p 0 → Walked k t i into into None
       walked_far h = not_reached k i (reaches ∙ by (reaches_root (k - 1) (table_of t) p) refl)
         where
           by : (r : Bool) → reaches_root (k - 1) (table_of t) p ≡ r → r ≡ false
@@ -230,7 +243,7 @@ module _ (t into : Octets) where
             (steps-same (k - 1) 8 t p q (omega (arith, b, steps_bound (k - 1) t p))).1,
           ))
 
-      pub walked_near : get_or known p 0 ≤ k → Walked k t i into into (Root (get_or known p 0) 0)
+      pub walked_near : get_or known p 0 ≤ k → Walked k t i into into (way (get_or known p 0) 0)
       walked_near h =
           let l = o.levels p z in
           let w = steps-same 8 (k - 1) t p l.0 (omega (arith, h, l.1)) in
@@ -241,13 +254,13 @@ module _ (t into : Octets) where
           by (no n) = absurd (z (o.alone n p))
 
     -- the parent's way is walked
-    module _ (mid : Octets) (up : Walk) (w : Walked (k - 1) t p into mid up) where
-      pub walked_lost : up ≡ Lost → Walked k t i into mid Lost
+    module _ (mid : Octets) (up : std.Option Way) (w : Walked (k - 1) t p into mid up) where
+      pub walked_lost : up ≡ None → Walked k t i into mid None
       walked_lost l =
           let b = lost_case (reaches_root (k - 1) (table_of t) p) _ _ w.found l in
           record { found = rw (reaches, b) refl; left = rw (reaches, b) (w.left ∙ rw b refl) }
 
-      module _ (m at : ℕ) (l : up ≡ Root m at) where
+      module _ (m at : ℕ) (l : up ≡ way m at) where
         reached : (reaches_root (k - 1) (table_of t) p ≡ true) × (m ≡ steps_to (k - 1) t p) × (at ≡ length (taken (text_to (k - 1) t p) into))
         reached = root_case (reaches_root (k - 1) (table_of t) p) _ _ m at w.found l
 
@@ -260,7 +273,7 @@ module _ (t into : Octets) where
         pub walked_count : m < k
         walked_count = omega (arith, count, steps_bound k t i)
 
-        pub walked_bare : length into ≡ 0 → Walked k t i into mid (Root (m + 1) 0)
+        pub walked_bare : length into ≡ 0 → Walked k t i into mid (way (m + 1) 0)
         walked_bare o =
             let same : mid ≡ into = here ∙ rw (none-taken (text_to (k - 1) t p) into o) (paste_nil 0 into) in
             rw same (bare k i (m + 1) (reaches ∙ reached.0) (sym count) (none-taken (text_to k t i) into o))
@@ -275,7 +288,7 @@ module _ (t into : Octets) where
 
           pub walked_up : length mid ≡ length into → at < length into → (s : Octets) → s ≡ (node_at (table_of t) i).name → (after : Octets) →
               after ≡ paste (at + 1) s (set mid at 47)
-              → Walked k t i into after (Root (m + 1) (at + 1 + length s))
+              → Walked k t i into after (way (m + 1) (at + 1 + length s))
           walked_up len h s f after q =
               let name = (node_at (table_of t) i).name in
               let before = text_to (k - 1) t p in
@@ -286,6 +299,6 @@ module _ (t into : Octets) where
               (paste-behind at (at + 1) (47 ∷ []) name mid (omega (arith, len)) refl) in
               let behind : after ≡ paste (length before) (47 ∷ name) (paste 0 before into) = named ∙ rw (place, put) refl in
               record {
-                found = rw (reaches, reached.0, whole) (ap (λ (x : ℕ). Root x (at + 1 + length s)) count ∙ ap (Root (steps_to k t i)) long);
+                found = rw (reaches, reached.0, whole) (ap (λ (x : ℕ). way x (at + 1 + length s)) count ∙ ap (way (steps_to k t i)) long);
                 left = rw (reaches, reached.0, whole) (behind ∙ paste-behind 0 (length before) before (47 ∷ name) into (omega arith) (omega arith));
               }

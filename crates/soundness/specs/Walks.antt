@@ -1,5 +1,5 @@
 -- The walk to the root, and the path text that it leaves.
-use Rattle.std.specs.Prelude.{Bool, true, cond, [], ◌≡◌, ℕ, suc, ◌≤◌, ◌<◌, length, get_or, eqb}
+use Rattle.std.specs.Prelude.{Bool, true, cond, Option, Some, None, [], ◌≡◌, ℕ, suc, ◌≤◌, ◌<◌, length, get_or, eqb}
 use Rattle.rules.specs.Size.{slots, table_size, longest_name, longest_path, deepest}
 use Rattle.rules.specs.Octets.{Octets, paste}
 use Rattle.rules.specs.Path.{slashed}
@@ -7,8 +7,7 @@ use Rattle.rules.specs.Node.{path_up}
 use Rattle.rules.specs.Layout.{table_of}
 use Rattle.rules.specs.Sound.{reaches_root}
 use Rattle.slots.specs.Slot.{slot_at, is_used, name_length}
-use Rattle.soundness.specs.declared.answer.Walk.{Walk}
-use Rattle.soundness.specs.declared.answer.Walk.TheVariants.{Lost, Root}
+use Rattle.soundness.specs.declared.answer.Way.{Way}
 
 -- a whole table whose used slots have names within the size
 pub record Short (t : Octets) : Type 0 where
@@ -32,8 +31,8 @@ unfoldable pub taken : Octets → Octets → Octets
 taken ys into = cond (eqb (length into) 0) [] ys
 
 -- what a walk of at most k steps from slot i finds, and what it leaves in the buffer
-pub record Walked (k : ℕ) (t : Octets) (i : ℕ) (before after : Octets) (r : Walk) : Type 0 where
-  pub found : r ≡ cond (reaches_root k (table_of t) i) (Root (steps_to k t i) (length (taken (text_to k t i) before))) Lost
+pub record Walked (k : ℕ) (t : Octets) (i : ℕ) (before after : Octets) (r : Option Way) : Type 0 where
+  pub found : r ≡ cond (reaches_root k (table_of t) i) (Some (record { steps = steps_to k t i; length = length (taken (text_to k t i) before) })) None
   pub left : after ≡ cond (reaches_root k (table_of t) i) (paste 0 (taken (text_to k t i) before) before) before
 
 -- a used slot's chain of parents reaches the root in time

@@ -1,8 +1,8 @@
 // What is answered about node tables.
 
-// Where a chain of parents leads: to the root, with the steps that it takes and the length of the text in the buffer, or not there.
-#[derive(Drop)]
-pub enum Walk {
-    Lost,
-    Root(u8, usize),
+// A slot's way to the root: the steps that it takes, and the length of the text in the buffer.
+#[derive(Clone, Copy, Debug, PartialEq, Eq)]
+pub struct Way {
+    pub steps: u8,
+    pub length: usize,
 }

@@ -10,7 +10,7 @@ ghost use Rattle.slots.specs.Slot.{slot_at, is_used};
 ghost use Rattle.soundness.specs.Parts.{every};
 ghost use Rattle.soundness.specs.Walks.{Short, Lent, Walked, chained};
 
-use crate::answer::Walk;
+use crate::answer::Way;
 use octets::parts::copy;
 use octets::sizes::{DEEPEST, SLOTS};
 use slots::fields::{name, parent, used};
@@ -20,47 +20,53 @@ const MOST_STEPS: u8 = DEEPEST as u8;
 
 // Walks from a slot to the root in at most `steps` steps by used slots, and no further than to a slot whose parent's way is known.
 #[cycle(walk_walk_up)]
-pub fn walk(t: &[u8], i: usize, steps: u8, known: &[u8; SLOTS], into: &mut [u8]) -> Walk
+pub fn walk(t: &[u8], i: usize, steps: u8, known: &[u8; SLOTS], into: &mut [u8]) -> Option<Way>
     requires { (i < slots) × (steps ≤ deepest) × Lent t.now known.now into.old }
     ensures { Walked steps t.now i into.old into.new result }
 {
     if i == 0 {
-        return Walk::Root(0, 0);
+        return Some(Way {
+            steps: 0,
+            length: 0,
+        });
     }
     if steps == 0 {
-        return Walk::Lost;
+        return None;
     }
     if !used(t, i) {
-        return Walk::Lost;
+        return None;
     }
     let above = known[parent(t, i)];
     if above == 0 {
         return walk_up(t, i, steps, known, into);
     }
     if steps < above {
-        return Walk::Lost;
+        return None;
     }
-    Walk::Root(above, 0)
+    Some(Way {
+        steps: above,
+        length: 0,
+    })
 }
 
 // Walks on from the parent of a used slot that is not the root, and puts a slash and the slot's name behind what that leaves in
 // the buffer. An empty one stays empty.
 #[cycle(walk_walk_up)]
-fn walk_up(t: &[u8], i: usize, steps: u8, known: &[u8; SLOTS], into: &mut [u8]) -> Walk
+fn walk_up(t: &[u8], i: usize, steps: u8, known: &[u8; SLOTS], into: &mut [u8]) -> Option<Way>
     requires { (0 < i) × (i < slots) × (is_used (slot_at t.now i) ≡ true) × (0 < steps) × (steps ≤ deepest) × Lent t.now known.now into.old }
     ensures { Walked steps t.now i into.old into.new result }
 {
-    let up = walk(t, parent(t, i), steps - 1, known, into);
-    let Walk::Root(n, at) = up else {
-        return Walk::Lost;
-    };
+    let up = walk(t, parent(t, i), steps - 1, known, into)?;
+    let steps = up.steps + 1;
     if into.len() == 0 {
-        return Walk::Root(n + 1, 0);
+        return Some(Way { steps, length: 0 });
     }
     let s = name(t, i);
+    let at = up.length;
     into[at] = b'/';
     copy(into, at + 1, s);
-    Walk::Root(n + 1, at + 1 + s.len())
+    let length = at + 1 + s.len();
+    Some(Way { steps, length })
 }
 
 // Puts a used slot's path text at the front of a buffer that takes every path, and gives its length.
@@ -73,10 +79,9 @@ pub fn path_of(t: &[u8], i: usize, into: &mut [u8]) -> usize
         return 1;
     }
     let nothing = [0u8; SLOTS];
-    let way = walk_up(t, i, MOST_STEPS, &nothing, into);
-    match way {
-        Walk::Lost => 0,
-        Walk::Root(_, n) => n,
+    match walk_up(t, i, MOST_STEPS, &nothing, into) {
+        Some(way) => way.length,
+        None => 0,
     }
 }
 
@@ -87,16 +92,13 @@ pub fn all_chained(t: &[u8]) -> bool
 {
     let mut known = [0u8; SLOTS];
     let mut no_text = [0u8; 1];
-    let mut i = 0;
-    while i < SLOTS {
+    for i in 0..SLOTS {
         if used(t, i) {
-            let way = walk(t, i, MOST_STEPS, &known, &mut no_text[..0]);
-            let Walk::Root(steps, _) = way else {
+            let Some(way) = walk(t, i, MOST_STEPS, &known, &mut no_text[..0]) else {
                 return false;
             };
-            known[i] = steps + 1;
+            known[i] = way.steps + 1;
         }
-        i += 1;
     }
     true
 }

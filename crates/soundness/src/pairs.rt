@@ -56,10 +56,8 @@ fn has_key(keys: &[u16; SLOTS], key: u16) -> bool
     ensures { result ≡ has_key key keys.now }
 {
     let mut found = false;
-    let mut j = 0;
-    while j < SLOTS {
-        found = found | (keys[j] == key);
-        j += 1;
+    for k in keys {
+        found = found | (*k == key);
     }
     found
 }
@@ -96,25 +94,21 @@ pub fn all_distinct(t: &[u8]) -> bool
     let mut keys = [0u16; SLOTS];
     let mut taken = [0u8; 1024];
     let mut apart = true;
-    let mut i = 0;
-    'pairs: while i < SLOTS {
+    'pairs: for i in 0..SLOTS {
         let key = key_of(t, i);
         let place = place_of(key);
         if may_clash(&taken, &keys, place, key) {
-            let mut j = 0;
-            while j < i {
+            for j in 0..i {
                 if keys[j] == key {
                     if same_names(t, j, i) {
                         apart = false;
                         break 'pairs;
                     }
                 }
-                j += 1;
             }
         }
         keys[i] = key;
         taken[place] = 1;
-        i += 1;
     }
     apart
 }

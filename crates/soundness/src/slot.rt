@@ -62,29 +62,22 @@ fn name_byte(b: u8) -> bool
 fn is_name(s: &[u8]) -> bool
     ensures { result ≡ is_name s.now }
 {
-    let mut i = 0;
-    while i < s.len() {
-        if !name_byte(s[i]) {
+    for b in s {
+        if !name_byte(*b) {
             return false;
         }
-        i += 1;
     }
     s.len() != 0
 }
 
-// Whether each byte is a small letter, or 0 where its last is 0. A byte's last, from `from` on, is the greatest that may stand in its place.
+// Whether each byte is a small letter, or 0 where its last is 0. A byte's last is the greatest that may stand in its place.
 // Every byte is looked at, with one test at the end.
-fn small_letters(s: &[u8], last: &[u8], from: usize) -> bool
-    requires { from + length s.now ≤ length last.now }
-    ensures { result ≡ small_letters s.now (drop from last.now) }
+fn small_letters(s: &[u8], last: &[u8]) -> bool
+    ensures { result ≡ small_letters s.now last.now }
 {
     let mut all = true;
-    let mut i = 0;
-    while i < s.len() {
-        let b = s[i];
-        let z = last[from + i];
-        all = all & ((b <= z) & ((b'a' <= b) | (z == 0)));
-        i += 1;
+    for (b, z) in s.iter().zip(last) {
+        all = all & ((*b <= *z) & ((b'a' <= *b) | (*z == 0)));
     }
     all
 }
@@ -100,11 +93,8 @@ fn short_name(t: &[u8], at: usize, n: usize) -> bool
     if !all_zero(&t[at + HALF_NAME..at + LONGEST_NAME]) {
         return false;
     }
-    if small_letters(
-        &t[at..at + HALF_NAME],
-        b"zzzzzzzzzzzzzzzz\0\0\0\0\0\0\0\0\0\0\0\0\0\0\0\0",
-        HALF_NAME - n,
-    ) {
+    let last = b"zzzzzzzzzzzzzzzz\0\0\0\0\0\0\0\0\0\0\0\0\0\0\0\0";
+    if small_letters(&t[at..at + HALF_NAME], &last[HALF_NAME - n..]) {
         return true;
     }
     if !all_zero(&t[at + n..at + n + HALF_NAME]) {

@@ -18,12 +18,10 @@ fn all_good(t: &[u8]) -> bool
     requires { length t.now ≡ table_size }
     ensures { result ≡ every (good_slot t.now) slots 0 }
 {
-    let mut i = 0;
-    while i < SLOTS {
+    for i in 0..SLOTS {
         if !good_slot(t, i) {
             return false;
         }
-        i += 1;
     }
     true
 }

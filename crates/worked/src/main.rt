@@ -4,63 +4,35 @@
 // or up to the first that is refused, and counts up the number at the end of its payload.
 #![tactic(auto)]
 
-ghost use Rattle.std.specs.Prelude.{◌<◌, ◌≤◌, length};
+ghost use Rattle.std.specs.Prelude.{◌≤◌, length};
 
 mod call;
 mod event_lines;
-mod form;
 mod print;
+mod step;
+mod store;
 mod words;
 
 use call::ask;
-use form::{is_formed, is_slot};
-use haabuvilk::fresh::haabuvilk_fresh;
-use octets::sizes::{COPIES_SIZE, DOMAINS_SIZE, TABLE_SIZE, TRANSACTIONS_SIZE, WATCHES_SIZE};
-use print::{print, print_slot, print_words};
+use print::{print, print_slot};
 use std::io::Read;
-use words::{find, part};
+use step::{Step, is_formed, step_in};
+use store::Store;
 
 // More than the worked lines have.
 const INPUT_SIZE: usize = 16384;
 
-// Runs the worked line whose words stand at `from`, from the fresh store, and answers the place behind it.
-fn worked(rt: &impl Print, input: &[u8], from: usize) -> usize
-    requires { from < length input.now }
-    ensures { from < result }
-{
-    let mut nodes = [0u8; TABLE_SIZE];
-    let mut copies = [0u8; COPIES_SIZE];
-    let mut watches = [0u8; WATCHES_SIZE];
-    let mut transactions = [0u8; TRANSACTIONS_SIZE];
-    let mut domains = [0u8; DOMAINS_SIZE];
-    haabuvilk_fresh(
-        &mut nodes,
-        &mut copies,
-        &mut watches,
-        &mut transactions,
-        &mut domains,
-    );
-    let mut at = print_words(rt, input, from);
-    while at < input.len() && input[at] == b' ' {
-        let end = find(input, at, b'\n');
-        let line = part(input, at, end);
-        print(rt, line);
-        if is_slot(line) {
-            print_slot(rt, &nodes, line);
-        } else {
-            ask(
-                rt,
-                &mut nodes,
-                &mut copies,
-                &mut watches,
-                &mut transactions,
-                &mut domains,
-                line,
-            );
+// Does what a line says, which is words or a step.
+fn work(rt: &impl Print, store: &mut Store, line: &[u8]) {
+    print(rt, line);
+    match step_in(line) {
+        Some(Step::Slot(slot)) => print_slot(rt, &store.nodes, slot),
+        Some(Step::Made(request)) => ask(rt, store, &request),
+        None => {
+            print(rt, b"\n");
+            *store = Store::fresh();
         }
-        at = end + 1;
     }
-    at
 }
 
 // Reads until buf is full, the input ends or a read fails, and answers how many bytes came.
@@ -88,8 +60,8 @@ fn main(rt: HostRuntime) {
     if !is_formed(&rt.stderr(), &input[..n]) {
         return;
     }
-    let mut at = 0;
-    while at < n {
-        at = worked(&rt, &input[..n], at);
+    let mut store = Store::fresh();
+    for line in input[..n].split_inclusive(|b| *b == b'\n') {
+        work(&rt, &mut store, line.strip_suffix(b"\n").unwrap_or(line));
     }
 }

@@ -1,4 +1,4 @@
--- No room for a header, a payload past the size and another length than the header says are told by the numbers of the rule.
+-- No room for a header, a payload past the size and another length than the header says are told as the rule has it.
 use mathlib.Core.Path.{sym}
 use Rattle.haabuvilk.proofs.CheckLaws.{frame_short, frame_overlong, frame_whole, frame_broken}
 use Rattle.haabuvilk.proofs.checks.frame.Goals as goal

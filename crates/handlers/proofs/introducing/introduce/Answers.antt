@@ -1,13 +1,14 @@
 -- A free place takes the domain if it is new, and the records are those of its event; otherwise every table stays.
 use lib.ListN.{length}
 use mathlib.Core.List.{flat_map}
+use native.Mathlib.Omega.{arith}
 use mathlib.Core.Path.{refl, sym, ap, ◌∙◌}
 use Rattle.rules.specs.Event.{Watches, heard_of}
 use Rattle.rules.specs.Path.{introduce_name}
 use Rattle.rules.specs.Octets.{paste}
 use Rattle.events.specs.Stores.{event_name}
 use Rattle.handlers.proofs.PlainLaws.{recorded-first}
-use Rattle.handlers.proofs.Ways.{refused_so, same_tables_lem}
+use Rattle.handlers.proofs.Ways.{none-free, some_free, free-below, refused_so, same_tables_lem}
 use Rattle.handlers.proofs.DomainLaws.{introduce_twice, introduce-full, introduce-done, introduced_so}
 use Rattle.rules.specs.Layout.{record_bytes}
 use Rattle.domains.proofs.Laws.{length-domains_of}
@@ -17,17 +18,15 @@ use Rattle.handlers.proofs.introducing.introduce.Goals as goal
 pub returns-then-introduced : goal.returns-then-introduced
 returns-then-introduced c =
     let pre = c.requires in
-    λ w l events. refused_so w _ _ _ _ _ _
-    (introduce_twice w _ _ _ _ l.domains (length-domains_of _) (sym c.introduced.ensures ∙ c.if-introduced.true))
-    c.with_events.ensures (same_tables_lem refl refl refl refl (domains-alone w _ pre.1 l.domains))
+    λ w l events. refused_so w _ _ _ _ _
+    (introduce_twice w _ _ _ _ l.domains (length-domains_of _) (sym c.introduced.ensures ∙ c.if-introduced.true)) (same_tables_lem refl refl refl refl (domains-alone w _ pre.1 l.domains))
 
-pub returns-then-k-ge-DOMAINS : goal.returns-then-k-ge-DOMAINS
-returns-then-k-ge-DOMAINS c =
+pub returns-in_default : goal.returns-in_default
+returns-in_default c =
     let pre = c.requires in
     let fresh = sym c.introduced.ensures ∙ c.if-introduced.false in
-    λ w l events. refused_so w _ _ _ _ _ _
-    (introduce-full w _ _ _ _ l.domains (length-domains_of _) fresh _ c.lowest_free-k.ensures c.if-k-ge-DOMAINS.true)
-    c.with_events-then-k-ge-DOMAINS.ensures (same_tables_lem refl refl refl refl (domains-alone w _ pre.1 l.domains))
+    λ w l events. refused_so w _ _ _ _ _
+    (introduce-full w _ _ _ _ l.domains (length-domains_of _) fresh _ (none-free _ _ _ c.lowest_free.ensures.found c.in_default.not-Some) (omega arith)) (same_tables_lem refl refl refl refl (domains-alone w _ pre.1 l.domains))
 
 pub returns : goal.returns
 unfolding event_name
@@ -37,9 +36,8 @@ returns c =
     let f = recorded-first _ _ _ _ c.of_domain-events.ensures in
     λ w l events. introduced_so _ _ _ _ _ _ _ _ _ _ _ _ _
     (introduce-done w _ _ _ _ l.domains (length-domains_of _) fresh _
-    c.lowest_free-k.ensures
-    c.if-k-ge-DOMAINS.false)
-    refl c.okay-reply.ensures
+    (some_free _ _ _ c.lowest_free.ensures.found _ c.in-Some.is) (free-below _ _ c.lowest_free.ensures.below _ c.in-Some.is))
+    refl c.okay.ensures
     (f.0 ∙ ap (λ (ws : Watches). paste 0 (flat_map record_bytes (heard_of introduce_name args.domain ws)) args.events.now) (sym l.watches))
     (f.1 ∙ ap (λ (ws : Watches). length (heard_of introduce_name args.domain ws)) (sym l.watches))
     (same_tables_lem refl refl refl refl c.add.ensures)

@@ -1,4 +1,6 @@
 -- The copy's bytes become the node table, and the records are those of its changes between the two.
+use mathlib.Core.Path.{ap}
+use Rattle.std.specs.Prelude.{Ok}
 use Rattle.handlers.proofs.EndLaws.{committing_stores, copy-fits, commit_handled}
 use Rattle.handlers.proofs.transacting.commit.Goals as goal
 
@@ -19,4 +21,4 @@ returns c =
     c.copy.ensures w l.nodes l.copies l.watches
     l.transactions
     _ _ _ _ _ _ c.close_committed.ensures c.changes-n.ensures
-    c.okay.ensures c.with_events.ensures
+    c.okay.ensures (ap Ok c.with_events.ensures)

@@ -1,4 +1,6 @@
 -- A transaction that is not held is unknown; one that is held is closed, and its commit is that of its place unless it is stale.
+use Rattle.std.specs.Prelude.{Ok, Err}
+use Rattle.replies.specs.declared.kinds.Errno.TheVariants.{Again}
 use mathlib.Core.Option.{none}
 use Rattle.rules.specs.World.{ending}
 use Rattle.handlers.proofs.Ways.{handled_as, refused_so, done_so, same_tables_lem}
@@ -16,10 +18,9 @@ returns-then-not-is_held c =
     let args = c.args in
     let pre = c.requires in
     let asked = c.is_held in
-    λ w l events. refused_so w _ _ _ _ _ _
+    λ w l events. refused_so w _ _ _ _ _
     (end-unknown w _ _ _ (none_held args.transactions.now args.c args.tx asked.result asked.ensures c.if-not-is_held.true-raw w
-    l.transactions))
-    c.with_events.ensures (same_tables_lem (nodes-alone w _ pre.sound l.nodes) refl refl (transactions-alone w _ pre.kept l.transactions) refl)
+    l.transactions)) (same_tables_lem (nodes-alone w _ pre.sound l.nodes) refl refl (transactions-alone w _ pre.kept l.transactions) refl)
 
 pub overflow_sub-k : goal.overflow_sub-k
 overflow_sub-k c =
@@ -39,7 +40,7 @@ returns-then-not-commits c =
     let ends = c.if-not-commits.true in
     λ w l events. done_so w _ _ _ _ _ _ _ _ _
     (ap (ending w args.c args.tx) ends ∙ end_dropped w _ _ _ (h.found w l.transactions))
-    c.with_events-then-not-commits.ensures c.okay.ensures
+    (ap Ok c.with_events.ensures) c.okay.ensures
     (same_tables_lem (nodes-alone w _ c.requires.sound l.nodes) refl refl
     (c.close.ensures
     ∙ ap (λ (y : Transactions). transactions_bytes (set y (args.tx - 1) none)) (sym l.transactions)) refl)
@@ -62,9 +63,9 @@ returns-then-stale c =
     let h = it_holds args.transactions.now args.c args.tx c.is_held.result c.is_held.ensures c.if-not-is_held.false-raw in
     let commits = c.if-not-commits.false in
     let stale = sym c.stale.ensures ∙ c.if-stale.true in
-    λ w l events. done_so w _ _ _ _ _ _ _ _ _
+    λ w l events. done_so w _ _ _ _ _ _ _ (Err Again) _
     (ap (ending w args.c args.tx) commits ∙ end-stale w _ _ _ (h.found w l.transactions) stale)
-    c.with_events-then-stale.ensures (refl, refl)
+    refl (refl, refl)
     (same_tables_lem (nodes-alone w _ c.requires.sound l.nodes) refl refl
     (c.close-then-stale.ensures ∙ ap (λ (y : Transactions). transactions_bytes (set y (args.tx - 1) none)) (sym l.transactions)) refl)
 

@@ -1,4 +1,5 @@
 -- Both tables are left without the connection's entries.
+use Rattle.std.specs.Prelude.{Ok}
 use mathlib.Core.Path.{refl, sym, ap, ◌∙◌}
 use lib.Dec.{eqb}
 use Rattle.rules.specs.Layout.{Transactions}
@@ -12,7 +13,7 @@ use Rattle.handlers.proofs.watching.reset.Goals as goal
 pub returns : goal.returns
 returns c =
     let owner = c.args.c in
-    λ w l events. done_so w _ _ _ events _ _ _ _ _ (reset-done w _) c.with_events.ensures c.okay.ensures
+    λ w l events. done_so w _ _ _ events _ _ _ _ _ (reset-done w _) (ap Ok c.with_events.ensures) c.okay.ensures
     (same_tables_lem refl refl
     (c.remove_of.ensures
     ∙ ap (λ (ws : Watches). watches_bytes (without_watches (eqb owner) ws)) (sym l.watches))

@@ -14,7 +14,7 @@ use Rattle.paths.specs.Names.{name_end}
 use Rattle.paths.proofs.PieceLaws.{end_low, end-high}
 use Rattle.slots.proofs.Canonical.{root-used}
 use Rattle.slots.proofs.LeftLaws.{left_over}
-use Rattle.lookup.specs.Reach.{found_meant}
+use Rattle.octets.specs.Options.{meant}
 use Rattle.lookup.proofs.ReachLaws.{reach-end, left-whole, turned, stopped}
 use Rattle.lookup.proofs.reach.reach.Goals as goal
 
@@ -49,9 +49,6 @@ slice_bounds-child-end c =
 pub child-requires : goal.child-requires
 child-requires c = c.requires.0
 
-pub enum_known-i : goal.enum_known-i
-enum_known-i c = c.in-At.in-At-own.keys1
-
 pub overflow_add-at : goal.overflow_add-at
 overflow_add-at c =
     let p = c.args.path.now in
@@ -67,23 +64,20 @@ loop-at-preserved c =
     let args = c.args in
     let loop = c.loop-at in
     let p = args.path.now in
-    let i = c.in-At.i in
+    let i = c.in-Some.i in
     let e : name_end p loop.at ≡ c.name_end-end.result = sym c.name_end-end.ensures in
     let f : child (table_of args.t.now) loop.slot (take (c.name_end-end.result - loop.at)
-    (drop loop.at p)) ≡ some i = sym c.child.ensures ∙ ap found_meant c.in-At.is in
+    (drop loop.at p)) ≡ some i = sym c.child.ensures ∙ ap meant c.in-Some.is in
     turned args.t.now p loop.slot loop.at (omega arith) loop.invariant.2 loop.invariant.3 c.name_end-end.result e i f
 
-pub enum_told-1 : goal.enum_told-1
-enum_told-1 c = c.in-Nowhere.in-Nowhere-own.keys2
-
-pub returns-in-Nowhere : goal.returns-in-Nowhere
-returns-in-Nowhere c =
+pub returns-in_default : goal.returns-in_default
+returns-in_default c =
     let args = c.args in
     let loop = c.loop-at in
     let p = args.path.now in
     let e : name_end p loop.at ≡ c.name_end-end.result = sym c.name_end-end.ensures in
     let f : child (table_of args.t.now) loop.slot (take (c.name_end-end.result - loop.at) (drop loop.at p))
-    ≡ none = sym c.child.ensures ∙ ap found_meant c.in-Nowhere.is in
+    ≡ none = sym c.child.ensures ∙ ap meant c.in_default.is in
     let r = stopped args.t.now p loop.slot loop.at (omega arith) loop.invariant.2 loop.invariant.3 c.name_end-end.result e f in
     record {
       below = loop.invariant.0;

@@ -40,7 +40,8 @@ returns-in-Introduce c = laws.parsed _ _ _ _ _ c.in-Introduce.is _ c.introduce.e
 pub returns-in_err-domain_alone-in-Release : goal.returns-in_err-domain_alone-in-Release
 unfolding parse
 returns-in_err-domain_alone-in-Release c =
-    rw c.from_residual.ensures (laws.parsed _ _ _ _ _ c.in-Release.is _ (domain_not _ _ _ (sym c.in_err-domain_alone-in-Release.ensures)) (λ d. refl))
+    rw c.from_residual.ensures
+    (laws.parsed _ _ _ _ _ c.in-Release.is _ (domain_not _ _ _ (sym c.in_err-domain_alone-in-Release.ensures)) (λ d. refl))
 
 pub returns-in_ok-domain_alone-in-Release : goal.returns-in_ok-domain_alone-in-Release
 unfolding parse
@@ -50,7 +51,8 @@ returns-in_ok-domain_alone-in-Release c =
 pub returns-in_err-domain_alone-in-DomainPath : goal.returns-in_err-domain_alone-in-DomainPath
 unfolding parse
 returns-in_err-domain_alone-in-DomainPath c =
-    rw c.from_residual-in_err-domain_alone-in-DomainPath.ensures (laws.parsed _ _ _ _ _ c.in-DomainPath.is _ (domain_not _ _ _ (sym c.in_err-domain_alone-in-DomainPath.ensures)) (λ d. refl))
+    rw c.from_residual-in_err-domain_alone-in-DomainPath.ensures
+    (laws.parsed _ _ _ _ _ c.in-DomainPath.is _ (domain_not _ _ _ (sym c.in_err-domain_alone-in-DomainPath.ensures)) (λ d. refl))
 
 pub returns-in_ok-domain_alone-in-DomainPath : goal.returns-in_ok-domain_alone-in-DomainPath
 unfolding parse
@@ -76,7 +78,8 @@ returns-in-SetPerms c = laws.parsed_kept _ _ _ _ _ c.in-SetPerms.is _ c.set_perm
 pub returns-in_err-domain_alone-in-IsIntroduced : goal.returns-in_err-domain_alone-in-IsIntroduced
 unfolding parse
 returns-in_err-domain_alone-in-IsIntroduced c =
-    rw c.from_residual-in_err-domain_alone-in-IsIntroduced.ensures (laws.parsed _ _ _ _ _ c.in-IsIntroduced.is _ (domain_not _ _ _ (sym c.in_err-domain_alone-in-IsIntroduced.ensures)) (λ d. refl))
+    rw c.from_residual-in_err-domain_alone-in-IsIntroduced.ensures
+    (laws.parsed _ _ _ _ _ c.in-IsIntroduced.is _ (domain_not _ _ _ (sym c.in_err-domain_alone-in-IsIntroduced.ensures)) (λ d. refl))
 
 pub returns-in_ok-domain_alone-in-IsIntroduced : goal.returns-in_ok-domain_alone-in-IsIntroduced
 unfolding parse

@@ -9,7 +9,7 @@ pub returns-then-not-is_control : goal.returns-then-not-is_control
 returns-then-not-is_control c =
     let denied = sym c.is_control.ensures ∙ c.if-not-is_control.true in
     λ w l e.
-    refused_so w _ _ _ _ _ _ (control_denied w c.args.sender c.requires.0 _ denied) c.with_events.ensures
+    refused_so w _ _ _ _ _ (control_denied w c.args.sender c.requires.0 _ denied)
     (same_tables_lem refl refl refl refl (domains-alone w _ c.requires.2 l.domains))
 
 pub returns : goal.returns

@@ -10,7 +10,7 @@ returns-then-not-is_control c =
     let on = c.requires.1 in
     let denied = sym c.is_control.ensures ∙ c.if-not-is_control.true in
     λ w l e.
-    refused_so w _ _ _ _ _ _ (control_denied w c.args.sender c.requires.0 _ denied) c.with_events.ensures
+    refused_so w _ _ _ _ _ (control_denied w c.args.sender c.requires.0 _ denied)
     (same_tables_lem (nodes-alone w _ on.sound l.nodes) refl (watches-alone w _ on.watching l.watches)
     (transactions-alone w _ on.kept l.transactions)
     (domains-alone w _ on.known l.domains))

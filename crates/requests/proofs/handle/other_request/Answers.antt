@@ -1,5 +1,6 @@
 -- Each kind is its handler's; a table that the handler is not lent stays as it is.
-use mathlib.Core.Path.{refl}
+use mathlib.Core.Path.{refl, ap}
+use Rattle.std.specs.Prelude.{Ok}
 use Rattle.rules.specs.World as W
 use Rattle.rules.specs.Call.{outcome_of}
 use Rattle.payload.specs.Meaning.{meant}
@@ -57,7 +58,7 @@ pub returns-in-Invalid : goal.returns-in-Invalid
 unfolding meant outcome_of W.handle W.left W.to
 returns-in-Invalid c =
     λ w l e.
-    refused_so w _ _ _ _ _ _ (read_as c.in-Invalid.is w _ _ _ _) c.with_events.ensures (all_left _ _ _ _ _ c.requires.0 w l)
+    refused_so w _ _ _ _ _ (read_as c.in-Invalid.is w _ _ _ _) (all_left _ _ _ _ _ c.requires.0 w l)
 
 pub returns-in-Watch : goal.returns-in-Watch
 unfolding meant outcome_of W.handle W.left W.to
@@ -128,7 +129,7 @@ unfolding meant outcome_of W.handle W.left W.to
 returns-in-DomainPath c =
     let kind = c.in-DomainPath.is in
     λ w l e.
-    done_so w _ _ _ _ _ _ _ _ _ (read_as kind w _ _ _ _) c.with_events-in-DomainPath.ensures c.domain_path.ensures
+    done_so w _ _ _ _ _ _ _ _ _ (read_as kind w _ _ _ _) (ap Ok c.with_events.ensures) c.domain_path.ensures
     (all_left _ _ _ _ _ c.requires.0 w l)
 
 pub returns-in-IsIntroduced : goal.returns-in-IsIntroduced
@@ -136,7 +137,7 @@ unfolding meant outcome_of W.handle W.left W.to
 returns-in-IsIntroduced c =
     let kind = c.in-IsIntroduced.is in
     λ w l e.
-    done_so w _ _ _ _ _ _ _ _ _ (read_as kind w _ _ _ _) c.with_events-in-IsIntroduced.ensures (c.is_introduced.ensures w l.domains)
+    done_so w _ _ _ _ _ _ _ _ _ (read_as kind w _ _ _ _) (ap Ok c.with_events-in-IsIntroduced.ensures) (c.is_introduced.ensures w l.domains)
     (all_left _ _ _ _ _ c.requires.0 w l)
 
 pub returns-in-Reset : goal.returns-in-Reset
@@ -156,4 +157,4 @@ returns-in_default c =
     let kind =
     is_unknown c.args.r c.requires.2 no.not-Invalid no.not-Watch no.not-Unwatch no.not-Start no.not-End no.not-Introduce no.not-Release
     no.not-DomainPath no.not-IsIntroduced no.not-Reset in
-    λ w l e. refused_so w _ _ _ _ _ _ (read_as kind w _ _ _ _) c.with_events-in_default.ensures (all_left _ _ _ _ _ c.requires.0 w l)
+    λ w l e. refused_so w _ _ _ _ _ (read_as kind w _ _ _ _) (all_left _ _ _ _ _ c.requires.0 w l)

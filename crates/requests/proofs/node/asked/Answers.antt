@@ -21,7 +21,7 @@ returns-then-not-is_held c =
     λ w l e.
     let none = none_held a.transactions.now a.sender.connection a.tx c.is_held.result c.is_held.ensures c.if-not-is_held.true-raw w
     l.transactions in
-    refused_so w _ _ _ _ _ _ (asked_nowhere w _ c.requires.0 _ _ _ c.if-tx-eq0.false none) c.with_events.ensures
+    refused_so w _ _ _ _ _ (asked_nowhere w _ c.requires.0 _ _ _ c.if-tx-eq0.false none)
     (same_tables_lem (nodes-alone w _ p.sound l.nodes) (copies-alone w _ p.whole l.copies) refl
     (transactions-alone w _ p.kept l.transactions) refl)
 

@@ -3,15 +3,18 @@ use native.Mathlib.Omega.{arith}
 use Prim.Native.Nat.{◌%◌}
 use mathlib.Core.Option.{some}
 use mathlib.Core.Path.{◌≡◌, sym, ap, subst, ◌∙◌}
+use Rattle.octets.specs.Options.{meant}
 use Rattle.domains.specs.Entry.{entry_or}
-use Rattle.payload.specs.Meaning.{DepthSound, depth_meant}
+use Rattle.payload.specs.Meaning.{DepthSound}
 use Rattle.requests.proofs.place.depth_of.Goals as goal
 
-pub returns-in-Given : goal.returns-in-Given
+pub returns-in_err-k : goal.returns-in_err-k
 unfolding entry_or
-returns-in-Given c = let k = c.in-Given.k in let b = subst DepthSound c.in-Given.is c.requires in let e : k % 256
-    ≡ k = omega (arith, b) in (ap some e ∙ sym (ap depth_meant c.in-Given.is), omega arith)
+returns-in_err-k c = rw c.from_residual.ensures (sym (ap meant c.in_err-k.was), omega arith)
 
-pub returns-in-None : goal.returns-in-None
+pub returns : goal.returns
 unfolding entry_or
-returns-in-None c = (sym (ap depth_meant c.in-None.is), omega arith)
+returns c =
+    let b = subst DepthSound c.in_ok-k.was c.requires in
+    let e : c.in_ok-k.k % 256 ≡ c.in_ok-k.k = omega (arith, b) in
+    (ap some e ∙ sym (ap meant c.in_ok-k.was), omega arith)

@@ -1,20 +1,18 @@
 -- The form says it.
-use mathlib.Core.Path.{sym, ap}
+use mathlib.Core.Path.{◌≡◌, refl, sym, ◌∙◌}
+use denote.Enum.Bare.{sameb}
+use Rattle.paths.specs.contracts.answer.Form.{the_type}
+use Rattle.paths.specs.declared.answer.Form.{Form}
+use Rattle.paths.specs.declared.answer.Form.TheVariants.{Absolute, Relative, Special, Malformed}
 use Rattle.requests.specs.Place.{is_relative}
 use Rattle.requests.proofs.place.is_relative.Goals as goal
 
-pub returns-in-Relative : goal.returns-in-Relative
+by-form : (f : Form) → is_relative f ≡ sameb the_type f Relative
 unfolding is_relative
-returns-in-Relative c = sym (ap is_relative c.in-Relative.is)
+by-form Absolute = refl
+by-form Relative = refl
+by-form Special = refl
+by-form Malformed = refl
 
-pub returns-in-Absolute : goal.returns-in-Absolute
-unfolding is_relative
-returns-in-Absolute c = sym (ap is_relative c.in-Absolute.is)
-
-pub returns-in-Special : goal.returns-in-Special
-unfolding is_relative
-returns-in-Special c = sym (ap is_relative c.in-Special.is)
-
-pub returns-in-Malformed : goal.returns-in-Malformed
-unfolding is_relative
-returns-in-Malformed c = sym (ap is_relative c.in-Malformed.is)
+pub returns : goal.returns
+returns c = c.eq.ensures ∙ sym (by-form c.args.form)

@@ -1,20 +1,18 @@
 -- The form says it.
-use mathlib.Core.Path.{sym, ap}
+use mathlib.Core.Path.{◌≡◌, refl, sym, ◌∙◌}
+use denote.Enum.Bare.{sameb}
+use Rattle.paths.specs.contracts.answer.Form.{the_type}
+use Rattle.paths.specs.declared.answer.Form.{Form}
+use Rattle.paths.specs.declared.answer.Form.TheVariants.{Absolute, Relative, Special, Malformed}
 use Rattle.requests.specs.Place.{is_special}
 use Rattle.requests.proofs.place.is_special.Goals as goal
 
-pub returns-in-Special : goal.returns-in-Special
+by-form : (f : Form) → is_special f ≡ sameb the_type f Special
 unfolding is_special
-returns-in-Special c = sym (ap is_special c.in-Special.is)
+by-form Absolute = refl
+by-form Relative = refl
+by-form Special = refl
+by-form Malformed = refl
 
-pub returns-in-Absolute : goal.returns-in-Absolute
-unfolding is_special
-returns-in-Absolute c = sym (ap is_special c.in-Absolute.is)
-
-pub returns-in-Relative : goal.returns-in-Relative
-unfolding is_special
-returns-in-Relative c = sym (ap is_special c.in-Relative.is)
-
-pub returns-in-Malformed : goal.returns-in-Malformed
-unfolding is_special
-returns-in-Malformed c = sym (ap is_special c.in-Malformed.is)
+pub returns : goal.returns
+returns c = c.eq.ensures ∙ sym (by-form c.args.form)

@@ -5,10 +5,10 @@ use native.Mathlib.Omega.{arith}
 use lib.ListN.{length, length-set}
 use Rattle.rules.specs.Size.{longest_name, longest_path, deepest}
 use Rattle.soundness.proofs.WalkLaws.{walked_root, walked_none, walked_unused, walked_far, walked_near, walked_lost, walked_count, walked_bare}
-use Rattle.soundness.proofs.WalkLaws.{walked_place, walked_up, name-short, Step}
+use Rattle.soundness.proofs.WalkLaws.{walked_place, walked_up, name-short, Step, step_up}
 use Prim.Native.Nat.{ℕ, ◌+◌, ◌≤◌, ◌<◌}
 use Rattle.soundness.proofs.chain.+walk_walk_up.Goals as goal
-use Rattle.soundness.proofs.chain.+walk_walk_up.Goals.{walk-After-parent, walk_up-After-parent, walk_up-In-Root, walk_up-Else-into-eq0}
+use Rattle.soundness.proofs.chain.+walk_walk_up.Goals.{walk-After-parent, walk_up-Else-into-eq0}
 
 pub walk-returns-then-i-eq0 : goal.walk-returns-then-i-eq0
 walk-returns-then-i-eq0 t c = walked_root _ _ c.args.steps c.args.i c.if-i-eq0.true
@@ -64,54 +64,39 @@ walk-returns t c =
     walked_near _ _ c.args.steps c.args.i _ (walk_step (goal.at.walk-returns t c).After-parent) c.requires.1 _ c.requires.2
     c.if-above-eq0.false (omega (arith, c.if-steps-above.false))
 
-pub walk_up-walk-up-requires : goal.walk_up-walk-up-requires
-walk_up-walk-up-requires t c =
+pub walk_up-walk-requires : goal.walk_up-walk-requires
+walk_up-walk-requires t c =
     (omega (arith, c.decreases, c.requires.3), (c.parent.ensures.0, omega (arith, c.requires.4), c.requires.5))
 
-walk-up-step : {t : ℕ} (c : walk_up-After-parent t) → Step c.args.t.now c.args.steps c.args.i c.parent.result
-walk-up-step c =
-    let p = c.requires in
-    record { below = p.0; left = p.3; used = p.2; parent = c.parent.ensures.1 }
-
-pub walk_up-returns-in_default : goal.walk_up-returns-in_default
-walk_up-returns-in_default t c =
-    let places = goal.at.walk_up-returns-in_default t c in
+pub walk_up-returns-in_err-up : goal.walk_up-returns-in_err-up
+walk_up-returns-in_err-up t c =
     let args = c.args in
-    walked_lost _ _ args.steps args.i _ (walk-up-step places.After-parent) _ _ c.walk-up.ensures c.in_default.is
+    rw c.from_residual.ensures
+    (walked_lost _ _ args.steps args.i _ (step_up c.requires c.parent.ensures.1) _ _ c.walk.ensures c.in_err-up.was)
 
-walk-up-count : {t : ℕ} (c : walk_up-In-Root t) → c.in-Root.n < deepest
-walk-up-count c =
-    let p = c.requires in
-    omega (
-      arith,
-      p.4,
-      walked_count _ _ c.args.steps c.args.i _ (record { below = p.0; left = p.3; used = p.2; parent = c.parent.ensures.1 }) _ _ c.walk-up.ensures _ _
-          c.in-Root.is,
-    )
-
-pub walk_up-overflow_add-result : goal.walk_up-overflow_add-result
-walk_up-overflow_add-result t c = record { fits = omega (arith, walk-up-count (goal.at.walk_up-overflow_add-result t c).In-Root) }
+pub walk_up-overflow_add-steps : goal.walk_up-overflow_add-steps
+walk_up-overflow_add-steps t c =
+    let args = c.args in
+    let n = walked_count _ _ args.steps args.i _ (step_up c.requires c.parent.ensures.1) _ _ c.walk.ensures _ _ c.in_ok-up.was in
+    record { fits = omega (arith, c.requires.4) }
 
 pub walk_up-returns-then-into-eq0 : goal.walk_up-returns-then-into-eq0
 walk_up-returns-then-into-eq0 t c =
-    let places = goal.at.walk_up-returns-then-into-eq0 t c in
     let args = c.args in
-    walked_bare _ _ args.steps args.i _ (walk-up-step places.After-parent) _ _ c.walk-up.ensures _ _ c.in-Root.is
-    (sym c.walk-up.auto.into ∙ c.if-into-eq0.true)
+    walked_bare _ _ args.steps args.i _ (step_up c.requires c.parent.ensures.1) _ _ c.walk.ensures _ _ c.in_ok-up.was
+    (sym c.walk.auto.into ∙ c.if-into-eq0.true)
 
-walk-up-filled : {t : ℕ} (c : walk_up-Else-into-eq0 t) → length c.args.into.now ≡ 0 → ⊥
-walk-up-filled c z = c.if-into-eq0.false (c.walk-up.auto.into ∙ z)
+filled : {t : ℕ} (c : walk_up-Else-into-eq0 t) → length c.args.into.now ≡ 0 → ⊥
+filled c z = c.if-into-eq0.false (c.walk.auto.into ∙ z)
 
-walk-up-room : {t : ℕ} (c : walk_up-Else-into-eq0 t)
-    → (c.in-Root.at + 1 + longest_name ≤ longest_path)
-    × (longest_path ≤ length c.walk-up.new.into)
-walk-up-room c =
+room : {t : ℕ} (c : walk_up-Else-into-eq0 t)
+    → (c.in_ok-up.up.length + 1 + longest_name ≤ longest_path)
+    × (longest_path ≤ length c.walk.new.into)
+room c =
     let p = c.requires in
-    let n = walk-up-filled c in (
-      walked_place _ _ c.args.steps c.args.i _ (record { below = p.0; left = p.3; used = p.2; parent = c.parent.ensures.1 }) _ _ c.walk-up.ensures _ _
-          c.in-Root.is n
-          p.4,
-      omega (arith, c.walk-up.auto.into, p.5.room n),
+    let n = filled c in (
+      walked_place _ _ c.args.steps c.args.i _ (step_up p c.parent.ensures.1) _ _ c.walk.ensures _ _ c.in_ok-up.was n p.4,
+      omega (arith, c.walk.auto.into, p.5.room n),
     )
 
 pub walk_up-name-s-requires : goal.walk_up-name-s-requires
@@ -120,39 +105,36 @@ walk_up-name-s-requires t c =
     (p.1, p.5.table.whole, p.2, p.5.table.short _ p.1 p.2)
 
 pub walk_up-bounds-into-at : goal.walk_up-bounds-into-at
-walk_up-bounds-into-at t c = omega (arith, walk-up-room (goal.at.walk_up-bounds-into-at t c).Else-into-eq0)
+walk_up-bounds-into-at t c = omega (arith, room (goal.at.walk_up-bounds-into-at t c).Else-into-eq0)
 
 pub walk_up-overflow_add-at : goal.walk_up-overflow_add-at
-walk_up-overflow_add-at t c = record { fits = omega (arith, (walk-up-room (goal.at.walk_up-overflow_add-at t c).Else-into-eq0).0) }
+walk_up-overflow_add-at t c = record { fits = omega (arith, (room (goal.at.walk_up-overflow_add-at t c).Else-into-eq0).0) }
 
 pub walk_up-copy-requires : goal.walk_up-copy-requires
 walk_up-copy-requires t c =
     let args = c.args in
-    rw length-set (omega (arith, walk-up-room (goal.at.walk_up-copy-requires t c).Else-into-eq0, ap length c.name-s.ensures, name-short args.t.now args.i))
+    rw length-set (omega (arith, room (goal.at.walk_up-copy-requires t c).Else-into-eq0, ap length c.name-s.ensures, name-short args.t.now args.i))
 
-pub walk_up-overflow_add-result-2 : goal.walk_up-overflow_add-result-2
-walk_up-overflow_add-result-2 t c = record { fits = omega (arith, walk-up-count (goal.at.walk_up-overflow_add-result-2 t c).In-Root) }
+pub walk_up-overflow_add-length : goal.walk_up-overflow_add-length
+walk_up-overflow_add-length t c = record { fits = omega (arith, (room (goal.at.walk_up-overflow_add-length t c).Else-into-eq0).0) }
 
-pub walk_up-overflow_add-result-3 : goal.walk_up-overflow_add-result-3
-walk_up-overflow_add-result-3 t c = record { fits = omega (arith, (walk-up-room (goal.at.walk_up-overflow_add-result-3 t c).Else-into-eq0).0) }
-
-pub walk_up-overflow_add-result-4 : goal.walk_up-overflow_add-result-4
-walk_up-overflow_add-result-4 t c =
-    let places = goal.at.walk_up-overflow_add-result-4 t c in
+pub walk_up-overflow_add-length-2 : goal.walk_up-overflow_add-length-2
+walk_up-overflow_add-length-2 t c =
+    let places = goal.at.walk_up-overflow_add-length-2 t c in
     let args = c.args in
     record {
-      fits = omega (arith, (walk-up-room places.Else-into-eq0).0, ap length c.name-s.ensures, name-short args.t.now args.i);
+      fits = omega (arith, (room places.Else-into-eq0).0, ap length c.name-s.ensures, name-short args.t.now args.i);
     }
 
 pub walk_up-shape_of-into : goal.walk_up-shape_of-into
 walk_up-shape_of-into t c =
-    let e : length c.copy.new.into ≡ length c.walk-up.new.into = c.copy.auto.into ∙ simp length-set in
-    e ∙ c.walk-up.auto.into
+    let e : length c.copy.new.into ≡ length c.walk.new.into = c.copy.auto.into ∙ simp length-set in
+    e ∙ c.walk.auto.into
 
 pub walk_up-returns : goal.walk_up-returns
 walk_up-returns t c =
     let places = goal.at.walk_up-returns t c in
     let args = c.args in
-    let len = c.walk-up.auto.into in
-    walked_up _ _ args.steps args.i _ (walk-up-step places.After-parent) _ _ c.walk-up.ensures _ _ c.in-Root.is
-    (walk-up-filled places.Else-into-eq0) len (omega (arith, walk-up-room places.Else-into-eq0, len)) _ c.name-s.ensures _ c.copy.ensures
+    let len = c.walk.auto.into in
+    walked_up _ _ args.steps args.i _ (step_up c.requires c.parent.ensures.1) _ _ c.walk.ensures _ _ c.in_ok-up.was
+    (filled places.Else-into-eq0) len (omega (arith, room places.Else-into-eq0, len)) _ c.name-s.ensures _ c.copy.ensures

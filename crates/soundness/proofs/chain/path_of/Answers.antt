@@ -9,8 +9,8 @@ returns-then-i-eq0 c =
     let args = c.args in
     root_put args.t.now args.into.now args.i c.if-i-eq0.true (omega (arith, c.requires.2))
 
-pub walk_up-way-requires : goal.walk_up-way-requires
-walk_up-way-requires c =
+pub walk_up-requires : goal.walk_up-requires
+walk_up-requires c =
     let args = c.args in (
       pos_of_ne-zero c.if-i-eq0.false,
       used-below args.t.now c.requires.0 args.i c.requires.1,
@@ -20,14 +20,14 @@ walk_up-way-requires c =
       nothing_lent args.t.now c.requires.0 _ c.requires.2,
     )
 
-pub returns-in-Lost : goal.returns-in-Lost
-returns-in-Lost c =
+pub returns-in-None : goal.returns-in-None
+returns-in-None c =
     let args = c.args in
     absurd (never_lost args.t.now args.into.now _ args.i c.if-i-eq0.false
-    (used_reaches args.t.now c.requires.0 args.i c.requires.1) c.requires.2 _ c.walk_up-way.ensures c.in-Lost.is)
+    (used_reaches args.t.now c.requires.0 args.i c.requires.1) c.requires.2 _ c.walk_up.ensures c.in-None.is)
 
-pub returns-in-Root : goal.returns-in-Root
-returns-in-Root c =
+pub returns-in-Some : goal.returns-in-Some
+returns-in-Some c =
     let args = c.args in
     path_put args.t.now args.into.now _ args.i c.if-i-eq0.false
-    (used_reaches args.t.now c.requires.0 args.i c.requires.1) c.requires.2 _ c.walk_up-way.ensures _ _ c.in-Root.is
+    (used_reaches args.t.now c.requires.0 args.i c.requires.1) c.requires.2 _ c.walk_up.ensures _ _ c.in-Some.is

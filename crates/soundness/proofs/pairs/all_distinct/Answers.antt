@@ -10,7 +10,6 @@ use Rattle.soundness.proofs.pairs.all_distinct.Goals.{then-keys-j+else-same_name
 
 pub pairs-init : goal.pairs-init
 pairs-init c = (
-  omega arith,
   refl,
   record { long = refl; each = λ j l. absurd (omega arith) },
   λ a b n m l h p q. absurd (omega arith),
@@ -24,10 +23,10 @@ pub place_of-place-requires : goal.place_of-place-requires
 place_of-place-requires c = tt
 
 pub may_clash-requires : goal.may_clash-requires
-may_clash-requires c = (c.place_of-place.ensures.1, c.pairs.invariant.2.long)
+may_clash-requires c = (c.place_of-place.ensures.1, c.pairs.invariant.1.long)
 
 pub loop-j-init : goal.loop-j-init
-loop-j-init c = (omega arith, c.pairs.invariant.1, λ a n m l p q. absurd (omega arith))
+loop-j-init c = (c.pairs.invariant.0, λ a n m l p q. absurd (omega arith))
 
 pub same_names-requires : goal.same_names-requires
 same_names-requires c =
@@ -37,7 +36,7 @@ same_names-requires c =
       c.pairs-test.true,
       c.requires,
       key_used (slot_at t c.loop-j.j) c.key_of-key.result
-          (sym c.if-keys-j.true ∙ c.pairs.invariant.2.each c.loop-j.j c.loop-j-test.true) z,
+          (sym c.if-keys-j.true ∙ c.pairs.invariant.1.each c.loop-j.j c.loop-j-test.true) z,
       key_used (slot_at t c.pairs.i) c.key_of-key.result c.key_of-key.ensures z,
     )
 
@@ -45,12 +44,11 @@ pub loop-j-preserved : goal.loop-j-preserved
 loop-j-preserved c =
     let loop = c.loop-j in
     let t = c.args.t.now in (
-      omega arith,
-      loop.invariant.1,
+      loop.invariant.0,
       elim c.if-keys-j.branch [
-        | then-keys-j+else-same_names w ↦ row_names t c.pairs.i loop.j (sym w.same_names.ensures ∙ w.if-same_names.false) loop.invariant.2
-        | else-keys-j w ↦ row_differ t c.pairs.keys c.pairs.i loop.j c.key_of-key.result c.pairs.invariant.2
-            c.key_of-key.ensures c.loop-j-test.true w.if-keys-j.false loop.invariant.2
+        | then-keys-j+else-same_names w ↦ row_names t c.pairs.i loop.j (sym w.same_names.ensures ∙ w.if-same_names.false) loop.invariant.1
+        | else-keys-j w ↦ row_differ t c.pairs.keys c.pairs.i loop.j c.key_of-key.result c.pairs.invariant.1
+            c.key_of-key.ensures c.loop-j-test.true w.if-keys-j.false loop.invariant.1
       ],
     )
 
@@ -60,28 +58,27 @@ bounds-taken-place c = c.place_of-place.ensures.1
 pub pairs-preserved : goal.pairs-preserved
 pairs-preserved c =
     let t = c.args.t.now in (
-      omega arith,
       elim c.if-may_clash.branch [
-        | then-may_clash+else-loop-j-test w ↦ w.apart-is ∙ w.loop-j.invariant.1
-        | else-may_clash w ↦ w.apart-is ∙ c.pairs.invariant.1
+        | then-may_clash+else-loop-j-test w ↦ w.apart-is ∙ w.loop-j.invariant.0
+        | else-may_clash w ↦ w.apart-is ∙ c.pairs.invariant.0
       ],
       keyed_next t c.pairs.keys c.pairs.i c.key_of-key.result c.pairs-test.true c.key_of-key.ensures
-          c.pairs.invariant.2,
-      apart_next t c.pairs.i c.pairs.invariant.3 (elim c.if-may_clash.branch [
-        | then-may_clash+else-loop-j-test w ↦ row_whole t c.pairs.i w.loop-j.j w.loop-j.invariant.0 w.loop-j-test.false w.loop-j.invariant.2
+          c.pairs.invariant.1,
+      apart_next t c.pairs.i c.pairs.invariant.2 (elim c.if-may_clash.branch [
+        | then-may_clash+else-loop-j-test w ↦ row_whole t c.pairs.i w.loop-j.j w.loop-j.auto.j-end w.loop-j-test.false w.loop-j.invariant.1
         | else-may_clash w ↦ row_new t c.pairs.taken c.pairs.keys c.pairs.i c.key_of-key.result c.place_of-place.result
-            c.pairs-test.true c.pairs.invariant.2 c.pairs.invariant.4 c.key_of-key.ensures c.place_of-place.ensures.0
+            c.pairs-test.true c.pairs.invariant.1 c.pairs.invariant.3 c.key_of-key.ensures c.place_of-place.ensures.0
             (sym c.may_clash.ensures ∙ w.if-may_clash.false)
       ]),
       taken_next t c.pairs.taken c.pairs.i c.key_of-key.result c.place_of-place.result c.key_of-key.ensures
-          c.place_of-place.ensures.0 c.place_of-place.ensures.1 c.pairs.invariant.4,
+          c.place_of-place.ensures.0 c.place_of-place.ensures.1 c.pairs.invariant.3,
     )
 
 pub returns-after-pairs : goal.returns-after-pairs
-returns-after-pairs c = c.pairs.invariant.1 ∙ all_apart _ c.pairs.i c.pairs-test.false c.pairs.invariant.3
+returns-after-pairs c = c.pairs.invariant.0 ∙ all_apart _ c.pairs.i c.pairs-test.false c.pairs.invariant.2
 
 pub returns-then-same_names : goal.returns-then-same_names
 returns-then-same_names c =
-    pair_found c.args.t.now c.pairs.keys c.pairs.i c.loop-j.j c.key_of-key.result c.pairs.invariant.2
+    pair_found c.args.t.now c.pairs.keys c.pairs.i c.loop-j.j c.key_of-key.result c.pairs.invariant.1
     c.key_of-key.ensures (met_key _ _ _ c.key_of-key.result (sym c.may_clash.ensures ∙ c.if-may_clash.true))
     c.loop-j-test.true c.if-keys-j.true (sym c.same_names.ensures ∙ c.if-same_names.true)

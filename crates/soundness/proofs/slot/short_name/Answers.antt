@@ -1,6 +1,7 @@
 -- Small letters with zeros behind them are a name with zeros behind it; of any other text the bytes and what is behind them decide.
-use mathlib.Core.Path.{sym, ◌∙◌}
-use Rattle.soundness.proofs.KeptNames.{no_name, second_fault, small_name, first_fault, short-name}
+use mathlib.Core.Path.{ap, sym, ◌∙◌}
+use Rattle.soundness.specs.Parts.{small_letters}
+use Rattle.soundness.proofs.KeptNames.{lasts_whole, no_name, second_fault, small_name, first_fault, short-name}
 use Rattle.soundness.proofs.slot.short_name.Goals as goal
 
 pub returns-then-n-eq0 : goal.returns-then-n-eq0
@@ -14,7 +15,7 @@ pub returns-then-small_letters : goal.returns-then-small_letters
 returns-then-small_letters c =
     let args = c.args in
     small_name args.t.now args.at args.n c.requires.0 (sym c.all_zero.ensures ∙ c.if-not-all_zero.false)
-    c.if-n-eq0.false c.requires.1 (sym c.small_letters.ensures ∙ c.if-small_letters.true)
+    c.if-n-eq0.false c.requires.1 (ap (small_letters _) (sym (lasts_whole args.n)) ∙ (sym c.small_letters.ensures ∙ c.if-small_letters.true))
 
 pub returns-then-not-all_zero-2 : goal.returns-then-not-all_zero-2
 returns-then-not-all_zero-2 c =

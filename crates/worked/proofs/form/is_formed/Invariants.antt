@@ -1,9 +1,0 @@
--- A turn goes on behind the line that it looked at.
-use Rattle.std.proofs.Common.{◌+◌, ◌≤◌, ◌-◌, length}
-use Rattle.worked.proofs.form.is_formed.Given as goal
-
-abbrev pub invariant-loop-at : goal.invariant-loop-at
-invariant-loop-at g l = l.at ≤ length l.input + 1
-
-abbrev pub decreases-loop-at : goal.decreases-loop-at
-decreases-loop-at g l = length l.input - l.at

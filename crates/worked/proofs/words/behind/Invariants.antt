@@ -1,9 +1,0 @@
--- A turn looks for one blank of the k.
-use Rattle.std.proofs.Common.{◌≤◌, ◌-◌}
-use Rattle.worked.proofs.words.behind.Given as goal
-
-abbrev pub invariant-loop-i : goal.invariant-loop-i
-invariant-loop-i l = l.i ≤ l.k
-
-abbrev pub decreases-loop-i : goal.decreases-loop-i
-decreases-loop-i l = l.k - l.i

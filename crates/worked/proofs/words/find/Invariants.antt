@@ -1,9 +1,0 @@
--- The place goes up from `from`, and stops at the end.
-use Rattle.std.proofs.Common.{◌≤◌, ◌-◌, length}
-use Rattle.worked.proofs.words.find.Given as goal
-
-abbrev pub invariant-loop-i : goal.invariant-loop-i
-invariant-loop-i l = l.from ≤ l.i
-
-abbrev pub decreases-loop-i : goal.decreases-loop-i
-decreases-loop-i l = length l.s - l.i
