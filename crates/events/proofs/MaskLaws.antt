@@ -4,7 +4,7 @@ use mathlib.Core.Bool.{Bool, true, false}
 use mathlib.Core.List.{List, [], ◌∷◌, ◌++◌}
 use mathlib.Core.Option.{none, some}
 use Prim.Native.Nat.{ℕ, zero, suc, ◌+◌, ◌-◌, ◌*◌, ◌/◌, ◌%◌, ◌^◌, ◌≤◌, ◌<◌}
-use native.Mathlib.Nat.{pow-suc, pow-le-pow_right, zero-add, add-zero, add_assoc, add-mul, mul-one, mul_comm, mul_assoc}
+use native.Mathlib.Nat.{pow-suc, zero-add, add-zero, add_assoc, add-mul, mul-one, mul_comm, mul_assoc}
 use native.Mathlib.Nat.{mul-add-div_right, div-eq_of_lt, not-suc-le-zero, le_of_suc-le-suc}
 use native.Mathlib.Numerals.{add-one}
 use native.Mathlib.Omega.{arith}
