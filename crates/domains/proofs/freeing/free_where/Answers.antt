@@ -1,7 +1,6 @@
 -- The places before the one in turn were asked, and freed where the answer was true.
 use mathlib.Core.Path.{◌≡◌, refl, sym, ap, ◌∙◌}
 use mathlib.Core.Bool.{Bool}
-use native.Mathlib.Omega.{arith}
 use Rattle.domains.proofs.FreeLaws.{freed_at, freed_next}
 use Rattle.domains.proofs.freeing.free_where.Goals as goal
 use Rattle.domains.proofs.freeing.free_where.Goals.{then-test, else-test}
@@ -14,6 +13,3 @@ loop-k-preserved g c =
       | else-test w ↦ w.s-is ∙ sym (ap (λ (b : Bool). freed_at c.args.size b c.loop-k.k c.loop-k.s) w.if-test.false)
     ] in
     freed_next _ _ _ _ _ c.loop-k.invariant _ (_, refl, c.test.ensures) _ made
-
-pub returns : goal.returns
-returns g c = let all : c.loop-k.k ≡ c.args.count = omega arith in rw all at c.loop-k.invariant
