@@ -15,7 +15,7 @@ use Rattle.rules.specs.Rights.{may_own}
 use Rattle.rules.specs.Answer.{may_set}
 use Rattle.rules.specs.Layout.{table_bytes}
 use Rattle.slots.specs.Written.{entry_in, others_in, Given}
-use Rattle.payload.specs.Meaning.{entry_meant, others_meant, blank, EntriesSound}
+use Rattle.payload.specs.Meaning.{entry_meant, kept_at, others_meant, blank, EntriesSound}
 use Rattle.payload.specs.declared.answer.Entries.{Entries}
 
 -- ── who may set entries ──
@@ -45,14 +45,14 @@ below_four P a b c d (suc (suc (suc (suc k)))) n h l = absurd (omega arith)
 
 module _ (es : Entries) where
   abbrev pub accesses : List ℕ
-  accesses = es.first.access ∷ es.second.access ∷ es.third.access ∷ es.fourth.access ∷ []
+  accesses = (kept_at es 0).access ∷ (kept_at es 1).access ∷ (kept_at es 2).access ∷ (kept_at es 3).access ∷ []
 
   abbrev pub domains : List ℕ
-  domains = es.first.domain ∷ es.second.domain ∷ es.third.domain ∷ es.fourth.domain ∷ []
+  domains = (kept_at es 0).domain ∷ (kept_at es 1).domain ∷ (kept_at es 2).domain ∷ (kept_at es 3).domain ∷ []
 
   -- those after the owner's that are kept, of as many as there are
   abbrev front : List Entry
-  front = take (es.count - 1) (entry_meant es.second ∷ entry_meant es.third ∷ entry_meant es.fourth ∷ [])
+  front = take (es.count - 1) (entry_meant (kept_at es 1) ∷ entry_meant (kept_at es 2) ∷ entry_meant (kept_at es 3) ∷ [])
 
   module _ (few : es.count ≤ most_entries) where
     others_in_lem : others_in es.count accesses domains ≡ others_meant es
@@ -68,14 +68,14 @@ module _ (es : Entries) where
           accesses = few;
           domains = few;
           kinds = λ k l.
-              below_four (λ (j : ℕ). get_or accesses j 0 < 4) s.first.access s.second.access s.third.access s.fourth.access k _ few l;
+              below_four (λ (j : ℕ). get_or accesses j 0 < 4) (s.each 0).access (s.each 1).access (s.each 2).access (s.each 3).access k _ few l;
           ids = λ k l.
               below_four
               (λ (j : ℕ). get_or domains j 0 < 65536)
-              (omega (arith, s.first.domain))
-              (omega (arith, s.second.domain))
-              (omega (arith, s.third.domain))
-              (omega (arith, s.fourth.domain))
+              (omega (arith, (s.each 0).domain))
+              (omega (arith, (s.each 1).domain))
+              (omega (arith, (s.each 2).domain))
+              (omega (arith, (s.each 3).domain))
               k
               _
               few
@@ -85,6 +85,6 @@ module _ (es : Entries) where
     -- and what they give is what is meant
     pub entries_put : (t : Table) (i : ℕ) (t' : Octets) →
         t' ≡ table_bytes (with_entries t i (entry_in accesses domains 0) (others_in es.count accesses domains)) →
-        t' ≡ table_bytes (with_entries t i (entry_meant es.first) (others_meant es))
+        t' ≡ table_bytes (with_entries t i (entry_meant (kept_at es 0)) (others_meant es))
     unfolding entry_in
-    entries_put t i t' q = q ∙ ap (λ (xs : List Entry). table_bytes (with_entries t i (entry_meant es.first) xs)) others_in_lem
+    entries_put t i t' q = q ∙ ap (λ (xs : List Entry). table_bytes (with_entries t i (entry_meant (kept_at es 0)) xs)) others_in_lem

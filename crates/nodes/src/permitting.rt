@@ -7,7 +7,7 @@ ghost use Rattle.rules.specs.Payload.{set_perms};
 ghost use Rattle.rules.specs.Answer.{may_set};
 ghost use Rattle.rules.specs.Layout.{table_of, table_bytes};
 ghost use Rattle.lookup.specs.Rights.{Asked};
-ghost use Rattle.payload.specs.Meaning.{entry_meant, others_meant, EntriesSound};
+ghost use Rattle.payload.specs.Meaning.{entry_meant, kept_at, others_meant, EntriesSound};
 ghost use Rattle.nodes.specs.Answers.{Ready, Answered};
 
 use crate::changing::success;
@@ -40,20 +40,11 @@ fn may_set(t: &[u8], i: usize, domain: u32, owner: u32) -> bool
 // Gives slot i the entries, of which there are four at most.
 fn permit(t: &mut [u8], i: usize, entries: Entries)
     requires { Asked t.old i × EntriesSound entries × (entries.count ≤ most_entries) }
-    ensures { t.new ≡ table_bytes (with_entries (table_of t.old) i (entry_meant entries.first) (others_meant entries)) }
+    ensures { t.new ≡ table_bytes (with_entries (table_of t.old) i (entry_meant (kept_at entries 0)) (others_meant entries)) }
 {
-    let access = [
-        entries.first.access,
-        entries.second.access,
-        entries.third.access,
-        entries.fourth.access,
-    ];
-    let domains = [
-        entries.first.domain,
-        entries.second.domain,
-        entries.third.domain,
-        entries.fourth.domain,
-    ];
+    let [first, second, third, fourth] = entries.kept;
+    let access = [first.access, second.access, third.access, fourth.access];
+    let domains = [first.domain, second.domain, third.domain, fourth.domain];
     put_entries(t, i, entries.count, &access, &domains);
 }
 
@@ -65,7 +56,7 @@ pub fn set_perms(
     reply: &mut [u8],
 ) -> Answer
     requires { Ready t.old path.now reply.old domain × EntriesSound entries }
-    ensures { Answered domain (set_perms (entry_meant entries.first) (others_meant entries)) path.now t.old t.new
+    ensures { Answered domain (set_perms (entry_meant (kept_at entries 0)) (others_meant entries)) path.now t.old t.new
         reply.old reply.new result }
 {
     let reached = reach(t, path);
@@ -73,7 +64,7 @@ pub fn set_perms(
     if reached.at < path.len() {
         return Err(absent(t, slot, domain));
     }
-    if !may_set(t, slot, domain, entries.first.domain) {
+    if !may_set(t, slot, domain, entries.kept[0].domain) {
         return Err(Errno::Access);
     }
     if MOST_ENTRIES < entries.count {

@@ -1,15 +1,13 @@
 -- Permission entries: kept one by one.
 use mathlib.Core.Path.{◌≡◌, refl, ap, sym, ◌∙◌}
-use mathlib.Core.Bool.{cond}
 use mathlib.Core.List.{List, [], ◌∷◌}
 use mathlib.Core.Option.{Option, none, some}
-use Prim.Native.Nat.{ℕ, ◌+◌}
+use Prim.Native.Nat.{◌<◌, ◌≤◌, ℕ, ◌+◌}
 use native.Mathlib.Omega.{arith}
-use lib.Dec.{eqb}
-use lib.ListN.{length, drop}
-use borrow.Author.Tests.{ne_eqb}
+use lib.ListN.{length, drop, set}
+use borrow.Author.Tests.{lt-ltb, le-ltb}
 use Rattle.std.specs.Prelude.{Some, None}
-use Rattle.rules.specs.Size.{last_domain}
+use Rattle.rules.specs.Size.{last_domain, most_entries}
 use Rattle.rules.specs.Octets.{Octets, number_in}
 use Rattle.rules.specs.Node as nodes
 use Rattle.rules.specs.Payload.{access_letter, entry_of, entries_of, strings}
@@ -23,22 +21,14 @@ use Rattle.payload.specs.declared.cursor.Cursor.{Cursor}
 use Rattle.payload.specs.declared.cursor.Taken.TheVariants.{String, Left, End}
 use Rattle.payload.proofs.CursorLaws.{Told, string-told, left-told, end-told}
 
--- the entry at a count below four takes its place
-pub with_at : (es : Entries) (e : Entry) (k : ℕ) → es.count ≡ k → with_entry es e
-    ≡ record {
-      count = es.count + 1;
-      first = cond (eqb k 0) e es.first;
-      second = cond (eqb k 1) e es.second;
-      third = cond (eqb k 2) e es.third;
-      fourth = cond (eqb k 3) e es.fourth;
-    }
+-- an entry is kept in its place, or only counted
+pub with_kept : (es : Entries) (e : Entry) → es.count < most_entries → with_entry es e ≡ record { count = es.count + 1; kept = set es.kept es.count e }
 unfolding with_entry
-with_at es e k h = rw h
+with_kept es e h = rw (lt-ltb es.count most_entries h)
 
-pub with_more : (es : Entries) (e : Entry) → (es.count ≡ 0 → ⊥) → (es.count ≡ 1 → ⊥) → (es.count ≡ 2 → ⊥) → (es.count ≡ 3 → ⊥) → with_entry es e
-    ≡ record { count = es.count + 1; first = es.first; second = es.second; third = es.third; fourth = es.fourth }
+pub with_more : (es : Entries) (e : Entry) → most_entries ≤ es.count → with_entry es e ≡ record { count = es.count + 1; kept = es.kept }
 unfolding with_entry
-with_more es e a b c d = rw (ne_eqb _ _ a, ne_eqb _ _ b, ne_eqb _ _ c, ne_eqb _ _ d)
+with_more es e h = rw (le-ltb es.count most_entries h)
 
 pub with_count : (es : Entries) (e : Entry) (r : Entries) → r ≡ with_entry es e → r.count ≡ es.count + 1
 unfolding with_entry

@@ -24,7 +24,7 @@ use Rattle.rules.proofs.Tables.{Each, each_append}
 use Rattle.rules.proofs.Slots.{EntryFits}
 use Rattle.rules.proofs.Fitting.{AskFits, take_each}
 use Rattle.rules.proofs.GoodAnswers.{AskGood}
-use Rattle.payload.specs.Meaning.{entry_meant, blank, others_meant, first_others, ask_meant, kept, request_kept, ask_kept, EntrySound, EntriesSound}
+use Rattle.payload.specs.Meaning.{entry_meant, kept_at, blank, others_meant, first_others, ask_meant, kept, request_kept, ask_kept, EntrySound, EntriesSound}
 use Rattle.payload.specs.Meaning.{AskSound}
 use Rattle.payload.specs.declared.answer.Entry.{Entry}
 use Rattle.payload.specs.declared.answer.Entries.{Entries}
@@ -54,7 +54,7 @@ first-few (a ∷ b ∷ c ∷ d ∷ es) h = absurd (omega arith)
 pub length-others : (k : Entries) → 1 ≤ k.count → suc (length (others_meant k)) ≡ k.count
 unfolding others_meant
 length-others k h =
-    let xs : List nodes.Entry = entry_meant k.second ∷ entry_meant k.third ∷ entry_meant k.fourth ∷ [] in
+    let xs : List nodes.Entry = entry_meant (kept_at k 1) ∷ entry_meant (kept_at k 2) ∷ entry_meant (kept_at k 3) ∷ [] in
     let a = length-append (take (k.count - 1) xs) (replicate (k.count - 4) blank) in
     let t = length-take (k.count - 1) xs in
     let r = length-replicate (k.count - 4) blank in
@@ -141,9 +141,9 @@ each_blank (suc n) = ((omega arith, omega arith), each_blank n)
 each_other : (k : Entries) → EntriesSound k → Each Bounded (others_meant k)
 unfolding others_meant
 each_other k h =
-    each_append Bounded (take (k.count - 1) (entry_meant k.second ∷ entry_meant k.third ∷ entry_meant k.fourth ∷ []))
+    each_append Bounded (take (k.count - 1) (entry_meant (kept_at k 1) ∷ entry_meant (kept_at k 2) ∷ entry_meant (kept_at k 3) ∷ []))
     (replicate (k.count - most_entries) blank)
-    (take_each Bounded (k.count - 1) _ (bounded _ h.second, (bounded _ h.third, (bounded _ h.fourth, tt))))
+    (take_each Bounded (k.count - 1) _ (bounded _ (h.each 1), (bounded _ (h.each 2), (bounded _ (h.each 3), tt))))
     (each_blank (k.count - most_entries))
 
 bounded_good : (es : List nodes.Entry) → Each Bounded es → good_entries es ≡ true
@@ -164,7 +164,7 @@ ask-good s ask.GetPerms h = tt
 ask-good s (ask.Write from) h = tt
 ask-good s ask.Mkdir h = tt
 ask-good s ask.Rm h = tt
-ask-good s (ask.SetPerms es) h = bounded_good (entry_meant es.first ∷ others_meant es) (bounded _ h.first, each_other es h)
+ask-good s (ask.SetPerms es) h = bounded_good (entry_meant (kept_at es 0) ∷ others_meant es) (bounded _ (h.each 0), each_other es h)
 
 -- the entries that are asked for fit their fields
 pub ask-fits : (s : Octets) (a : Ask) → AskSound s a → AskFits (ask_meant s a)
@@ -175,5 +175,5 @@ ask-fits s (ask.Write from) h = tt
 ask-fits s ask.Mkdir h = tt
 ask-fits s ask.Rm h = tt
 ask-fits s (ask.SetPerms es) h =
-    let f = bounded_fits (entry_meant es.first ∷ others_meant es) (bounded _ h.first, each_other es h) in
+    let f = bounded_fits (entry_meant (kept_at es 0) ∷ others_meant es) (bounded _ (h.each 0), each_other es h) in
     (f.0, f.1)

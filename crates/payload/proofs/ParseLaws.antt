@@ -15,7 +15,7 @@ use Rattle.rules.specs.Path.{Domain, Connection, domain_of}
 use Rattle.rules.specs.Node as nodes
 use Rattle.rules.specs.Payload as rules
 use Rattle.rules.specs.Payload.{Parsed, request, parse}
-use Rattle.payload.specs.Meaning.{names_at, entry_meant, blank, others_meant, first_others, ask_meant, meant, kept, request_kept, ask_kept, Means}
+use Rattle.payload.specs.Meaning.{names_at, entry_meant, kept_at, blank, others_meant, first_others, ask_meant, meant, kept, request_kept, ask_kept, Means}
 use Rattle.payload.specs.Kinds.{number_of, IsKind}
 use Rattle.payload.specs.declared.kind.Kind.{Kind}
 use Rattle.payload.specs.declared.kind.Kind.TheVariants as kind
@@ -56,8 +56,8 @@ kept-ask s (ask.Write from) = refl
 kept-ask s ask.Mkdir = refl
 kept-ask s ask.Rm = refl
 kept-ask s (ask.SetPerms es) =
-    ap (rules.set_perms (entry_meant es.first))
-    (kept-others es.count (entry_meant es.second) (entry_meant es.third) (entry_meant es.fourth))
+    ap (rules.set_perms (entry_meant (kept_at es 0)))
+    (kept-others es.count (entry_meant (kept_at es 1)) (entry_meant (kept_at es 2)) (entry_meant (kept_at es 3)))
 
 pub kept-meant : (d : Domain) (s : Octets) (r : Request) → kept (meant d s r) ≡ meant d s r
 unfolding meant kept request_kept ask_kept

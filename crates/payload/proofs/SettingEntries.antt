@@ -3,11 +3,11 @@ use mathlib.Core.Path.{◌≡◌, refl, ap, sym, subst⁻¹, ◌∙◌}
 use mathlib.Core.Bool.{Bool, true, false, cond}
 use mathlib.Core.List.{List, [], ◌∷◌, ◌++◌}
 use mathlib.Core.Option.{Option, none, some}
-use Prim.Native.Nat.{ℕ, suc, ◌+◌, ◌-◌, ◌<◌, ◌≤◌}
+use Prim.Native.Nat.{ℕ, zero, suc, ◌+◌, ◌-◌, ◌<◌, ◌≤◌}
 use native.Mathlib.Nat.{add-zero}
 use native.Mathlib.Omega.{arith}
-use lib.Dec.{eqb, lit≤}
-use lib.ListN.{length, take, replicate}
+use lib.Dec.{eqb, ltb, lit≤}
+use lib.ListN.{length, take, replicate, get_or, set}
 use lib.Seq.{take_all}
 use Rattle.rules.specs.Size.{last_domain, most_entries}
 use Rattle.rules.specs.Octets.{Octets, number_in}
@@ -15,7 +15,7 @@ use Rattle.rules.specs.Node as nodes
 use Rattle.rules.specs.Payload.{access_letter, entry_of, entries_of}
 use Rattle.rules.proofs.Decimals.{range_bounds}
 use Rattle.rules.proofs.Tables.{Each}
-use Rattle.payload.specs.Meaning.{blank, others_meant, first_others, EntrySound, EntriesSound}
+use Rattle.payload.specs.Meaning.{blank, kept_at, others_meant, first_others, EntrySound, EntriesSound}
 use Rattle.payload.specs.Answers.{entry_held, no_entries, with_entry, added, entries_in}
 use Rattle.payload.specs.declared.answer.Entry.{Entry}
 use Rattle.payload.specs.declared.answer.Entries.{Entries}
@@ -24,16 +24,14 @@ use Rattle.payload.proofs.EntryLaws.{with_more}
 -- ── the first four entries, and their number ──
 
 abbrev with_number : ℕ → Entries → Entries
-with_number n k = record { count = n; first = k.first; second = k.second; third = k.third; fourth = k.fourth }
+with_number n k = record { count = n; kept = k.kept }
 
 -- from the fifth entry on, entries are counted alone
 counted : (k : Entries) (es : List nodes.Entry) → 4 ≤ k.count → added k es ≡ with_number (k.count + length es) k
 unfolding added
 counted k [] h = ap (λ (n : ℕ). with_number n k) (sym (add-zero k.count))
 counted k (e ∷ es) h =
-    let w =
-    with_more k (entry_held e) (λ (z : k.count ≡ 0). omega arith) (λ (z : k.count ≡ 1). omega arith) (λ (z : k.count ≡ 2). omega arith)
-    (λ (z : k.count ≡ 3). omega arith) in
+    let w = with_more k (entry_held e) h in
     let n : k.count + 1 + length es ≡ k.count + suc (length es) = omega arith in
     ap (λ (x : Entries). added x es) w
     ∙ (counted (with_number (k.count + 1) k) es (omega arith) ∙ ap (λ (m : ℕ). with_number m k) n)
@@ -41,7 +39,7 @@ counted k (e ∷ es) h =
 -- what is kept of an owner's entry and others
 pub record Held (o : nodes.Entry) (os : List nodes.Entry) (es : Entries) : Type 0 where
   pub count : es.count ≡ suc (length os)
-  pub first : es.first ≡ entry_held o
+  pub first : kept_at es 0 ≡ entry_held o
   pub others : others_meant es ≡ first_others os
 
 many : (n : ℕ) (a b c : nodes.Entry) (more : List nodes.Entry) → n ≡ 4 + length more →
@@ -114,34 +112,32 @@ entries_fit (t ∷ ts) es h = by (entry_of t) refl (entries_of ts) (entries_fit 
         let f : x ∷ xs ≡ es = cc in
         subst⁻¹ (Each Fit) (sym f) (entry_fit t x p, q xs refl)
 
-record KeptSound (k : Entries) : Type 0 where
-  first : EntrySound k.first
-  second : EntrySound k.second
-  third : EntrySound k.third
-  fourth : EntrySound k.fourth
+abbrev AllSound : List Entry → Type 0
+AllSound es = (k : ℕ) → EntrySound (get_or es k (entry_held blank))
 
-one_of : (b : Bool) (e f : Entry) → EntrySound e → EntrySound f → EntrySound (cond b e f)
-one_of true e f x y = x
-one_of false e f x y = y
+set_sound : (es : List Entry) (i : ℕ) (e : Entry) → AllSound es → EntrySound e → AllSound (set es i e)
+set_sound [] i e h s k = h k
+set_sound (x ∷ xs) zero e h s zero = s
+set_sound (x ∷ xs) zero e h s (suc k) = h (suc k)
+set_sound (x ∷ xs) (suc i) e h s zero = h zero
+set_sound (x ∷ xs) (suc i) e h s (suc k) = set_sound xs i e (λ j. h (suc j)) s k
 
-kept-sound : (k : Entries) (es : List nodes.Entry) → KeptSound k → Each Fit es → KeptSound (added k es)
+kept-sound : (k : Entries) (es : List nodes.Entry) → AllSound k.kept → Each Fit es → AllSound (added k es).kept
 unfolding added with_entry
 kept-sound k [] h f = h
-kept-sound k (e ∷ es) h f =
-    kept-sound (with_entry k (entry_held e)) es
-    (record {
-      first = one_of (eqb k.count 0) (entry_held e) k.first f.0 h.first;
-      second = one_of (eqb k.count 1) (entry_held e) k.second f.0 h.second;
-      third = one_of (eqb k.count 2) (entry_held e) k.third f.0 h.third;
-      fourth = one_of (eqb k.count 3) (entry_held e) k.fourth f.0 h.fourth;
-    })
-    f.1
+kept-sound k (e ∷ es) h f = kept-sound (with_entry k (entry_held e)) es (by (ltb k.count most_entries)) f.1
+  where
+    by : (b : Bool) → AllSound (cond b (set k.kept k.count (entry_held e)) k.kept)
+    by true = set_sound k.kept k.count (entry_held e) h f.0
+    by false = h
 
-zero-sound : EntrySound (record { access = 0; domain = 0 })
+zero-sound : EntrySound (entry_held blank)
 zero-sound = record { access = omega arith; domain = omega arith }
 
-none-sound : KeptSound no_entries
-none-sound = record { first = zero-sound; second = zero-sound; third = zero-sound; fourth = zero-sound }
+blanks-sound : (n : ℕ) → AllSound (replicate n (entry_held blank))
+blanks-sound zero k = zero-sound
+blanks-sound (suc n) zero = zero-sound
+blanks-sound (suc n) (suc k) = blanks-sound n k
 
 in_fit : (o : Option (List Octets)) (es : List nodes.Entry) → entries_in o ≡ some es → Each Fit es
 unfolding entries_in
@@ -151,6 +147,8 @@ in_fit (some ts) es h = entries_fit ts es h
 pub entries_sound : (r : Option (List Octets)) (o : nodes.Entry) (os : List nodes.Entry) → entries_in r ≡ some (o ∷ os)
     → EntriesSound (added no_entries (o ∷ os))
 entries_sound r o os h =
-    let k = kept-sound no_entries (o ∷ os) none-sound (in_fit r (o ∷ os) h) in
     let n = (held o os).count in
-    record { some-entry = omega arith; first = k.first; second = k.second; third = k.third; fourth = k.fourth }
+    record {
+      some-entry = omega arith;
+      each = kept-sound no_entries (o ∷ os) (blanks-sound most_entries) (in_fit r (o ∷ os) h);
+    }

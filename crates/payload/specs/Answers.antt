@@ -1,14 +1,14 @@
 -- What the small answers of this crate mean.
-use Rattle.std.specs.Prelude.{Bool, true, false, cond, Option, Some, None, List, [], ◌∷◌, ℕ, ◌+◌, eqb}
+use Rattle.std.specs.Prelude.{Bool, true, false, cond, Option, Some, None, List, [], ◌∷◌, ℕ, ◌+◌, eqb, ltb, replicate, set}
 use Rattle.std.proofs.Math.Option as math
 use Rattle.std.proofs.Math.Option.{none, some}
-use Rattle.rules.specs.Size.{last_domain}
+use Rattle.rules.specs.Size.{last_domain, most_entries}
 use Rattle.rules.specs.Octets.{Octets, number_in}
 use Rattle.rules.specs.Node as nodes
 use Rattle.rules.specs.Payload as rules
 use Rattle.paths.specs.declared.answer.Form.{Form}
 use Rattle.paths.specs.declared.answer.Form.TheVariants.{Absolute, Relative, Special, Malformed}
-use Rattle.payload.specs.Meaning.{entry_meant, ask_meant}
+use Rattle.payload.specs.Meaning.{entry_meant, blank, ask_meant}
 use Rattle.payload.specs.declared.answer.Path.{Path}
 use Rattle.payload.specs.declared.answer.Ask.{Ask}
 use Rattle.payload.specs.declared.answer.Ask.TheVariants as ask
@@ -68,25 +68,11 @@ abbrev pub entry_held : nodes.Entry → Entry
 entry_held e = record { access = e.access; domain = e.domain }
 
 abbrev pub no_entries : Entries
-no_entries =
-    record {
-      count = 0;
-      first = record { access = 0; domain = 0 };
-      second = record { access = 0; domain = 0 };
-      third = record { access = 0; domain = 0 };
-      fourth = record { access = 0; domain = 0 };
-    }
+no_entries = record { count = 0; kept = replicate most_entries (entry_held blank) }
 
 -- one entry more: it is kept if it is among the first four, and counted
 unfoldable pub with_entry : Entries → Entry → Entries
-with_entry es e =
-    record {
-      count = es.count + 1;
-      first = cond (eqb es.count 0) e es.first;
-      second = cond (eqb es.count 1) e es.second;
-      third = cond (eqb es.count 2) e es.third;
-      fourth = cond (eqb es.count 3) e es.fourth;
-    }
+with_entry es e = record { count = es.count + 1; kept = cond (ltb es.count most_entries) (set es.kept es.count e) es.kept }
 
 unfoldable pub added : Entries → List nodes.Entry → Entries
 added es [] = es

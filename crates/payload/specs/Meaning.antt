@@ -1,5 +1,5 @@
 -- What a request means: its places in the payload, read as the rule book's texts.
-use Rattle.std.specs.Prelude.{true, false, List, [], ◌∷◌, ◌++◌, ◌≡◌, ℕ, ◌-◌, ◌^◌, ◌<◌, ◌≤◌, length, take, drop, replicate}
+use Rattle.std.specs.Prelude.{true, false, List, [], ◌∷◌, ◌++◌, ◌≡◌, ℕ, ◌-◌, ◌^◌, ◌<◌, ◌≤◌, length, take, drop, replicate, get_or}
 use Rattle.std.specs.Prelude.{Option, Some, None, unwrap_or}
 use Rattle.rules.specs.Size.{last_domain, deepest_watch, most_entries}
 use Rattle.rules.specs.Octets.{Octets}
@@ -52,10 +52,14 @@ entry_meant e = record { access = e.access; domain = e.domain }
 abbrev pub blank : nodes.Entry
 blank = record { access = 0; domain = 0 }
 
+-- the entry kept at a place
+abbrev pub kept_at : Entries → ℕ → Entry
+kept_at es k = get_or es.kept k (record { access = 0; domain = 0 })
+
 -- the entries after the owner's: those that are kept, and a blank for each further one
 unfoldable pub others_meant : Entries → List nodes.Entry
 others_meant es =
-    take (es.count - 1) (entry_meant es.second ∷ entry_meant es.third ∷ entry_meant es.fourth ∷ [])
+    take (es.count - 1) (entry_meant (kept_at es 1) ∷ entry_meant (kept_at es 2) ∷ entry_meant (kept_at es 3) ∷ [])
     ++ replicate (es.count - most_entries) blank
 
 -- the entries after the owner's, with blanks from the fifth entry on
@@ -72,7 +76,7 @@ ask_meant s ask.GetPerms = rules.get_perms
 ask_meant s (ask.Write from) = rules.write (drop from s)
 ask_meant s ask.Mkdir = rules.mkdir
 ask_meant s ask.Rm = rules.rm
-ask_meant s (ask.SetPerms es) = rules.set_perms (entry_meant es.first) (others_meant es)
+ask_meant s (ask.SetPerms es) = rules.set_perms (entry_meant (kept_at es 0)) (others_meant es)
 
 -- ── requests ──
 
@@ -136,10 +140,7 @@ pub record EntrySound (e : Entry) : Type 0 where
 
 pub record EntriesSound (es : Entries) : Type 0 where
   pub some-entry : 1 ≤ es.count
-  pub first : EntrySound es.first
-  pub second : EntrySound es.second
-  pub third : EntrySound es.third
-  pub fourth : EntrySound es.fourth
+  pub each : (k : ℕ) → EntrySound (kept_at es k)
 
 -- the bounds of a value's place and of entries
 abbrev pub AskSound : Octets → Ask → Type 0

@@ -1,4 +1,5 @@
 // What a request is, with places in its payload for the texts that it holds.
+use octets::sizes::MOST_ENTRIES;
 use paths::answer::Form;
 
 // A path: the payload's first string, which ends at `end`, and its form.
@@ -15,14 +16,11 @@ pub struct Entry {
     pub domain: u32,
 }
 
-// The permission entries of a payload: how many there are, and the first four.
+// The permission entries of a payload: how many there are, and the first of them, as many as a node can have.
 #[derive(Clone, Copy, Debug, PartialEq, Eq)]
 pub struct Entries {
     pub count: usize,
-    pub first: Entry,
-    pub second: Entry,
-    pub third: Entry,
-    pub fourth: Entry,
+    pub kept: [Entry; MOST_ENTRIES],
 }
 
 // What is asked of a node.

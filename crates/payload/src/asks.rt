@@ -18,7 +18,7 @@ fn on_root(ask: Ask) -> bool
 {
     match ask {
         Ask::Rm => false,
-        Ask::SetPerms(entries) => is_control(entries.first.domain),
+        Ask::SetPerms(entries) => is_control(entries.kept[0].domain),
         _ => true,
     }
 }

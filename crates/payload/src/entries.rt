@@ -11,6 +11,7 @@ use crate::asks::asking;
 use crate::cursor::{Cursor, Taken};
 use crate::given::named;
 use crate::numbers::{LAST_DOMAIN, letter, small};
+use octets::sizes::MOST_ENTRIES;
 
 // The permission entry that a string says: an access letter and a domain id.
 pub fn permission(s: &[u8]) -> Option<Entry>
@@ -33,10 +34,7 @@ impl Entries {
         };
         Entries {
             count: 0,
-            first: blank,
-            second: blank,
-            third: blank,
-            fourth: blank,
+            kept: [blank; MOST_ENTRIES],
         }
     }
 
@@ -46,14 +44,10 @@ impl Entries {
         ensures { result ≡ with_entry self e }
     {
         let mut next = self;
-        next.count += 1;
-        match self.count {
-            0 => next.first = e,
-            1 => next.second = e,
-            2 => next.third = e,
-            3 => next.fourth = e,
-            _ => {}
+        if self.count < MOST_ENTRIES {
+            next.kept[self.count] = e;
         }
+        next.count += 1;
         next
     }
 }
