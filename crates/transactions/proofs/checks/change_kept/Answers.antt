@@ -8,12 +8,14 @@ use Rattle.transactions.proofs.checks.change_kept.Goals as goal
 pub returns-then-fields-ne0 : goal.returns-then-fields-ne0
 returns-then-fields-ne0 c =
     let fields = c.number-fields.ensures.read in
-    sym (change-marked c.args.s.now c.args.at fields.bytes c.requires (rw (fields.value ∙ field_two c.args.s.now c.args.at (omega (arith, c.requires))) at c.if-fields-ne0.true))
+    let v = fields.value ∙ field_two c.args.s.now c.args.at (omega (arith, c.requires)) in
+    sym (change-marked c.args.s.now c.args.at fields.bytes c.requires (rw v at c.if-fields-ne0.true))
 
 pub returns-then-n-gt-LONGEST_PATH : goal.returns-then-n-gt-LONGEST_PATH
 returns-then-n-gt-LONGEST_PATH c =
     let fields = c.number-fields.ensures.read in
-    sym (change_over c.args.s.now c.args.at fields.bytes c.requires (rw (fields.value ∙ field_two c.args.s.now c.args.at (omega (arith, c.requires))) at c.if-n-gt-LONGEST_PATH.true))
+    let v = fields.value ∙ field_two c.args.s.now c.args.at (omega (arith, c.requires)) in
+    sym (change_over c.args.s.now c.args.at fields.bytes c.requires (rw v at c.if-n-gt-LONGEST_PATH.true))
 
 pub returns-else-is_full : goal.returns-else-is_full
 returns-else-is_full c =

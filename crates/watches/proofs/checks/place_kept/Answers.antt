@@ -72,4 +72,5 @@ pub returns-then-rest_zero : goal.returns-then-rest_zero
 returns-then-rest_zero c =
     let rest = sym c.rest_zero.ensures ∙ c.if-rest_zero.true in
     let token = c.rest_zero-then-rest_zero.ensures in
-    (rw c.token_length.ensures at token) ∙ sym (rests-decide (goal.at.returns-then-rest_zero c).Else-not-fields_same ∙ and_rest _ _ (rw c.path_length-n.ensures at rest))
+    (rw c.token_length.ensures at token)
+    ∙ sym (rests-decide (goal.at.returns-then-rest_zero c).Else-not-fields_same ∙ and_rest _ _ (rw c.path_length-n.ensures at rest))
