@@ -19,7 +19,7 @@ use Rattle.rules.proofs.Paste.{paste_sets}
 use Rattle.rules.proofs.Fields.{length_big, field-part, field_two, field_three}
 use Rattle.rules.proofs.EntryLayouts.{domain-read as domain_back, domain_at}
 use Rattle.domains.specs.Entry.{taken, passes, entry_or}
-use Rattle.octets.specs.Two.{Bytes}
+use Rattle.octets.specs.Read.{Bytes}
 use Rattle.octets.specs.Read.{Read}
 use Rattle.domains.specs.Kept.{kept_at, KeptDomains}
 use Rattle.domains.specs.Checks.{good_domain}

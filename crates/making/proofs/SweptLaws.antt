@@ -1,17 +1,14 @@
 -- Marked slots freed one after the other.
-use mathlib.Core.Path.{◌≡◌, refl, sym, ap, ap₂, subst, ◌∙◌}
+use mathlib.Core.Path.{◌≡◌, refl, sym, ap, ap₂, ◌∙◌}
 use mathlib.Core.Bool.{Bool, true, false, cond}
 use mathlib.Core.List.{List, [], ◌∷◌}
 use mathlib.Core.Option.{none}
 use Prim.Native.Nat.{ℕ, zero, suc, ◌+◌, ◌≤◌, ◌<◌}
 use native.Mathlib.Nat.{add-zero, zero-add, add-suc, suc-add}
 use native.Mathlib.Numerals.{add-one}
-use native.Mathlib.Decide.{ℕ_discrete}
 use native.Mathlib.Omega.{arith}
 use lib.ListN.{length, get_or, take, drop, set, drop_of_length-le}
 use lib.Seq.{drop-cons, take_all}
-use denote.Param.Members.{Mut, Called}
-use Rattle.std.specs.Array.{IsFromFnResult, IsFromFnResultFrom}
 use Rattle.rules.specs.Size.{deepest}
 use Rattle.rules.specs.Octets.{Octets}
 use Rattle.rules.specs.Node.{Table, within, cleared_from, removed, without_all}
@@ -85,24 +82,6 @@ module _ (ms : List Bool) (s : Octets) where
   swept_all j h e = e ∙ ap (λ (l : List Bool). table_bytes (swept l (table_of s))) (take_all j ms h)
 
 -- ── the marks of a slot ──
-
--- what an array is made of, where each call of its maker gives the value of its place and leaves the maker alone
-module _ {F B : Type 0} (g : Mut F (ℕ × Unit {0}) B) (f : F) (value : ℕ → B)
-    (gives : (i : ℕ) (y : B) (q : F) → Called g f (i, tt) y q → (q ≡ f) × (y ≡ value i)) where
-  made_from : (ys : List B) (d : B) (n i : ℕ) (p : F) → p ≡ f → IsFromFnResultFrom g p ys i n → (m : ℕ) → i ≤ m → m < i + n → get_or ys m d ≡ value m
-  made_from ys d zero i p e made m low high = absurd (omega arith)
-  made_from ys d (suc n) i p e made m low high = go (ℕ_discrete m i)
-      (made_from ys d n (i + 1) made.0 here.0 made.4 m)
-    where
-      here : (made.0 ≡ f) × (made.1 ≡ value i)
-      here = gives i made.1 made.0 (subst (λ (x : F). Called g x (i, tt) made.1 made.0) e made.3)
-
-      go : Dec (m ≡ i) → (i + 1 ≤ m → m < i + 1 + n → get_or ys m d ≡ value m) → get_or ys m d ≡ value m
-      go (yes q) rest = rw q (made.2.1 d ∙ here.1)
-      go (no q) rest = rest (omega (arith, q)) (omega arith)
-
-  pub made_by : (ys : List B) (d : B) (n : ℕ) → IsFromFnResult g f ys n → (m : ℕ) → m < n → get_or ys m d ≡ value m
-  made_by ys d n made m h = made_from ys d n 0 f refl made.each m (omega arith) (omega arith)
 
 cleared_swept : (t : Table) (i from : ℕ) (ms : List Bool) (ss : Table) → length ms ≡ length ss →
     ((j : ℕ) → j < length ss → get_or ms j false ≡ within deepest t i (from + j)) → swept ms ss ≡ cleared_from t i from ss

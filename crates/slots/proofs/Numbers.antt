@@ -147,6 +147,7 @@ heir-number o es d {n} h e q = q ∙ go (is_control d)
     go false = omega arith
 
 -- the other entries of an heir are its parent's
-pub heir_other : (o : Entry) (es : List Entry) (d : Domain) (k : ℕ) {n : ℕ} → n ≡ entry_number (o ∷ es) (suc k) → n ≡ entry_number (heir d o ∷ es) (suc k)
+pub heir_other : (o : Entry) (es : List Entry) (d : Domain) (k : ℕ) → (k ≡ 0 → ⊥) → {n : ℕ} → n ≡ entry_number (o ∷ es) k → n ≡ entry_number (heir d o ∷ es) k
 unfolding entry_number
-heir_other o es d k e = e
+heir_other o es d zero z e = absurd (z refl)
+heir_other o es d (suc k) z e = e

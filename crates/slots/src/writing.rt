@@ -1,5 +1,5 @@
 // Slots written: each part of a slot, and what a request changes in one.
-ghost use Rattle.std.specs.Prelude.{◌≡◌, true, cond, ◌∷◌, ◌+◌, ◌*◌, ◌/◌, ◌≤◌, ◌<◌, length, set};
+ghost use Rattle.std.specs.Prelude.{◌≡◌, true, cond, ◌∷◌, ℕ, get_or, ◌+◌, ◌*◌, ◌/◌, ◌≤◌, ◌<◌, length, set};
 ghost use Rattle.std.proofs.Math.Option.{none, some};
 ghost use Rattle.rules.specs.Size.{slots, slot_size, fields_size, entries_size, longest_value, most_entries};
 ghost use Rattle.rules.specs.Octets.{paste, big_endian};
@@ -13,6 +13,7 @@ use crate::fields::{entry_at, entry_count, name_length, parent, value_length};
 use octets::parts::{clear, put_text};
 use octets::sizes::{FIELDS_SIZE, LONGEST_NAME, LONGEST_VALUE, NAME_AT, SLOT_SIZE, VALUE_AT};
 use senders::is_control;
+use std::array;
 
 // Frees slot i.
 pub fn clear_slot(t: &mut [u8], i: usize)
@@ -32,11 +33,13 @@ fn put_fields(t: &mut [u8], at: usize, parent: usize, name: usize, value: usize,
     t[at + 2] = (value % 32 * 8 + entries) as u8;
 }
 
-// Puts four entries of 18 bits.
-fn put_four(t: &mut [u8], at: usize, a: u32, b: u32, c: u32, d: u32)
-    requires { (at + entries_size ≤ length t.old) × (a < 262144) × (b < 262144) × (c < 262144) × (d < 262144) }
-    ensures { t.new ≡ paste at (big_endian entries_size (entries_of a b c d)) t.old }
+// Puts the entries of 18 bits that an array has.
+fn put_four(t: &mut [u8], at: usize, numbers: [u32; 4])
+    requires { (at + entries_size ≤ length t.old) × ((k : ℕ) → k < most_entries → get_or numbers k 0 < 262144) }
+    ensures { t.new ≡ paste at (big_endian entries_size (entries_of
+        (get_or numbers 0 0) (get_or numbers 1 0) (get_or numbers 2 0) (get_or numbers 3 0))) t.old }
 {
+    let [a, b, c, d] = numbers;
     t[at] = (a / 1024) as u8;
     t[at + 1] = (a / 4 % 256) as u8;
     t[at + 2] = (a % 4 * 64 + b / 4096) as u8;
@@ -96,17 +99,26 @@ fn inherited(number: u32, domain: u32) -> u32
     number / 65536 * 65536 + domain
 }
 
+// The 18 bits of entry k of an heir of slot `parent`, 0 where it has none.
+fn heir_number(t: &[u8], parent: usize, domain: u32, k: usize) -> u32
+    requires { (parent < slots) × Canonical t.now × (is_used (slot_at t.now parent) ≡ true) × (domain < 65536) × (k < most_entries) }
+    ensures { (result ≡ entry_number (heir domain (node_at (table_of t.now) parent).owner ∷ (node_at (table_of t.now) parent).others) k) × (result < 262144) }
+{
+    let number = entry_number(t, parent, k);
+    if k == 0 {
+        return inherited(number, domain);
+    }
+    number
+}
+
 // Puts the entries of `parent` into slot i, with the domain as owner unless it is the control domain.
 fn put_heirs(t: &mut [u8], i: usize, parent: usize, domain: u32)
     requires { (i < slots) × (parent < slots) × Canonical t.old × (is_used (slot_at t.old parent) ≡ true) × (domain < 65536) }
     ensures { t.new ≡ paste (i * slot_size + fields_size)
         (entries_bytes (heir domain (node_at (table_of t.old) parent).owner) (node_at (table_of t.old) parent).others) t.old }
 {
-    let a = inherited(entry_number(t, parent, 0), domain);
-    let b = entry_number(t, parent, 1);
-    let c = entry_number(t, parent, 2);
-    let d = entry_number(t, parent, 3);
-    put_four(t, i * SLOT_SIZE + FIELDS_SIZE, a, b, c, d);
+    let numbers = array::from_fn(|k| heir_number(t, parent, domain, k));
+    put_four(t, i * SLOT_SIZE + FIELDS_SIZE, numbers);
 }
 
 // Puts given entries.
@@ -115,11 +127,11 @@ fn put_given(t: &mut [u8], at: usize, count: usize, access: &[u32], domain: &[u3
     ensures { t.new ≡ paste at (entries_bytes (entry_in access.now domain.now 0)
         (others_in count access.now domain.now)) t.old }
 {
-    let a = given_number(access, domain, count, 0);
-    let b = given_number(access, domain, count, 1);
-    let c = given_number(access, domain, count, 2);
-    let d = given_number(access, domain, count, 3);
-    put_four(t, at, a, b, c, d);
+    put_four(
+        t,
+        at,
+        array::from_fn(|k| given_number(access, domain, count, k)),
+    );
 }
 
 // Gives slot i other permission entries: the first `count` of two arrays, the owner's first.

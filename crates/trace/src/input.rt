@@ -44,6 +44,11 @@ fn fill(rt: &impl Eprint, from: &mut impl Read, buf: &mut [u8]) -> bool {
     true
 }
 
+// The sender of the message that stands in the input.
+pub fn sender(input: &[u8; INPUT_SIZE]) -> u32 {
+    u32::from(u16::from_be_bytes([input[0], input[1]]))
+}
+
 // Whether the message's len is above 4,096.
 pub fn is_oversize(input: &[u8; INPUT_SIZE]) -> bool {
     MOST_PAYLOAD < number32(input, LENGTH_AT)

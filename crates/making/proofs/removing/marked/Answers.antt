@@ -5,7 +5,8 @@ use mathlib.Core.Bool.{false}
 use Rattle.rules.specs.Layout.{table_of}
 use Rattle.rules.specs.Node.{within}
 use Rattle.rules.specs.Size.{slots, deepest}
-use Rattle.making.proofs.SweptLaws.{made_by}
+use Rattle.slots.proofs.Made.{made_by}
+use mathlib.Core.Path.{◌≡◌}
 use Rattle.making.proofs.removing.marked.Goals as goal
 
 pub returns : goal.returns
@@ -14,5 +15,5 @@ returns c =
     let args = c.args in
     record {
       long = made.long;
-      right = made_by _ _ (within deepest (table_of args.t.now) args.i) (λ i y q k. search (rules, tests)) c.from_fn.result false slots made;
+      right = made_by (λ j marked. marked ≡ within deepest (table_of args.t.now) args.i j) (λ i y q k. search (rules, tests)) c.from_fn.result false slots made;
     }
