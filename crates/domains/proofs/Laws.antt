@@ -1,7 +1,7 @@
 -- Domains as bytes: what the bytes of a place say, and what a written place leaves.
 use mathlib.Core.Path.{◌≡◌, refl, sym, ap, ◌∙◌}
 use mathlib.Core.Bool.{Bool, true, false, cond, not, ◌&&◌, and_assoc}
-use mathlib.Core.List.{[], ◌∷◌}
+use mathlib.Core.List.{List, [], ◌∷◌}
 use mathlib.Core.Option.{Option, none, some}
 use Prim.Native.Nat.{ℕ, suc, ◌+◌, ◌*◌, ◌/◌, ◌%◌, ◌≤◌, ◌<◌}
 use native.Mathlib.Nat.{add-zero}
@@ -18,17 +18,19 @@ use Rattle.rules.specs.Sound.{introduced, good_domains, sound_domains}
 use Rattle.rules.proofs.Paste.{paste_sets}
 use Rattle.rules.proofs.Fields.{length_big, field-part, field_two, field_three}
 use Rattle.rules.proofs.EntryLayouts.{domain-read as domain_back, domain_at}
-use Rattle.domains.specs.Entry.{taken, passes, entry_or, dropped_if}
-use Rattle.octets.specs.Two.{Bytes}
+use Rattle.domains.specs.Entry.{taken, passes, entry_or}
+use Rattle.octets.specs.Read.{Bytes}
 use Rattle.octets.specs.Read.{Read}
 use Rattle.domains.specs.Kept.{kept_at, KeptDomains}
 use Rattle.domains.specs.Checks.{good_domain}
+use Rattle.domains.specs.Freed.{freed_from, Freed}
 use Rattle.domains.proofs.Tests.{taken-cond, entry_is}
 use Rattle.octets.proofs.PlaceLaws.{first_bit}
 use Rattle.domains.proofs.Turns.{ListCheck}
-use Rattle.domains.proofs.Search.{free_none, taken-some, swept_before}
+use Rattle.domains.proofs.Search.{free_none, taken-some}
 use Rattle.domains.proofs.Rows.{same_first, listed_from, part_at, length-table, free_kept, used-kept}
-use Rattle.domains.proofs.Rows.{Writable, wrote, freed, left, dropped_kept, dropped_end, checked-kept}
+use Rattle.domains.proofs.FreeLaws.{kept_freed, freed_where}
+use Rattle.domains.proofs.Rows.{Writable, wrote, checked-kept}
 
 pub domain-wide : (m : Option Domain) → length (domain_bytes m) ≡ domain_size
 unfolding domain_bytes
@@ -169,26 +171,16 @@ module _ (s : Octets) (c : KeptDomains s) (k : ℕ) (h : k < most_domains) where
       ∙ ap (λ (r : Octets). paste (at k) r s) (sym (three_bytes_lem d l))
       ∙ sym (wrote domain_bytes domain_in domain_size wide most_domains s c k (some d) h (domain-wide (some d))))
 
-  pub freed_domain : (test : Domain → Bool) → passes test (get_or (domains_of s) k none) ≡ true
-      → paste (at k) (replicate domain_size 0) s ≡ domains_bytes (set (domains_of s) k (dropped_if test (get_or (domains_of s) k none)))
-  unfolding domains_of domains_bytes domain_bytes
-  freed_domain test = freed domain_bytes domain_in domain_size wide most_domains s c k h empty test
+module _ (s : Octets) (c : KeptDomains s) where
+  -- places freed, whatever was asked of them
+  pub freed-kept : (answers : List Bool) → length answers ≤ most_domains → KeptDomains (freed_from domain_size 0 answers s)
+  freed-kept answers h = kept_freed domain_bytes domain_in domain_size wide most_domains empty none-bytes 0 answers s (omega arith) c
 
-  pub left-domain : (test : Domain → Bool) → passes test (get_or (domains_of s) k none) ≡ false
-      → s ≡ domains_bytes (set (domains_of s) k (dropped_if test (get_or (domains_of s) k none)))
+  pub freed-domains : (test : Domain → Bool) (says : Octets → ℕ → Bool → Type 0)
+      → ((t : Octets) (i : ℕ) (b : Bool) → KeptDomains t → i < most_domains → says t i b → b ≡ passes test (get_or (domains_of t) i none))
+      → (t : Octets) → Freed domain_size says most_domains s t → t ≡ domains_bytes (without test (domains_of s))
   unfolding domains_of domains_bytes
-  left-domain test = left domain_bytes domain_in domain_size wide most_domains s c k h empty test
-
-  pub swept-domain : (test : Domain → Bool) (ds : Domains) → domains_of s ≡ swept_before (dropped_if test) k ds
-      → (t : Octets) → t ≡ domains_bytes (set (domains_of s) k (dropped_if test (get_or (domains_of s) k none)))
-      → KeptDomains t × (domains_of t ≡ swept_before (dropped_if test) (k + 1) ds)
-  unfolding domains_of domains_bytes
-  swept-domain test = dropped_kept domain_bytes domain_in domain_size wide most_domains s c k h empty test
-
-pub swept-domains : (test : Domain → Bool) (s t : Octets) → KeptDomains s → (i : ℕ) → most_domains ≤ i
-    → domains_of s ≡ swept_before (dropped_if test) i (domains_of t) → s ≡ domains_bytes (without test (domains_of t))
-unfolding domains_of domains_bytes
-swept-domains test s t c = dropped_end domain_bytes domain_in domain_size wide most_domains s c test t
+  freed-domains test says told t = freed_where domain_bytes domain_in domain_size wide most_domains empty none-bytes test says told s t c
 
 pub sound-kept : (s : Octets) → sound_domains s ≡ true → KeptDomains s
 unfolding sound_domains domains_of domains_bytes

@@ -3,3 +3,4 @@ pub mod Turns
 pub mod Search
 pub mod Rows
 pub mod Laws
+pub mod FreeLaws

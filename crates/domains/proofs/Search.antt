@@ -102,6 +102,3 @@ module _ {A : Type 0} where
   without-map test [] = refl
   without-map test (none ∷ xs) = ap (◌∷◌ none) (without-map test xs)
   without-map test (some x ∷ xs) = ap (◌∷◌ (cond (test x) none (some x))) (without-map test xs)
-
-  pub without-swept : (test : A → Bool) (i : ℕ) (xs : List (Option A)) → length xs ≤ i → swept_before (dropped_if test) i xs ≡ without test xs
-  without-swept test i xs h = swept_all (dropped_if test) i xs h ∙ without-map test xs

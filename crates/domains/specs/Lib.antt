@@ -1,3 +1,4 @@
 pub mod Entry
 pub mod Kept
 pub mod Checks
+pub mod Freed

@@ -7,8 +7,8 @@ ghost use Rattle.rules.specs.Layout.{domains_bytes, domains_of};
 ghost use Rattle.domains.specs.Entry.{dropped_if};
 ghost use Rattle.domains.specs.Kept.{KeptDomains};
 
+use crate::freeing::free_where;
 use crate::places::holds;
-use octets::parts::clear;
 use octets::sizes::{DOMAIN_SIZE, DOMAINS};
 
 // Puts domain d into place k.
@@ -22,22 +22,10 @@ pub fn add(s: &mut [u8], k: usize, d: u32)
     s[at + 2] = (d % 256) as u8;
 }
 
-// Frees place k, if it has domain d.
-fn free_if(s: &mut [u8], k: usize, d: u32)
-    requires { (k < most_domains) × KeptDomains s.old }
-    ensures { s.new ≡ domains_bytes (set (domains_of s.old) k (dropped_if (eqb d) (get_or (domains_of s.old) k none))) }
-{
-    if holds(s, k, d) {
-        clear(s, k * DOMAIN_SIZE, DOMAIN_SIZE);
-    }
-}
-
 // Takes domain d out.
 pub fn remove(s: &mut [u8], d: u32)
     requires { KeptDomains s.old }
     ensures { s.new ≡ domains_bytes (without (eqb d) (domains_of s.old)) }
 {
-    for k in 0..DOMAINS {
-        free_if(s, k, d);
-    }
+    free_where(s, DOMAIN_SIZE, DOMAINS, |s, k| holds(s, k, d));
 }

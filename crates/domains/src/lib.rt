@@ -3,4 +3,5 @@
 
 pub mod changes;
 pub mod checks;
+pub mod freeing;
 pub mod places;

@@ -1,13 +1,12 @@
 -- Who hears an event: the rule of the rule book, test by test.
 use mathlib.Core.Path.{◌≡◌, refl, sym, ap, ap₂, ◌∙◌}
-use mathlib.Core.Bool.{Bool, true, false, not, ◌&&◌, true≢false, or_self}
+use mathlib.Core.Bool.{Bool, true, false, ◌&&◌, true≢false, or_self}
 use mathlib.Core.List.{[], ◌∷◌}
 use mathlib.Core.Option.{Option, none, some, map}
 use Prim.Native.Nat.{ℕ, ◌≤◌, ◌<◌}
 use native.Mathlib.Omega.{arith}
 use lib.ListN.{length, get_or}
 use lib.Dec.{leb}
-use borrow.Author.Tests.{not-false}
 use Rattle.rules.specs.Size.{most_watches, longest_path, longest_absolute}
 use Rattle.rules.specs.Octets.{Octets, same, begins, text}
 use Rattle.rules.specs.Entries.{is_empty}
@@ -122,9 +121,9 @@ no_event_lem true (n ∷ ns) = refl
 no_event_lem false [] = refl
 no_event_lem false (n ∷ ns) = refl
 
-pub taken_here : {s : Octets} {k : ℕ} → k < most_watches → KeptWatches s → {u : Bool} → u ≡ taken (get_or (watches_of s) k none) → not u ≡ false
+pub taken_here : {s : Octets} {k : ℕ} → k < most_watches → KeptWatches s → {u : Bool} → u ≡ taken (get_or (watches_of s) k none) → u ≡ true
     → TakenWatch s k
-taken_here h w {u} e f = record { below = h; kept = w; used = sym e ∙ not-false u f }
+taken_here h w {u} e f = record { below = h; kept = w; used = sym e ∙ f }
 
 module _ (s : Octets) (k : ℕ) (h : TakenWatch s k) (own : Octets) (o : own ≡ place_text (watch_of s k).place) where
   abbrev w : Watch

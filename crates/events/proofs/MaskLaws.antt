@@ -4,7 +4,7 @@ use mathlib.Core.Bool.{Bool, true, false}
 use mathlib.Core.List.{List, [], ◌∷◌, ◌++◌}
 use mathlib.Core.Option.{none, some}
 use Prim.Native.Nat.{ℕ, zero, suc, ◌+◌, ◌-◌, ◌*◌, ◌/◌, ◌%◌, ◌^◌, ◌≤◌, ◌<◌}
-use native.Mathlib.Nat.{pow-suc, pow-le-pow_right, zero-add, add-zero, add_assoc, add-mul, mul-one, mul_comm, mul_assoc}
+use native.Mathlib.Nat.{pow-suc, zero-add, add-zero, add_assoc, add-mul, mul-one, mul_comm, mul_assoc}
 use native.Mathlib.Nat.{mul-add-div_right, div-eq_of_lt, not-suc-le-zero, le_of_suc-le-suc}
 use native.Mathlib.Numerals.{add-one}
 use native.Mathlib.Omega.{arith}
@@ -90,9 +90,6 @@ module _ (m : List Bool) where
   masked_none = record { within = omega arith; small = lit< tt; value = refl }
 
   module _ (k n : ℕ) (f : Masked m k n) where
-    pub masked_small : n < 65536
-    masked_small = let p : 2 ^ k ≤ 2 ^ 16 = pow-le-pow_right (lit< tt) f.within in omega (arith, f.small)
-
     pub masked_next : length m ≡ most_watches → k < most_watches → (b : Bool) → b ≡ get_or m k false → (r : ℕ) → r ≡ n * 2 + bit b → Masked m (k + 1) r
     masked_next l h b e r q =
         record {
@@ -119,9 +116,6 @@ module _ (says : ℕ → Bool → Type 0) where
   built_none = record { within = omega arith; small = lit< tt; masks = λ m t. masked_none m }
 
   module _ (k n : ℕ) (f : Built says k n) where
-    pub built_small : n < 65536
-    built_small = let p : 2 ^ k ≤ 2 ^ 16 = pow-le-pow_right (lit< tt) f.within in omega (arith, f.small)
-
     pub built_next : k < most_watches → (b : Bool) → says k b → (r : ℕ) → r ≡ n * 2 + bit b → Built says (k + 1) r
     built_next h b e r q =
         record {

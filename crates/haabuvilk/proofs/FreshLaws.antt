@@ -15,7 +15,7 @@ use Rattle.rules.specs.Node.{root, fresh_table}
 use Rattle.rules.specs.Layout.{entry_bits, node_bits, slot_bytes, table_bytes, domain_bytes, domains_bytes, watch_bytes, watches_bytes, transaction_bytes}
 use Rattle.rules.specs.Layout.{transactions_bytes}
 use Rattle.rules.specs.World.{fresh_world}
-use Rattle.rules.specs.Call.{Tables, call_number, sized_tables, tables_of, fresh_call}
+use Rattle.rules.specs.Call.{wrong_size, Tables, call_number, sized_tables, tables_of, fresh_call}
 use Rattle.rules.proofs.Compare.{both_true}
 use Rattle.rules.proofs.Paste.{paste-whole}
 use Rattle.replies.specs.Does.{tables}
@@ -77,8 +77,8 @@ tables-sized t z =
       domains = eqb-true _ _ d.1;
     }
 
-pub fresh_refused : (t : Tables) → sized_tables t ≡ false → FreshMeets t (refreshed 1 t)
-unfolding fresh_call call_number
+pub fresh_refused : (t : Tables) → sized_tables t ≡ false → FreshMeets t (refreshed (call_number wrong_size) t)
+unfolding fresh_call
 fresh_refused t z = rw z refl
 
 fresh_tables : tables_of fresh_world

@@ -24,7 +24,7 @@ use Rattle.rules.specs.Call.{sound, world_of, type_of, tx_of, len_of, payload_of
 use Rattle.rules.specs.Call.{request_by, request_call}
 use Rattle.rules.proofs.Compare.{both_true}
 use Rattle.rules.proofs.Fields.{length_big}
-use Rattle.std.specs.Prelude.{Ok, Err}
+use Rattle.std.specs.Prelude.{⊤, Ok, Err}
 use Rattle.replies.proofs.Payloads.{payload-fits}
 use Rattle.replies.specs.Meant.{Reply}
 use Rattle.replies.specs.Framed.{Told, Held, Framed}

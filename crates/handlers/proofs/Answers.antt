@@ -28,7 +28,8 @@ use Rattle.rules.proofs.GoodAnswers.{change-good, parents-absent}
 use Rattle.rules.proofs.GoodRequests.{AskedGood}
 use Rattle.rules.proofs.SoundWorld.{TableSound, asked-sound, table_encoded, table_decoded}
 use Rattle.transactions.specs.Transaction.{change_given}
-use Rattle.nodes.specs.Answers.{Answer, Ready, change_of, effect_meant, told}
+use Rattle.nodes.specs.Answers.{Ready, change_of, effect_meant, told}
+use Rattle.nodes.specs.Answers as nodes
 use Rattle.nodes.specs.declared.kinds.Effect.{Effect}
 use Rattle.nodes.specs.declared.kinds.Effect.TheVariants.{Nothing, Wrote, Removed}
 use Rattle.nodes.specs.declared.kinds.Given.{Given}
@@ -107,19 +108,19 @@ module _ (d : Domain) (ns : Names) (t : Table) where
 -- ── the change of an answer ──
 
 -- an answer makes this change of the path, or none
-abbrev pub Makes : Answer → Octets → Bool → ℕ → Type 0
+abbrev pub Makes : nodes.Answer → Octets → Bool → ℕ → Type 0
 Makes r path removed parents = change_of r (names_in path) ≡ some (change_given removed parents path)
 
-abbrev pub Still : Answer → Octets → Type 0
+abbrev pub Still : nodes.Answer → Octets → Type 0
 Still r path = change_of r (names_in path) ≡ none
 
-module _ (path : Octets) (r : Answer) where
+module _ (path : Octets) (r : nodes.Answer) where
   pub refused-still : (e : Errno) → r ≡ Err e → Still r path
-  refused-still e h = ap (λ (y : Answer). change_of y (names_in path)) h
+  refused-still e h = ap (λ (y : nodes.Answer). change_of y (names_in path)) h
 
   module _ (g : Given) (h : r ≡ Ok g) where
     does : (x : Effect) → g.effect ≡ x → change_of r (names_in path) ≡ effect_meant x (names_in path)
-    does x e = ap (λ (y : Answer). change_of y (names_in path)) h ∙ ap (λ (y : Effect). effect_meant y (names_in path)) e
+    does x e = ap (λ (y : nodes.Answer). change_of y (names_in path)) h ∙ ap (λ (y : Effect). effect_meant y (names_in path)) e
 
     pub nothing-still : g.effect ≡ Nothing → Still r path
     nothing-still e = does Nothing e
@@ -133,10 +134,10 @@ module _ (path : Octets) (r : Answer) where
     removed_makes e = does Removed e
 
 -- what an answer tells, as the outcome
-pub given_told : (r : Answer) (g : Given) (n : ℕ) (o : Outcome) → r ≡ Ok g → o ≡ with_events (Ok g.length) n → o ≡ with_events (told r) n
+pub given_told : (r : nodes.Answer) (g : Given) (n : ℕ) (o : Outcome) → r ≡ Ok g → o ≡ with_events (Ok g.length) n → o ≡ with_events (told r) n
 given_told r g n o h p = rw h p
 
-pub refused_told : (r : Answer) (e : Errno) (o : Outcome) → r ≡ Err e → o ≡ Err e → o ≡ with_events (told r) 0
+pub refused_told : (r : nodes.Answer) (e : Errno) (o : Outcome) → r ≡ Err e → o ≡ Err e → o ≡ with_events (told r) 0
 refused_told r e o h p = rw h p
 
 -- ── a request in its bounds ──

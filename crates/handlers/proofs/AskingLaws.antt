@@ -33,6 +33,7 @@ use Rattle.nodes.specs.Answers.{Answer, Answers, Answered, change_of, told}
 use Rattle.replies.specs.declared.kinds.Errno.TheVariants.{NoSpace}
 use Rattle.std.specs.Prelude.{Err}
 use Rattle.nodes.specs.declared.kinds.Given.{Given}
+use Rattle.replies.specs.Meant.{Reply}
 use Rattle.replies.specs.Framed.{Told}
 use Rattle.replies.specs.Handled.{Outcome, Handled, reply_of, with_events}
 use Rattle.replies.specs.Does.{tables, its_nodes, its_watches, its_domains}

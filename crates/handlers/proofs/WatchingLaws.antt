@@ -23,9 +23,10 @@ use Rattle.rules.specs.Sound.{watched, twin}
 use Rattle.rules.specs.World.{World, left, to, place_fits, watching, unwatching, resetting}
 use Rattle.rules.specs.World.{without_watches, without_transactions, with_watches, with_transactions}
 use Rattle.domains.specs.Entry.{taken, entry_or}
-use Rattle.watches.specs.Watch.{KeptWatches, depth_meant, nobody, watch_of, TakenWatch, FitWatch, named, watch_given}
+use Rattle.watches.specs.Watch.{KeptWatches, nobody, watch_of, TakenWatch, FitWatch, named, watch_given}
 use Rattle.watches.specs.Watch as watches
-use Rattle.watches.specs.declared.Depth.{Depth}
+use Rattle.octets.specs.Options.{meant}
+use Rattle.std.specs.Prelude as code
 use Rattle.watches.proofs.Bytes.{length-watches_of}
 use Rattle.watches.proofs.Written.{put_kept}
 use Rattle.handlers.specs.Watching.{PlacedAs, NamedSo}
@@ -153,11 +154,11 @@ fit_watch w false r c text t p n h e =
     }
 
 -- the table after it is put in
-module _ (s : Octets) (kept : KeptWatches s) (k : ℕ) (below : k < most_watches) (c : Connection) (text : Octets) (r : Bool) (d : Depth) (t : Octets)
-    (f : FitWatch c text r t) (shallow : entry_or 0 (depth_meant d) < 256)
+module _ (s : Octets) (kept : KeptWatches s) (k : ℕ) (below : k < most_watches) (c : Connection) (text : Octets) (r : Bool) (d : code.Option ℕ) (t : Octets)
+    (f : FitWatch c text r t) (shallow : entry_or 0 (meant d) < 256)
     (b : Octets) (put : b ≡ watches_bytes (set (watches_of s) k (some (watch_given c text r d t)))) where
   abbrev pub new_watch : Watch
-  new_watch = record { owner = c; place = place_in r text; depth = depth_meant d; token = t }
+  new_watch = record { owner = c; place = place_in r text; depth = meant d; token = t }
 
   pub read_back : watches_of b ≡ set (watches_of s) k (some new_watch)
   unfolding watch_given

@@ -12,6 +12,7 @@ use Rattle.rules.specs.World as W
 use Rattle.rules.specs.World.{World, left, to}
 use Rattle.rules.specs.Call.{Tables, tables_of}
 use Rattle.rules.proofs.Paste.{paste_nil}
+use Rattle.octets.proofs.Options.{is_nothing}
 use Rattle.replies.specs.Meant.{Reply, errno_meant}
 use Rattle.replies.specs.declared.kinds.Errno.{Errno}
 use Rattle.std.specs.Prelude.{Ok, Err, Option, None, Some, IfSome, ◌<◌}
@@ -29,8 +30,8 @@ its_tables w = tables (its_nodes w) (its_copies w) (its_watches w) (its_transact
 
 -- the lowest free place, where there is one
 module _ (o : Option ℕ) (n m : ℕ) (e : unwrap_or o n ≡ m) where
-  pub none-free : o ≡ None → n ≡ m
-  none-free h = rw h at e
+  pub none-free : ((k : ℕ) → o ≡ Some k → ⊥) → n ≡ m
+  none-free h = rw (is_nothing o h) at e
 
   pub some_free : (k : ℕ) → o ≡ Some k → k ≡ m
   some_free k h = rw h at e

@@ -177,9 +177,7 @@ pub fn in_transaction(
     let length = given.length;
     match given.effect {
         Effect::Nothing => Ok(Done::with_events(length, 0)),
-        Effect::Wrote(parents) => Ok(enter_change(
-            transactions, k, false, parents, path, length,
-        )),
+        Effect::Wrote(parents) => Ok(enter_change(transactions, k, false, parents, path, length)),
         Effect::Removed => Ok(enter_change(transactions, k, true, 0, path, length)),
     }
 }

@@ -1,17 +1,16 @@
 -- The numbers of a slice are bytes, a field by the fields that it is made of, numbers made of bytes give them back, and when two tests of them agree.
-use mathlib.Core.Path.{◌≡◌, refl, sym, ◌∙◌}
+use mathlib.Core.Path.{◌≡◌, refl, sym}
 use mathlib.Core.Bool.{Bool, true, false}
 use Prim.Native.Nat.{ℕ, zero, suc, ◌+◌, ◌*◌, ◌/◌, ◌%◌, ◌^◌, ◌≤◌, ◌<◌}
-use native.Mathlib.Nat.{add_assoc, pow-le-pow_right}
+use native.Mathlib.Nat.{pow-le-pow_right}
 use native.Mathlib.Omega.{arith}
 use lib.Dec.{eqb, lit<}
 use lib.ListN.{length, get_or}
 use mir.Val.{Fits}
 use mir.Syntax.{w8}
 use Rattle.rules.specs.Octets.{Octets, bit, big_from, field}
-use Rattle.rules.proofs.Fields.{field-split, field_one, field_two, field_bound}
-use Rattle.octets.specs.Read.{Read}
-use Rattle.octets.specs.Two.{Bytes}
+use Rattle.rules.proofs.Fields.{field-split, field_one, field_bound}
+use Rattle.octets.specs.Read.{Bytes, Read}
 
 pub bytes-known : (s : Octets) → ((j : ℕ) → Fits w8 (get_or s j 0)) → Bytes s
 bytes-known s f j = omega (arith, f j)
@@ -35,16 +34,6 @@ field_within s bytes at i few h =
     let below : field s at i < 256 ^ i = field_bound s bytes i at (omega arith) in
     let seven : 256 ^ i ≤ 256 ^ 7 = pow-le-pow_right (lit< tt) {i = i} {j = 7} (omega arith) in
     omega arith
-
--- a field of four bytes, and one of eight by two of four
-pub field_four : (s : Octets) (at : ℕ) → at + 4 ≤ length s →
-    field s at 4 ≡ get_or s at 0 * 16777216 + get_or s (at + 1) 0 * 65536 + get_or s (at + 2) 0 * 256 + get_or s (at + 3) 0
-field_four s at h =
-    field-split s at 2 2 (omega arith)
-    ∙ rw (field_two s at (omega arith), field_two s (at + 2) (omega arith), add_assoc at 2 1) (omega arith)
-
-pub field_eight : (s : Octets) (at : ℕ) → at + 8 ≤ length s → field s at 8 ≡ field s at 4 * 4294967296 + field s (at + 4) 4
-field_eight s at h = field-split s at 4 4 (omega arith)
 
 pub bit_of : (x : ℕ) → x < 2 → bit (eqb x 1) ≡ x
 bit_of zero h = refl

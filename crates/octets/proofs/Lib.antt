@@ -5,3 +5,4 @@ pub mod Padding
 pub mod Bytes
 pub mod PlaceLaws
 pub mod Library
+pub mod Options

@@ -15,7 +15,7 @@ use Rattle.rules.specs.Octets.{Octets, chunks, field, bits_at}
 use Rattle.rules.specs.Entries.{lowest}
 use Rattle.rules.proofs.Fields.{field_one, field-split, field_bound}
 use Rattle.rules.proofs.Tables.{length-chunks, decoded_at}
-use Rattle.octets.specs.Two.{Bytes}
+use Rattle.octets.specs.Read.{Bytes}
 use Rattle.octets.specs.Places.{used_in, lowest_free}
 use Rattle.octets.proofs.Bytes.{agree}
 

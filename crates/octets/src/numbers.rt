@@ -2,7 +2,6 @@
 ghost use Rattle.std.specs.Prelude.{◌≡◌, ◌+◌, ◌^◌, ◌<◌, ◌≤◌, length};
 ghost use Rattle.rules.specs.Octets.{paste, little_endian, four_bytes};
 ghost use Rattle.octets.specs.Read.{Read};
-ghost use Rattle.octets.specs.Two.{Two};
 
 use crate::parts::copy;
 
@@ -33,47 +32,4 @@ pub fn number<const N: usize>(s: &[u8], at: usize) -> u64
         n = n * 256 + s[at + i] as u64;
     }
     n
-}
-
-// Two bytes as one number, most significant first.
-pub fn two(s: &[u8], at: usize) -> u32
-    requires { at + 1 < length s.now }
-    ensures { Two s.now at result }
-{
-    let high = s[at] as u32;
-    let low = s[at + 1] as u32;
-    high * 256 + low
-}
-
-// Three bytes as one number, most significant first.
-pub fn three(s: &[u8], at: usize) -> u32
-    requires { at + 3 ≤ length s.now }
-    ensures { Read s.now at 3 result }
-{
-    let high = s[at] as u32;
-    let middle = s[at + 1] as u32;
-    let low = s[at + 2] as u32;
-    high * 65536 + middle * 256 + low
-}
-
-// Four bytes as one number, most significant first.
-pub fn four(s: &[u8], at: usize) -> u64
-    requires { at + 4 ≤ length s.now }
-    ensures { Read s.now at 4 result }
-{
-    let a = s[at] as u64;
-    let b = s[at + 1] as u64;
-    let c = s[at + 2] as u64;
-    let d = s[at + 3] as u64;
-    a * 16777216 + b * 65536 + c * 256 + d
-}
-
-// Eight bytes as one number, most significant first.
-pub fn eight(s: &[u8], at: usize) -> u64
-    requires { at + 8 ≤ length s.now }
-    ensures { Read s.now at 8 result }
-{
-    let high = four(s, at);
-    let low = four(s, at + 4);
-    high * 4294967296 + low
 }

@@ -36,6 +36,7 @@ use Rattle.domains.proofs.Search.{taken-some}
 use Rattle.domains.proofs.Laws as domains
 use Rattle.watches.proofs.Written as watches
 use Rattle.transactions.proofs.Good as transactions
+use Rattle.std.specs.Prelude as code
 use Rattle.replies.specs.Handled.{Outcome, Handled}
 use Rattle.replies.specs.Does.{lent, Shows, its_nodes, its_copies, its_watches, its_transactions, its_domains}
 use Rattle.handlers.specs.Asking.{copy_in}
@@ -178,7 +179,7 @@ asks_no_node request.Reset h = tt
 
 -- a request of no other kind, and no ask, is an unknown one
 pub is_unknown : (r : Request) → AsksNoNode r → (r ≡ request.Invalid → ⊥)
-    → ((p : Path) (a e : ℕ) (d : Option ℕ) → r ≡ request.Watch p a e d → ⊥) → ((p : Path) (a e : ℕ) → r ≡ request.Unwatch p a e → ⊥)
+    → ((p : Path) (a e : ℕ) (d : code.Option ℕ) → r ≡ request.Watch p a e d → ⊥) → ((p : Path) (a e : ℕ) → r ≡ request.Unwatch p a e → ⊥)
     → (r ≡ request.Start → ⊥) → ((b : Bool) → r ≡ request.End b → ⊥) → ((i p c : ℕ) → r ≡ request.Introduce i p c → ⊥)
     → ((i : ℕ) → r ≡ request.Release i → ⊥) → ((i : ℕ) → r ≡ request.DomainPath i → ⊥) → ((i : ℕ) → r ≡ request.IsIntroduced i → ⊥)
     → (r ≡ request.Reset → ⊥) → r ≡ request.Unknown

@@ -35,13 +35,11 @@ fn grid_row(rt: &impl Print, high: u8)
     let mut line = [b' '; 56];
     line[0] = hex(high);
     line[1] = b'_';
-    let mut low: u8 = 0;
-    while low < 16 {
+    for low in 0..16u8 {
         let b = high * 16 + low;
         let at = low as usize;
         line[4 + 2 * at] = b'0' + class_of(b);
         line[39 + at] = shown(b);
-        low += 1;
     }
     line[55] = b'\n';
     print(rt, &line);
@@ -53,11 +51,9 @@ fn step_row(rt: &impl Print, state: u8, word: &[u8])
 {
     print(rt, word);
     let mut line = [b' '; 35];
-    let mut class: u8 = 0;
-    while class < 5 {
+    for class in 0..5u8 {
         let at = class as usize;
         line[5 + 7 * at] = b'0' + step(state, class);
-        class += 1;
     }
     line[34] = b'\n';
     print(rt, &line);
@@ -65,10 +61,8 @@ fn step_row(rt: &impl Print, state: u8, word: &[u8])
 
 fn grid(rt: &impl Print) {
     print(rt, b"    0 1 2 3 4 5 6 7 8 9 a b c d e f\n");
-    let mut high: u8 = 0;
-    while high < 16 {
+    for high in 0..16u8 {
         grid_row(rt, high);
-        high += 1;
     }
 }
 

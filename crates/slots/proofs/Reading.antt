@@ -15,7 +15,7 @@ use Rattle.rules.specs.Node.{Node, Table, root, node_at}
 use Rattle.rules.specs.Layout.{table_of, slot_of, node_of, text_at, entry_at}
 use Rattle.rules.proofs.Fields.{field-part, field_three, field-split, field_bound, take-drop-take}
 use Rattle.rules.proofs.Slots.{slot_at_lem}
-use Rattle.octets.specs.Two.{Bytes}
+use Rattle.octets.specs.Read.{Bytes}
 use Rattle.octets.proofs.Bytes.{agree}
 use Rattle.slots.specs.Slot.{slot_at, is_used, head, name_length, value_length, entry_count, entry_of}
 

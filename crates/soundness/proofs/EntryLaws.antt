@@ -1,18 +1,20 @@
 -- The entries of a slot against the rule book, as numbers.
 use mathlib.Core.Path.{◌≡◌, refl, sym, ap, ◌∙◌}
-use mathlib.Core.Bool.{and-true, Bool, true, ◌&&◌, and_comm}
+use mathlib.Core.Bool.{and-true, and-false, Bool, true, ◌&&◌, and_comm}
 use mathlib.Core.List.{List, [], ◌∷◌}
 use Prim.Native.Nat.{ℕ, zero, suc, ◌+◌, ◌*◌, ◌-◌, ◌/◌, ◌%◌, ◌^◌, ◌≤◌, ◌<◌}
 use native.Mathlib.Nat.{div-one, add_assoc, lt_of_le_of_lt}
 use native.Mathlib.Omega.{arith}
+use native.Mathlib.Decide.{ℕ_discrete}
 use lib.ListN.{take}
 use lib.Dec.{eqb, leb}
-use borrow.Author.Tests.{ne_eqb, eq-eqb, le-leb}
+use borrow.Author.Tests.{ne_eqb, eq-eqb, lt-leb, le-leb}
 use Rattle.rules.specs.Octets.{bits_at, pack, pack_from}
 use Rattle.rules.specs.Node.{Entry}
 use Rattle.rules.specs.Layout.{entry_at, entry_bits}
 use Rattle.rules.specs.Sound.{good_entries}
 use Rattle.soundness.specs.Parts.{low_domains}
+use Rattle.soundness.proofs.Tests.{stop, both}
 
 -- the entries of nine bytes that a count says
 abbrev pub counted : ℕ → ℕ → List Entry
@@ -173,3 +175,31 @@ shift_some (suc (suc zero)) h k = omega arith
 shift_some (suc (suc (suc zero))) h k = omega arith
 shift_some (suc (suc (suc (suc zero)))) h k = omega arith
 shift_some (suc (suc (suc (suc (suc c))))) h k = absurd (omega arith)
+
+-- a lone entry: with nothing behind it the others' domains are 0
+module _ (first rest : ℕ) where
+  abbrev domain : ℕ
+  domain = (first * 1024 + rest / 2 ^ 54) % 65536
+
+  abbrev Lone : Bool
+  Lone = low_domains first rest && eqb (rest % 2 ^ 54) 0
+
+  pub lone-high : 32751 < domain → leb domain 32751 ≡ Lone
+  unfolding low_domains
+  lone-high h = lt-leb domain 32751 h ∙ stop _ (sym (stop _ (lt-leb domain 32751 h)))
+
+  pub lone-low : domain ≤ 32751 → eqb (rest % 2 ^ 54) 0 ≡ Lone
+  unfolding low_domains
+  lone-low h = by (ℕ_discrete (rest % 2 ^ 54) 0)
+    where
+      low_others : rest % 2 ^ 54 ≡ 0 → low_domains first rest ≡ true
+      low_others z =
+          let two : rest / 2 ^ 36 % 65536 ≤ 32751 = omega arith in
+          let three : rest / 2 ^ 18 % 65536 ≤ 32751 = omega arith in
+          let four : rest % 65536 ≤ 32751 = omega arith in
+          both (le-leb domain 32751 h) (both (le-leb (rest / 2 ^ 36 % 65536) 32751 two)
+          (both (le-leb (rest / 2 ^ 18 % 65536) 32751 three) (le-leb (rest % 65536) 32751 four)))
+
+      by : Dec (rest % 2 ^ 54 ≡ 0) → eqb (rest % 2 ^ 54) 0 ≡ Lone
+      by (yes z) = sym (rw (low_others z))
+      by (no n) = rw (ne_eqb (rest % 2 ^ 54) 0 n) (sym (and-false (low_domains first rest)))

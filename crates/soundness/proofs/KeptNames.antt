@@ -5,10 +5,9 @@ use mathlib.Core.List.{[], ◌∷◌, ◌++◌, append_assoc}
 use mathlib.Core.Logic.{◌⊎◌, inl, inr}
 use Prim.Native.Nat.{ℕ, zero, suc, ◌+◌, ◌*◌, ◌-◌, ◌≤◌, ◌<◌}
 use native.Mathlib.Nat.{add-sub_cancel_left}
-use native.Mathlib.Numerals.{add-one}
 use native.Mathlib.Omega.{arith}
-use lib.ListN.{length, get_or, take, drop, replicate, length-replicate, length-drop, replicate-append-replicate, drop_of_length-le}
-use lib.Seq.{take_all, drop-cons, drop_at, take-take, length-take-le}
+use lib.ListN.{length, take, drop, replicate, length-replicate, length-drop, replicate-append-replicate}
+use lib.Seq.{take_all, drop_at, take-take, length-take-le}
 use lib.Dec.{eqb, leb}
 use borrow.Author.Tests.{eq-eqb, ne_eqb, leb-true}
 use Rattle.rules.specs.Size.{slots, table_size, slot_size, name_at, longest_name}

@@ -20,7 +20,7 @@ use Rattle.rules.proofs.Fields.{length_big, take-drop-take, field-part, field-sp
 use Rattle.rules.proofs.Slots.{NodeFits, head_bound, length-padded}
 use Rattle.rules.proofs.Fitting.{node_at-fits, decoded_fits}
 use Rattle.rules.proofs.Reencoding.{both_ways, same_append, same-padded, same_zeros, same_big, bytes_take}
-use Rattle.octets.specs.Two.{Bytes}
+use Rattle.octets.specs.Read.{Bytes}
 use Rattle.slots.specs.Slot.{slot_at, is_used, head, name_length, value_length, entry_count}
 use Rattle.slots.proofs.Reading.{chunk, meant, head_bytes, used-slot, used-node, used_byte}
 use Rattle.soundness.specs.Parts.{fair, good_slot, sized, kept_entries, low_domains, zero_behind, name_kept}

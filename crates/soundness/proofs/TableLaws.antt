@@ -24,7 +24,7 @@ use Rattle.rules.proofs.Compare.{both_true, same_eq, eq_same}
 use Rattle.rules.proofs.Slots.{length-table_of}
 use Rattle.rules.proofs.Reencoding.{both_ways, slots_kept, kept_slot}
 use Rattle.rules.proofs.GoodTables.{node_at_lem, at_node}
-use Rattle.octets.specs.Two.{Bytes}
+use Rattle.octets.specs.Read.{Bytes}
 use Rattle.slots.specs.Slot.{slot_at, is_used, name_length, entry_of}
 use Rattle.slots.proofs.Reading.{node-some}
 use Rattle.slots.proofs.Canonical.{entry_is, used-some}

@@ -91,10 +91,9 @@ pub fn all_chained(t: &[u8]) -> bool
     ensures { result ≡ every (chained t.now) slots 0 }
 {
     let mut known = [0u8; SLOTS];
-    let mut no_text = [0u8; 1];
     for i in 0..SLOTS {
         if used(t, i) {
-            let Some(way) = walk(t, i, MOST_STEPS, &known, &mut no_text[..0]) else {
+            let Some(way) = walk(t, i, MOST_STEPS, &known, &mut []) else {
                 return false;
             };
             known[i] = way.steps + 1;

@@ -57,7 +57,7 @@ fn has_key(keys: &[u16; SLOTS], key: u16) -> bool
 {
     let mut found = false;
     for k in keys {
-        found = found | (*k == key);
+        found |= *k == key;
     }
     found
 }

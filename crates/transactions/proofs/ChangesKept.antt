@@ -19,7 +19,7 @@ use Rattle.rules.proofs.Fields.{take-drop-take, field-part, field_two, bit_small
 use Rattle.rules.proofs.Slots.{text-short}
 use Rattle.rules.proofs.Reencoding.{same_append}
 use Rattle.rules.proofs.TransactionLayouts.{ChangeFits}
-use Rattle.octets.specs.Two.{Bytes}
+use Rattle.octets.specs.Read.{Bytes}
 use Rattle.octets.specs.Numbers.{rest_zero}
 use Rattle.transactions.specs.Checks.{change_kept}
 use Rattle.paths.specs.Form.{form_of}

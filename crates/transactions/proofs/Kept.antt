@@ -18,7 +18,7 @@ use Rattle.rules.proofs.Compare.{eq_same}
 use Rattle.rules.proofs.Fields.{field_three, bit_small}
 use Rattle.rules.proofs.Tables.{length-chunks}
 use Rattle.rules.proofs.TransactionLayouts.{TransactionFits}
-use Rattle.octets.specs.Two.{Bytes}
+use Rattle.octets.specs.Read.{Bytes}
 use Rattle.domains.specs.Kept.{kept_at}
 use Rattle.octets.specs.Numbers.{rest_zero}
 use Rattle.transactions.specs.Checks.{changes_kept}

@@ -16,7 +16,7 @@ use Rattle.rules.proofs.Cases.{cond_case}
 use Rattle.rules.proofs.DecodedEntries.{transaction_decoded}
 use Rattle.rules.proofs.TransactionLayouts.{TransactionFits, MaybeTransaction, transaction_width, transaction_at_lem}
 use Rattle.domains.specs.Entry.{taken}
-use Rattle.octets.specs.Two.{Bytes}
+use Rattle.octets.specs.Read.{Bytes}
 use Rattle.octets.specs.Read.{Read}
 use Rattle.transactions.specs.Transaction.{KeptTransactions, transaction_of}
 use Rattle.domains.proofs.Tests.{taken-cond, entry_is}

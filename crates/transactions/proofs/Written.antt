@@ -1,7 +1,7 @@
 -- Transactions opened, closed, made stale and extended: what a written place leaves.
 use mathlib.Core.Path.{◌≡◌, refl, sym, ap, ◌∙◌}
 use mathlib.Core.Bool.{Bool, true, false}
-use mathlib.Core.List.{[], ◌∷◌, ◌++◌, map, flat_map}
+use mathlib.Core.List.{List, [], ◌∷◌, ◌++◌, map, flat_map}
 use mathlib.Core.Option.{Option, none, some}
 use Prim.Native.Nat.{ℕ, suc, ◌+◌, ◌*◌, ◌/◌, ◌%◌, ◌≤◌, ◌<◌}
 use native.Mathlib.Nat.{add-zero}
@@ -19,10 +19,12 @@ use Rattle.rules.proofs.Tables.{each_at}
 use Rattle.rules.proofs.DecodedEntries.{decoded_transactions_fit}
 use Rattle.rules.proofs.TransactionLayouts.{TransactionFits, MaybeTransaction, transaction_width, transaction_read}
 use Rattle.rules.proofs.Joined.{set-paste}
-use Rattle.domains.specs.Entry.{taken, passes, dropped_if}
+use Rattle.domains.specs.Entry.{taken, passes}
 use Rattle.transactions.specs.Transaction.{KeptTransactions, transaction_of, stale_of}
+use Rattle.domains.specs.Freed.{freed_from, Freed}
+use Rattle.domains.proofs.FreeLaws.{kept_freed, freed_where}
 use Rattle.domains.proofs.Search.{free_none, taken-some, swept_before}
-use Rattle.domains.proofs.Rows.{Writable, wrote, wrote_kept, swept_kept, swept-end, freed, left, dropped_kept, dropped_end, without-kept}
+use Rattle.domains.proofs.Rows.{Writable, wrote, wrote_kept, swept_kept, swept-end, without-kept}
 use Rattle.transactions.proofs.Parts.{paste_row}
 use Rattle.transactions.proofs.Laws.{three_of, transaction_parts, transaction_wide, length-transactions_of, row_parts, changes-read, open_fits}
 
@@ -74,22 +76,6 @@ module _ (s : Octets) (c : KeptTransactions s) (k : ℕ) (h : k < most_transacti
   pub closed : paste at (replicate transaction_size 0) s ≡ transactions_bytes (set (transactions_of s) k none)
   unfolding transactions_of transactions_bytes transaction_bytes
   closed = sym (wrote transaction_bytes transaction_in transaction_size transaction_wide most_transactions s c k none h (transaction_width none tt))
-
-  pub freed_transaction : (test : Transaction → Bool) → passes test (get_or (transactions_of s) k none) ≡ true
-      → paste at (replicate transaction_size 0) s ≡ transactions_bytes (set (transactions_of s) k (dropped_if test (get_or (transactions_of s) k none)))
-  unfolding transactions_of transactions_bytes transaction_bytes
-  freed_transaction test = freed transaction_bytes transaction_in transaction_size transaction_wide most_transactions s c k h (writable none tt) test
-
-  pub left_transaction : (test : Transaction → Bool) → passes test (get_or (transactions_of s) k none) ≡ false
-      → s ≡ transactions_bytes (set (transactions_of s) k (dropped_if test (get_or (transactions_of s) k none)))
-  unfolding transactions_of transactions_bytes
-  left_transaction test = left transaction_bytes transaction_in transaction_size transaction_wide most_transactions s c k h (writable none tt) test
-
-  pub swept_transaction : (test : Transaction → Bool) (xs : Transactions) → transactions_of s ≡ swept_before (dropped_if test) k xs
-      → (t : Octets) → t ≡ transactions_bytes (set (transactions_of s) k (dropped_if test (get_or (transactions_of s) k none)))
-      → KeptTransactions t × (transactions_of t ≡ swept_before (dropped_if test) (k + 1) xs)
-  unfolding transactions_of transactions_bytes
-  swept_transaction test = dropped_kept transaction_bytes transaction_in transaction_size transaction_wide most_transactions s c k h (writable none tt) test
 
   -- what the bytes are and mean after a place is closed, or opened for connection o
   pub close_kept : (t : Octets) → t ≡ transactions_bytes (set (transactions_of s) k none)
@@ -164,10 +150,22 @@ swept_stales s t c i h e =
     swept-end transaction_bytes transaction_in transaction_size transaction_wide most_transactions s c stale_of t i h e
     ∙ ap (flat_map transaction_bytes) (staled-map _)
 
-pub swept-transactions : (test : Transaction → Bool) (s t : Octets) → KeptTransactions s → (i : ℕ) → most_transactions ≤ i
-    → transactions_of s ≡ swept_before (dropped_if test) i (transactions_of t) → s ≡ transactions_bytes (without test (transactions_of t))
-unfolding transactions_of transactions_bytes
-swept-transactions test s t c = dropped_end transaction_bytes transaction_in transaction_size transaction_wide most_transactions s c test t
+none_zero : transaction_bytes none ≡ replicate transaction_size 0
+unfolding transaction_bytes
+none_zero = refl
+
+-- what places freed leave, whatever was asked of them
+module _ (s : Octets) (c : KeptTransactions s) where
+  pub freed-kept : (answers : List Bool) → length answers ≤ most_transactions → KeptTransactions (freed_from transaction_size 0 answers s)
+  freed-kept answers h =
+      kept_freed transaction_bytes transaction_in transaction_size transaction_wide most_transactions (writable none tt) none_zero 0 answers s (omega arith) c
+
+  pub freed-transactions : (test : Transaction → Bool) (says : Octets → ℕ → Bool → Type 0)
+      → ((t : Octets) (i : ℕ) (b : Bool) → KeptTransactions t → i < most_transactions → says t i b → b ≡ passes test (get_or (transactions_of t) i none))
+      → (t : Octets) → Freed transaction_size says most_transactions s t → t ≡ transactions_bytes (without test (transactions_of s))
+  unfolding transactions_of transactions_bytes
+  freed-transactions test says told t =
+      freed_where transaction_bytes transaction_in transaction_size transaction_wide most_transactions (writable none tt) none_zero test says told s t c
 
 -- what the bytes are and mean after entries are closed, or all made stale
 pub without-transactions : (s : Octets) → KeptTransactions s → (test : Transaction → Bool) (t : Octets)

@@ -10,6 +10,7 @@ ghost use Rattle.domains.specs.Entry.{dropped_if};
 ghost use Rattle.transactions.specs.Transaction.{KeptTransactions, transaction_of, held_by, stale_of, change_given, changed_by, RoomForChange};
 
 use crate::places::{changes, held, is_open};
+use domains::freeing::free_where;
 use octets::parts::{clear, put_text};
 use octets::sizes::{
     CHANGE_FIELDS_SIZE, CHANGE_SIZE, CHANGES_AT, CHANGES_SIZE, LONGEST_PATH, TRANSACTION_SIZE,
@@ -88,23 +89,10 @@ pub fn stale_all(s: &mut [u8])
     }
 }
 
-// Closes place k, if it has a transaction of connection c.
-fn close_held(s: &mut [u8], k: usize, c: u32)
-    requires { (k < most_transactions) × KeptTransactions s.old }
-    ensures { s.new ≡ transactions_bytes
-        (set (transactions_of s.old) k (dropped_if (held_by c) (get_or (transactions_of s.old) k none))) }
-{
-    if held(s, k, c) {
-        clear(s, k * TRANSACTION_SIZE, TRANSACTION_SIZE);
-    }
-}
-
 // Closes the transactions of connection c.
 pub fn remove_of(s: &mut [u8], c: u32)
     requires { KeptTransactions s.old }
     ensures { s.new ≡ transactions_bytes (without_transactions (eqb c) (transactions_of s.old)) }
 {
-    for k in 0..TRANSACTIONS {
-        close_held(s, k, c);
-    }
+    free_where(s, TRANSACTION_SIZE, TRANSACTIONS, |s, k| held(s, k, c));
 }

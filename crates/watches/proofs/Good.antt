@@ -26,7 +26,7 @@ use Rattle.rules.proofs.BelowLaws.{has_names, is_under, below_names}
 use Rattle.octets.specs.Numbers.{Put}
 use Rattle.paths.specs.Full.{base_text}
 use Rattle.domains.specs.Entry.{taken, entry_or}
-use Rattle.octets.specs.Two.{Bytes}
+use Rattle.octets.specs.Read.{Bytes}
 use Rattle.watches.specs.Watch.{nobody, watch_of, KeptWatches}
 use Rattle.octets.specs.Options.{meant}
 use Rattle.std.specs.Prelude as code

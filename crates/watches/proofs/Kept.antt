@@ -18,7 +18,7 @@ use Rattle.rules.specs.Layout.{text_at, is_relative, place_in, watch_bytes, watc
 use Rattle.rules.proofs.Compare.{both_true, same_length, same_eq, eq_same, same_refl}
 use Rattle.rules.proofs.PathLaws.{full, full-given, full_slash, given_is_full, given-event}
 use Rattle.domains.specs.Entry.{taken, entry_or}
-use Rattle.octets.specs.Two.{Bytes}
+use Rattle.octets.specs.Read.{Bytes}
 use Rattle.domains.specs.Kept.{kept_at}
 use Rattle.watches.specs.Watch.{nobody, path_length, token_length}
 use Rattle.watches.specs.Checks.{place_same, depth_same, fields_same}

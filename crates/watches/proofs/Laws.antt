@@ -19,7 +19,7 @@ use Rattle.rules.proofs.Fields.{field-part, field_two, field_three, field-split,
 use Rattle.rules.proofs.EntryLayouts.{watch_at_lem}
 use Rattle.rules.proofs.Slots.{text-few}
 use Rattle.domains.specs.Entry.{taken, passes, entry_or}
-use Rattle.octets.specs.Two.{Bytes}
+use Rattle.octets.specs.Read.{Bytes}
 use Rattle.octets.specs.Read.{Read}
 use Rattle.watches.specs.Watch.{KeptWatches, nobody, owned_by, watch_of, path_length, token_length}
 use Rattle.watches.specs.Checks.{depth_same, fields_same}

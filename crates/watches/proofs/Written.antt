@@ -1,7 +1,7 @@
 -- Watches added and taken out: what a written place leaves.
 use mathlib.Core.Path.{◌≡◌, refl, sym, ap, ◌∙◌}
 use mathlib.Core.Bool.{Bool, true, false}
-use mathlib.Core.List.{[], ◌∷◌, ◌++◌}
+use mathlib.Core.List.{List, [], ◌∷◌, ◌++◌}
 use mathlib.Core.Option.{none, some}
 use Prim.Native.Nat.{ℕ, suc, ◌+◌, ◌*◌, ◌/◌, ◌%◌, ◌≤◌, ◌<◌}
 use native.Mathlib.Omega.{arith}
@@ -11,21 +11,22 @@ use Rattle.rules.specs.Size.{most_watches, watch_fields_size, token_at, watch_si
 use Rattle.rules.specs.Octets.{Octets, same, paste, padded, bit}
 use Rattle.rules.specs.Entries.{without}
 use Rattle.rules.specs.Path.{Connection, absolute, special, names_in}
-use Rattle.rules.specs.Event.{Watch, Watches, place_text}
+use Rattle.rules.specs.Event.{Watch, place_text}
 use Rattle.rules.specs.Layout.{Domains, is_relative, place_in, watch_bytes, watch_in, watches_bytes, watches_of}
 use Rattle.rules.specs.Sound.{good_watches, sound_watches}
 use Rattle.rules.proofs.PathLaws as P
 use Rattle.rules.proofs.PathLaws.{full-given}
 use Rattle.rules.proofs.Paste.{paste_sets, paste_append}
 use Rattle.rules.proofs.EntryLayouts.{PlaceFits, DepthFits, watch-read}
-use Rattle.domains.specs.Entry.{taken, passes, entry_or, dropped_if}
+use Rattle.domains.specs.Entry.{taken, passes, entry_or}
 use Rattle.watches.specs.Watch.{KeptWatches, Placed, full, named, FitWatch, watch_given}
 use Rattle.octets.specs.Options.{meant}
 use Rattle.std.specs.Prelude.{Some, None, unwrap_or}
 use Rattle.std.specs.Prelude as code
-use Rattle.domains.proofs.Search.{swept_before}
+use Rattle.domains.specs.Freed.{freed_from, Freed}
+use Rattle.domains.proofs.FreeLaws.{kept_freed, freed_where}
 use Rattle.rules.proofs.Slots.{length-padded}
-use Rattle.domains.proofs.Rows.{Writable, wrote, wrote_kept, freed, left, dropped_kept, dropped_end, without-kept, same_kept, checked-kept}
+use Rattle.domains.proofs.Rows.{Writable, wrote, wrote_kept, without-kept, same_kept, checked-kept}
 use Rattle.watches.proofs.Bytes.{place-given, Narrow, watch-parts, narrow_width, none-width, watch-wide}
 
 -- ── what a place can hold ──
@@ -100,27 +101,14 @@ module _ (c : Connection) (x : Octets) (r : Bool) (d : code.Option ℕ) (t : Oct
 empty : Writable watch_bytes watch_in watch_size watch-wide none
 empty = record { width = none-width; back = watch-read none tt }
 
+none_zero : watch_bytes none ≡ replicate watch_size 0
+unfolding watch_bytes
+none_zero = refl
+
 module _ (s : Octets) (c : KeptWatches s) (k : ℕ) (h : k < most_watches) where
   -- where place k begins
   abbrev at : ℕ
   at = k * watch_size
-
-  -- a place cleared, or left as it is
-  pub freed_watch : (test : Watch → Bool) → passes test (get_or (watches_of s) k none) ≡ true
-      → paste at (replicate watch_size 0) s ≡ watches_bytes (set (watches_of s) k (dropped_if test (get_or (watches_of s) k none)))
-  unfolding watches_of watches_bytes watch_bytes
-  freed_watch test = freed watch_bytes watch_in watch_size watch-wide most_watches s c k h empty test
-
-  pub left-watch : (test : Watch → Bool) → passes test (get_or (watches_of s) k none) ≡ false
-      → s ≡ watches_bytes (set (watches_of s) k (dropped_if test (get_or (watches_of s) k none)))
-  unfolding watches_of watches_bytes
-  left-watch test = left watch_bytes watch_in watch_size watch-wide most_watches s c k h empty test
-
-  pub swept-watch : (test : Watch → Bool) (ws : Watches) → watches_of s ≡ swept_before (dropped_if test) k ws
-      → (t : Octets) → t ≡ watches_bytes (set (watches_of s) k (dropped_if test (get_or (watches_of s) k none)))
-      → KeptWatches t × (watches_of t ≡ swept_before (dropped_if test) (k + 1) ws)
-  unfolding watches_of watches_bytes
-  swept-watch test = dropped_kept watch_bytes watch_in watch_size watch-wide most_watches s c k h empty test
 
   module _ (o : Connection) (x : Octets) (r : Bool) (d : code.Option ℕ) (t : Octets) (f : FitWatch o x r t) (below : entry_or 0 (meant d) < 256) where
     -- three parts put in, the last first
@@ -149,10 +137,16 @@ module _ (s : Octets) (c : KeptWatches s) (k : ℕ) (h : k < most_watches) where
         wrote_kept watch_bytes watch_in watch_size watch-wide most_watches s c k (some (watch_given o x r d t))
         (record { width = narrow_width _ (given_narrow o x r d t f below); back = given_back o x r d t f below })
 
-pub swept-watches : (test : Watch → Bool) (s t : Octets) → KeptWatches s → (i : ℕ) → most_watches ≤ i
-    → watches_of s ≡ swept_before (dropped_if test) i (watches_of t) → s ≡ watches_bytes (without test (watches_of t))
-unfolding watches_of watches_bytes
-swept-watches test s t c = dropped_end watch_bytes watch_in watch_size watch-wide most_watches s c test t
+-- what places freed leave, whatever was asked of them
+module _ (s : Octets) (c : KeptWatches s) where
+  pub freed-kept : (answers : List Bool) → length answers ≤ most_watches → KeptWatches (freed_from watch_size 0 answers s)
+  freed-kept answers h = kept_freed watch_bytes watch_in watch_size watch-wide most_watches empty none_zero 0 answers s (omega arith) c
+
+  pub freed-watches : (test : Watch → Bool) (says : Octets → ℕ → Bool → Type 0)
+      → ((t : Octets) (i : ℕ) (b : Bool) → KeptWatches t → i < most_watches → says t i b → b ≡ passes test (get_or (watches_of t) i none))
+      → (t : Octets) → Freed watch_size says most_watches s t → t ≡ watches_bytes (without test (watches_of s))
+  unfolding watches_of watches_bytes
+  freed-watches test says told t = freed_where watch_bytes watch_in watch_size watch-wide most_watches empty none_zero test says told s t c
 
 pub kept_of : (s : Octets) → length s ≡ watches_size → same (watches_bytes (watches_of s)) s ≡ true → KeptWatches s
 unfolding watches_of watches_bytes

@@ -12,7 +12,8 @@ ghost use Rattle.domains.specs.Entry.{taken, dropped_if};
 ghost use Rattle.watches.specs.Watch.{KeptWatches, owned_by, FitWatch, watch_given};
 
 use crate::places::{is_twin, owned};
-use octets::parts::{clear, put_text};
+use domains::freeing::free_where;
+use octets::parts::put_text;
 use octets::sizes::{
     LONGEST_PATH, LONGEST_TOKEN, TOKEN_AT, WATCH_FIELDS_SIZE, WATCH_SIZE, WATCHES,
 };
@@ -66,35 +67,12 @@ pub fn add(
     );
 }
 
-// Frees place k, if it has the watch of connection c with a path and a token.
-fn free_twin(s: &mut [u8], k: usize, c: u32, p: &[u8], t: &[u8])
-    requires { (k < most_watches) × KeptWatches s.old }
-    ensures { s.new ≡ watches_bytes
-        (set (watches_of s.old) k (dropped_if (twin c p.now t.now) (get_or (watches_of s.old) k none))) }
-{
-    if is_twin(s, k, c, p, t) {
-        clear(s, k * WATCH_SIZE, WATCH_SIZE);
-    }
-}
-
 // Takes the watch of connection c with a path and a token out.
 pub fn remove_twin(s: &mut [u8], c: u32, p: &[u8], t: &[u8])
     requires { KeptWatches s.old }
     ensures { s.new ≡ watches_bytes (without (twin c p.now t.now) (watches_of s.old)) }
 {
-    for k in 0..WATCHES {
-        free_twin(s, k, c, p, t);
-    }
-}
-
-// Frees place k, if it has a watch of connection c.
-fn free_owned(s: &mut [u8], k: usize, c: u32)
-    requires { (k < most_watches) × KeptWatches s.old }
-    ensures { s.new ≡ watches_bytes (set (watches_of s.old) k (dropped_if (owned_by c) (get_or (watches_of s.old) k none))) }
-{
-    if owned(s, k, c) {
-        clear(s, k * WATCH_SIZE, WATCH_SIZE);
-    }
+    free_where(s, WATCH_SIZE, WATCHES, |s, k| is_twin(s, k, c, p, t));
 }
 
 // Takes the watches of connection c out.
@@ -102,7 +80,5 @@ pub fn remove_of(s: &mut [u8], c: u32)
     requires { KeptWatches s.old }
     ensures { s.new ≡ watches_bytes (without_watches (eqb c) (watches_of s.old)) }
 {
-    for k in 0..WATCHES {
-        free_owned(s, k, c);
-    }
+    free_where(s, WATCH_SIZE, WATCHES, |s, k| owned(s, k, c));
 }

@@ -1,28 +1,28 @@
--- The places before the one in turn are done, the others as they were.
-use mathlib.Core.Path.{refl}
+-- Each place is asked whether it has the domain, of bytes that still re-encode to themselves.
+use mathlib.Core.Path.{◌≡◌, ap, ◌∙◌}
+use mathlib.Core.Option.{none}
 use native.Mathlib.Omega.{arith}
 use lib.Dec.{eqb}
+use lib.ListN.{get_or}
+use Rattle.std.proofs.Common.{rules, tests}
+use Rattle.rules.specs.Octets.{Octets}
 use Rattle.rules.specs.Layout.{domains_of}
-use Rattle.domains.proofs.Laws.{swept-domain, swept-domains}
+use Rattle.domains.specs.Entry.{passes}
+use Rattle.domains.specs.Kept.{KeptDomains}
+use Rattle.domains.proofs.Laws.{freed-kept, freed-domains}
 use Rattle.domains.proofs.changes.remove.Goals as goal
 
-pub loop-k-init : goal.loop-k-init
-loop-k-init c = (c.requires, refl)
-
-pub free_if-requires : goal.free_if-requires
-free_if-requires c = (c.loop-k-test.true, c.loop-k.invariant.0)
-
-pub loop-k-preserved : goal.loop-k-preserved
-loop-k-preserved c =
-    let args = c.args in
-    let inv = c.loop-k.invariant in
-    swept-domain _ inv.0 _ c.loop-k-test.true (eqb args.d) (domains_of args.s.now) inv.1 _ c.free_if.ensures
-
-pub shape_of-s : goal.shape_of-s
-shape_of-s c = omega (arith, c.loop-k.invariant.0.whole, c.requires.whole)
+pub free_where-requires-clause-asked : goal.free_where-requires-clause-asked
+free_where-requires-clause-asked c = λ x answers h e.
+    let kept : KeptDomains x.now = rw e (freed-kept c.args.s.now c.requires answers (omega arith)) in
+    let whole = kept.whole in
+    search (rules, tests)
 
 pub returns : goal.returns
 returns c =
-    let args = c.args in
-    let inv = c.loop-k.invariant in
-    swept-domains (eqb args.d) _ args.s.now inv.0 _ c.loop-k-test.false inv.1
+    let test = eqb c.args.d in
+    freed-domains c.args.s.now c.requires test _
+    (λ t i b kept h p.
+    let said : b ≡ passes test (get_or (domains_of p.0.now) i none) = search (rules, tests) in
+    said ∙ ap (λ (s : Octets). passes test (get_or (domains_of s) i none)) p.1)
+    _ c.free_where.ensures

@@ -12,11 +12,6 @@ use Rattle.domains.proofs.checks.place_good.Goals as goal
 pub returns-then-not-used : goal.returns-then-not-used
 returns-then-not-used c = sym (good_free _ _ (sym c.used.ensures ∙ c.if-not-used.true))
 
-pub domain-d-requires : goal.domain-d-requires
-domain-d-requires c =
-    let pre = c.requires in
-    (pre.0, pre.1, sym c.used.ensures ∙ c.if-not-used.false)
-
 pub returns-then-d-lt1 : goal.returns-then-d-lt1
 returns-then-d-lt1 c =
     let taken = sym c.used.ensures ∙ c.if-not-used.false in

@@ -10,7 +10,7 @@ pub returns-then-not-used : goal.returns-then-not-used
 returns-then-not-used c = sym (passes_free _ _ (sym c.used.ensures ∙ c.if-not-used.true))
 
 abbrev taken : (c : Else-not-used) → TakenWatch c.args.watches.now c.args.k
-taken c = taken_here c.requires.0 c.requires.1.kept c.used.ensures c.if-not-used.false-raw
+taken c = taken_here c.requires.0 c.requires.1.kept c.used.ensures c.if-not-used.false
 
 pub path-own-requires : goal.path-own-requires
 path-own-requires c = taken c
@@ -21,7 +21,7 @@ returns-then-not-begins c =
     deaf _ _ (taken places.Else-not-used) _ c.path-own.ensures _ _ _ (sym c.begins.ensures ∙ c.if-not-begins.true)
 
 on : (c : Else-not-begins)
-    → OnPath c.args.watches.now c.args.k (taken_here c.requires.0 c.requires.1.kept c.used.ensures c.if-not-used.false-raw) c.path-own.result.now
+    → OnPath c.args.watches.now c.args.k (taken_here c.requires.0 c.requires.1.kept c.used.ensures c.if-not-used.false) c.path-own.result.now
     c.path-own.ensures
 on c = on_path _ _ _ _ _ (sym c.begins.ensures ∙ c.if-not-begins.false)
 

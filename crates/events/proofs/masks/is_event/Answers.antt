@@ -14,7 +14,7 @@ pub returns-then-not-used : goal.returns-then-not-used
 returns-then-not-used c = sym (passes_free _ _ (sym c.used.ensures ∙ c.if-not-used.true))
 
 taken : (c : Else-not-used) → TakenWatch c.args.watches.now c.args.k
-taken c = taken_here c.requires.0 c.requires.1 c.used.ensures c.if-not-used.false-raw
+taken c = taken_here c.requires.0 c.requires.1 c.used.ensures c.if-not-used.false
 
 pub path-own-requires : goal.path-own-requires
 path-own-requires c = taken c

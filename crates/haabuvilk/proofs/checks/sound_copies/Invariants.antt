@@ -1,6 +1,5 @@
 -- The copies before i are sound, so those from i on decide.
 use mathlib.Core.Path.{◌≡◌}
-use Prim.Native.Nat.{◌≤◌, ◌-◌}
 use lib.ListN.{drop}
 use Rattle.rules.specs.Size.{most_transactions, table_size}
 use Rattle.rules.specs.Octets.{chunks}
@@ -10,9 +9,5 @@ use Rattle.haabuvilk.proofs.checks.sound_copies.Given as goal
 
 abbrev pub invariant-loop-i : goal.invariant-loop-i
 invariant-loop-i l =
-    (l.i ≤ 3)
-    × (sound_copies (transactions_of l.transactions) (chunks most_transactions table_size l.copies)
-    ≡ sound_copies (drop l.i (transactions_of l.transactions)) (drop l.i (chunks most_transactions table_size l.copies)))
-
-abbrev pub decreases-loop-i : goal.decreases-loop-i
-decreases-loop-i l = 3 - l.i
+    sound_copies (transactions_of l.transactions) (chunks most_transactions table_size l.copies)
+    ≡ sound_copies (drop l.i (transactions_of l.transactions)) (drop l.i (chunks most_transactions table_size l.copies))

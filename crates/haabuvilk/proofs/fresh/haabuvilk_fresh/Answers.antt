@@ -8,7 +8,7 @@ use Rattle.haabuvilk.proofs.fresh.haabuvilk_fresh.Goals as goal
 use Rattle.haabuvilk.proofs.fresh.haabuvilk_fresh.Goals.{Else-not-sized_tables}
 
 pub returns-then-not-sized_tables : goal.returns-then-not-sized_tables
-returns-then-not-sized_tables c = fresh_refused _ (sym c.sized_tables.ensures ∙ c.if-not-sized_tables.true)
+returns-then-not-sized_tables c = rw c.number.ensures (fresh_refused _ (sym c.sized_tables.ensures ∙ c.if-not-sized_tables.true))
 
 abbrev its-tables : Else-not-sized_tables → Tables
 its-tables c =

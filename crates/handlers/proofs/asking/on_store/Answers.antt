@@ -11,13 +11,13 @@ answer-requires c =
     let pre = c.requires in
     ready pre.1 _ pre.0.sound _ pre.0.long
 
-pub after_change-requires : goal.after_change-requires
-after_change-requires c =
+pub after_change-n-requires : goal.after_change-n-requires
+after_change-n-requires c =
     let pre = c.requires in
     telling pre.1 _ _ _ _ _ pre.0 _ _ _ c.answer.ensures _ _ (wrote_makes _ _ _ c.in_ok-given.was _ c.in-Wrote.is)
 
-pub after_change-requires-in-Removed : goal.after_change-requires-in-Removed
-after_change-requires-in-Removed c =
+pub after_change-n-requires-in-Removed : goal.after_change-n-requires-in-Removed
+after_change-n-requires-in-Removed c =
     let pre = c.requires in
     telling pre.1 _ _ _ _ _ pre.0 _ _ _ c.answer.ensures _ _ (removed_makes _ _ _ c.in_ok-given.was c.in-Removed.is)
 

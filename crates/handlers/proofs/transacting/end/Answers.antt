@@ -1,5 +1,6 @@
 -- A transaction that is not held is unknown; one that is held is closed, and its commit is that of its place unless it is stale.
-use Rattle.std.specs.Prelude.{Ok}
+use Rattle.std.specs.Prelude.{Ok, Err}
+use Rattle.replies.specs.declared.kinds.Errno.TheVariants.{Again}
 use mathlib.Core.Option.{none}
 use Rattle.rules.specs.World.{ending}
 use Rattle.handlers.proofs.Ways.{handled_as, refused_so, done_so, same_tables_lem}
@@ -62,7 +63,7 @@ returns-then-stale c =
     let h = it_holds args.transactions.now args.c args.tx c.is_held.result c.is_held.ensures c.if-not-is_held.false-raw in
     let commits = c.if-not-commits.false in
     let stale = sym c.stale.ensures ∙ c.if-stale.true in
-    λ w l events. done_so w _ _ _ _ _ _ _ _ _
+    λ w l events. done_so w _ _ _ _ _ _ _ (Err Again) _
     (ap (ending w args.c args.tx) commits ∙ end-stale w _ _ _ (h.found w l.transactions) stale)
     refl (refl, refl)
     (same_tables_lem (nodes-alone w _ c.requires.sound l.nodes) refl refl

@@ -10,11 +10,11 @@ use mathlib.Core.Path.{refl}
 use Rattle.handlers.proofs.Alone.{copies-alone, transactions-alone}
 use Rattle.handlers.proofs.transacting.start.Goals as goal
 
-pub returns-in-None : goal.returns-in-None
-returns-in-None c =
+pub returns-in_default : goal.returns-in_default
+returns-in_default c =
     let pre = c.requires in
     λ w l events. refused_so w _ _ events _ _
-    (start-full w _ _ l.transactions (three_transactions _) _ (none-free _ _ _ c.lowest_free.ensures.found c.in-None.is) (omega arith))
+    (start-full w _ _ l.transactions (three_transactions _) _ (none-free _ _ _ c.lowest_free.ensures.found c.in_default.not-Some) (omega arith))
     (same_tables_lem refl (copies-alone w _ pre.1 l.copies) refl (transactions-alone w _ pre.2 l.transactions) refl)
 
 pub bounds-reply-end : goal.bounds-reply-end

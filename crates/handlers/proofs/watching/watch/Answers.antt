@@ -35,8 +35,8 @@ returns-then-not-is_short c =
     (watch-long w _ _ _ _ _ l.watches (length-watches_of _) fresh
     (sym (c.is_short.ensures w args.relative) ∙ c.if-not-is_short.true)) (same_tables_lem refl refl (watches-alone w _ pre.0 l.watches) refl refl)
 
-pub returns-in-None : goal.returns-in-None
-returns-in-None c =
+pub returns-in_default : goal.returns-in_default
+returns-in_default c =
     let args = c.args in
     let pre = c.requires in
     let fresh = watched-place args.special _ _ args.relative _ _ _ pre.2
@@ -44,7 +44,7 @@ returns-in-None c =
     λ w l events. refused_so w _ _ _ _ _
     (watch-full w _ _ _ _ _ l.watches (length-watches_of _) fresh
     (sym (c.is_short.ensures w args.relative) ∙ c.if-not-is_short.false) _
-    (none-free _ _ _ c.lowest_free.ensures.found c.in-None.is) (omega arith)) (same_tables_lem refl refl (watches-alone w _ pre.0 l.watches) refl refl)
+    (none-free _ _ _ c.lowest_free.ensures.found c.in_default.not-Some) (omega arith)) (same_tables_lem refl refl (watches-alone w _ pre.0 l.watches) refl refl)
 
 pub add-requires : goal.add-requires
 add-requires c =

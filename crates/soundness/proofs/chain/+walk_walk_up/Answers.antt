@@ -3,10 +3,10 @@ use mathlib.Core.Path.{◌≡◌, sym, ap, ◌∙◌}
 use native.Mathlib.Nat.{pos_of_ne-zero}
 use native.Mathlib.Omega.{arith}
 use lib.ListN.{length, length-set}
-use Rattle.rules.specs.Size.{longest_name, longest_path, deepest}
+use Rattle.rules.specs.Size.{longest_name, longest_path}
 use Rattle.soundness.proofs.WalkLaws.{walked_root, walked_none, walked_unused, walked_far, walked_near, walked_lost, walked_count, walked_bare}
 use Rattle.soundness.proofs.WalkLaws.{walked_place, walked_up, name-short, Step, step_up}
-use Prim.Native.Nat.{ℕ, ◌+◌, ◌≤◌, ◌<◌}
+use Prim.Native.Nat.{ℕ, ◌+◌, ◌≤◌}
 use Rattle.soundness.proofs.chain.+walk_walk_up.Goals as goal
 use Rattle.soundness.proofs.chain.+walk_walk_up.Goals.{walk-After-parent, walk_up-Else-into-eq0}
 

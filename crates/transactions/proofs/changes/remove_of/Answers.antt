@@ -1,31 +1,28 @@
--- The places before the one in turn are done, the others as they were.
-use mathlib.Core.Path.{refl}
+-- Each place is asked whose transaction it has, of bytes that still re-encode to themselves.
+use mathlib.Core.Path.{◌≡◌, ap, ◌∙◌}
+use mathlib.Core.Option.{none}
 use native.Mathlib.Omega.{arith}
+use lib.ListN.{get_or}
+use Rattle.std.proofs.Common.{rules, tests}
+use Rattle.rules.specs.Octets.{Octets}
 use Rattle.rules.specs.Layout.{transactions_of}
 use Rattle.rules.specs.World.{without_transactions}
-use Rattle.transactions.specs.Transaction.{held_by}
-use Rattle.transactions.proofs.Written.{swept_transaction, swept-transactions}
+use Rattle.transactions.specs.Transaction.{KeptTransactions, held_by}
+use Rattle.domains.specs.Entry.{passes}
+use Rattle.transactions.proofs.Written.{freed-kept, freed-transactions}
 use Rattle.transactions.proofs.changes.remove_of.Goals as goal
 
-pub loop-k-init : goal.loop-k-init
-loop-k-init c = (c.requires, refl)
-
-pub close_held-requires : goal.close_held-requires
-close_held-requires c = (c.loop-k-test.true, c.loop-k.invariant.0)
-
-pub loop-k-preserved : goal.loop-k-preserved
-loop-k-preserved c =
-    let args = c.args in
-    let inv = c.loop-k.invariant in
-    let xs = transactions_of args.s.now in
-    swept_transaction _ inv.0 _ c.loop-k-test.true (held_by args.c) xs inv.1 _ c.close_held.ensures
-
-pub shape_of-s : goal.shape_of-s
-shape_of-s c = omega (arith, c.loop-k.invariant.0.whole, c.requires.whole)
+pub free_where-requires-clause-asked : goal.free_where-requires-clause-asked
+free_where-requires-clause-asked c = λ x answers h e.
+    let kept : KeptTransactions x.now = rw e (freed-kept c.args.s.now c.requires answers (omega arith)) in
+    search (rules, tests)
 
 pub returns : goal.returns
 unfolding without_transactions held_by
 returns c =
-    let args = c.args in
-    let inv = c.loop-k.invariant in
-    swept-transactions (held_by args.c) _ args.s.now inv.0 _ c.loop-k-test.false inv.1
+    let test = held_by c.args.c in
+    freed-transactions c.args.s.now c.requires test _
+    (λ t i b kept h p.
+    let said : b ≡ passes test (get_or (transactions_of p.0.now) i none) = search (rules, tests) in
+    said ∙ ap (λ (s : Octets). passes test (get_or (transactions_of s) i none)) p.1)
+    _ c.free_where.ensures

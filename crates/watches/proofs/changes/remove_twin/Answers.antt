@@ -1,29 +1,27 @@
--- The places before the one in turn are done, the others as they were.
-use mathlib.Core.Path.{refl}
+-- Each place is asked whether it has the watch, of bytes that still re-encode to themselves.
+use mathlib.Core.Path.{◌≡◌, ap, ◌∙◌}
+use mathlib.Core.Option.{none}
 use native.Mathlib.Omega.{arith}
+use lib.ListN.{get_or}
+use Rattle.std.proofs.Common.{rules, tests}
+use Rattle.rules.specs.Octets.{Octets}
 use Rattle.rules.specs.Layout.{watches_of}
 use Rattle.rules.specs.Sound.{twin}
-use Rattle.watches.proofs.Written.{swept-watch, swept-watches}
+use Rattle.watches.specs.Watch.{KeptWatches}
+use Rattle.domains.specs.Entry.{passes}
+use Rattle.watches.proofs.Written.{freed-kept, freed-watches}
 use Rattle.watches.proofs.changes.remove_twin.Goals as goal
 
-pub loop-k-init : goal.loop-k-init
-loop-k-init c = (c.requires, refl)
-
-pub free_twin-requires : goal.free_twin-requires
-free_twin-requires c = (c.loop-k-test.true, c.loop-k.invariant.0)
-
-pub loop-k-preserved : goal.loop-k-preserved
-loop-k-preserved c =
-    let args = c.args in
-    let inv = c.loop-k.invariant in
-    let test = twin args.c args.p.now args.t.now in
-    swept-watch _ inv.0 _ c.loop-k-test.true test (watches_of args.s.now) inv.1 _ c.free_twin.ensures
-
-pub shape_of-s : goal.shape_of-s
-shape_of-s c = omega (arith, c.loop-k.invariant.0.whole, c.requires.whole)
+pub free_where-requires-clause-asked : goal.free_where-requires-clause-asked
+free_where-requires-clause-asked c = λ x answers h e.
+    let kept : KeptWatches x.now = rw e (freed-kept c.args.s.now c.requires answers (omega arith)) in
+    search (rules, tests)
 
 pub returns : goal.returns
 returns c =
-    let args = c.args in
-    let inv = c.loop-k.invariant in
-    swept-watches (twin args.c args.p.now args.t.now) _ args.s.now inv.0 _ c.loop-k-test.false inv.1
+    let test = twin c.args.c c.args.p.now c.args.t.now in
+    freed-watches c.args.s.now c.requires test _
+    (λ t i b kept h p.
+    let said : b ≡ passes test (get_or (watches_of p.0.now) i none) = search (rules, tests) in
+    said ∙ ap (λ (s : Octets). passes test (get_or (watches_of s) i none)) p.1)
+    _ c.free_where.ensures

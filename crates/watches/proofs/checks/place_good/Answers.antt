@@ -5,7 +5,7 @@ use native.Mathlib.Omega.{arith}
 use Rattle.rules.specs.Domain.{Connection, domain_of}
 use Rattle.rules.specs.Layout.{domains_of}
 use Rattle.rules.specs.Sound.{known, no_nul, good_place}
-use Rattle.octets.specs.Two.{Bytes}
+use Rattle.octets.specs.Read.{Bytes}
 use Rattle.octets.proofs.Bytes.{bytes-known}
 use Rattle.watches.specs.Watch.{watch_of, TakenWatch}
 use Rattle.watches.proofs.Good.{good_free, good-unknown, good-nul, good_misplaced, good_placed, read_same, place_agree}

@@ -5,7 +5,7 @@ use Prim.Native.Nat.{◌+◌, ◌*◌}
 use native.Mathlib.Omega.{arith}
 use Rattle.rules.specs.Size.{most_watches, watch_size, watch_fields_size, token_at, longest_path, longest_token}
 use Rattle.rules.specs.Layout.{watch_bytes, watch_in}
-use Rattle.octets.specs.Two.{Bytes}
+use Rattle.octets.specs.Read.{Bytes}
 use Rattle.octets.specs.Numbers.{rest_zero}
 use Rattle.octets.proofs.Bytes.{bytes-known}
 use Rattle.domains.specs.Kept.{kept_at}
