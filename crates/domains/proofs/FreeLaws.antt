@@ -51,7 +51,8 @@ module _ (size : ℕ) where
 module _ {A : Type 0} (encode : Option A → Octets) (decode : Octets → Option A) (k : ℕ) (wide : (r : Octets) → length (encode (decode r)) ≡ k) (n : ℕ)
     (empty : Writable encode decode k wide none) (zeros : encode none ≡ replicate k 0) where
   -- it does still, whatever the answers
-  pub kept_freed : (i : ℕ) (answers : List Bool) (s : Octets) → i + length answers ≤ n → Kept n k encode decode s → Kept n k encode decode (freed_from k i answers s)
+  pub kept_freed : (i : ℕ) (answers : List Bool) (s : Octets) → i + length answers ≤ n → Kept n k encode decode s
+      → Kept n k encode decode (freed_from k i answers s)
   kept_freed i [] s h c = c
   kept_freed i (false ∷ answers) s h c = kept_freed (i + 1) answers s (omega arith) c
   kept_freed i (true ∷ answers) s h c =
@@ -61,7 +62,8 @@ module _ {A : Type 0} (encode : Option A → Octets) (decode : Octets → Option
       kept_freed (i + 1) answers t (omega arith) (wrote_kept encode decode k wide n s c i none empty t is).0
 
   module _ (test : A → Bool) (says : Octets → ℕ → Bool → Type 0)
-      (told : (t : Octets) (i : ℕ) (b : Bool) → Kept n k encode decode t → i < n → says t i b → b ≡ passes test (get_or (table encode decode k wide n t) i none)) where
+      (told : (t : Octets) (i : ℕ) (b : Bool) → Kept n k encode decode t → i < n → says t i b
+      → b ≡ passes test (get_or (table encode decode k wide n t) i none)) where
     freed_turn : (i : ℕ) (b : Bool) (s : Octets) → Kept n k encode decode s → i < n → b ≡ passes test (get_or (table encode decode k wide n s) i none)
         → freed_at k b i s ≡ flat_map encode (set (table encode decode k wide n s) i (dropped_if test (get_or (table encode decode k wide n s) i none)))
     freed_turn i true s c h e = rw (← zeros) (freed encode decode k wide n s c i h empty test (sym e))

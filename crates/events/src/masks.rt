@@ -29,26 +29,6 @@ fn mask_where<F: Fn(usize) -> bool>(test: F) -> u32
     mask
 }
 
-// Whether place k has a watch that heard an event already, or hears it in a store.
-fn heard_or_hears_at(
-    heard: u32,
-    t: &[u8],
-    watches: &[u8],
-    k: usize,
-    path: &[u8],
-    removed: bool,
-) -> bool
-    requires { (k < most_watches) × Store t.now watches.now × (is_full path.now ≡ true) }
-    ensures { result ≡ (number_bit heard k || passes
-        (hears (table_of t.now) (table_of t.now) (happened removed path.now))
-        (get_or (watches_of watches.now) k none)) }
-{
-    if has_bit(heard, k) {
-        return true;
-    }
-    hears(t, watches, k, path, removed)
-}
-
 // Those that heard an event on a full path already, and those that hear it in a store.
 fn heard_or_hears(heard: u32, t: &[u8], watches: &[u8], path: &[u8], removed: bool) -> u32
     requires { Store t.now watches.now × (is_full path.now ≡ true) }
@@ -56,7 +36,7 @@ fn heard_or_hears(heard: u32, t: &[u8], watches: &[u8], path: &[u8], removed: bo
         Mask (mask_of (λ w. f w || hears (table_of t.now) (table_of t.now) (happened removed path.now) w)
         (watches_of watches.now)) result }
 {
-    mask_where(|k| heard_or_hears_at(heard, t, watches, k, path, removed))
+    mask_where(|k| has_bit(heard, k) || hears(t, watches, k, path, removed))
 }
 
 // Those that hear an event on a full path in one store.

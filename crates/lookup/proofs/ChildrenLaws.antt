@@ -1,5 +1,5 @@
 -- The children of a slot, slot after slot, and lists in the order of names.
-use mathlib.Core.Path.{◌≡◌, refl, sym, ap, ap₂, ◌∙◌}
+use mathlib.Core.Path.{◌≡◌, refl, sym, ap, ap₂, subst, ◌∙◌}
 use mathlib.Core.Bool.{true, false, and-false, true≢false}
 use mathlib.Core.Option.{Option, none, some}
 use mathlib.Core.List.{List, [], ◌∷◌, ◌++◌, append_assoc}
@@ -110,29 +110,17 @@ module _ (list : List ℕ) (n k : ℕ) (h : n < length list) (low : k ≤ n) whe
 pub has-name : (t : Octets) (i : ℕ) → Asked t i → (i < slots) × (length t ≡ table_size) × (is_used (slot_at t i) ≡ true) × (name_length t i ≤ longest_name)
 has-name t i a = (a.below, (sound_canonical t a.sound).whole, a.used, name-short t a.sound i a.below a.used)
 
-module _ (ts : Table) (j : ℕ) (list : List ℕ) (n k : ℕ) (long : n ≤ length list) (h : k < n)
-    (so_far : insert ts j (take n list) ≡ take k (take n list) ++ insert ts j (drop k (take n list))) where
-  here : k < length (take n list)
-  here = rw (Seq.length-take-le n list long) h
+module _ (ts : Table) (j : ℕ) (is : List ℕ) (k : ℕ) (h : k < length is) (so_far : insert ts j is ≡ take k is ++ insert ts j (drop k is)) where
+  pub placed : less (node_at ts j).name (node_at ts (get_or is k 0)).name ≡ true → Placed ts j is k
+  placed l = record { within = omega arith; inserted = so_far ∙ ap (λ (r : List ℕ). take k is ++ r) (place_here ts j is k h l) }
 
-  element : get_or (take n list) k 0 ≡ get_or list k 0
-  element = Seq.get_or-take n list k 0 h
+  pub not_placed : less (node_at ts j).name (node_at ts (get_or is k 0)).name ≡ false → insert ts j is ≡ take (k + 1) is ++ insert ts j (drop (k + 1) is)
+  not_placed l = so_far ∙ place_further ts j is k h l
 
-  pub placed : less (node_at ts j).name (node_at ts (get_or list k 0)).name ≡ true → Placed ts j (take n list) k
-  placed l =
-      record {
-        within = omega (arith, here);
-        inserted = so_far ∙ ap (λ (r : List ℕ). take k (take n list) ++ r)
-            (place_here ts j (take n list) k here (ap (λ (i : ℕ). less (node_at ts j).name (node_at ts i).name) element ∙ l));
-      }
-
-  pub not_placed : less (node_at ts j).name (node_at ts (get_or list k 0)).name ≡ false →
-      insert ts j (take n list) ≡ take (k + 1) (take n list) ++ insert ts j (drop (k + 1) (take n list))
-  not_placed l = so_far ∙ place_further ts j (take n list) k here (ap (λ (i : ℕ). less (node_at ts j).name (node_at ts i).name) element ∙ l)
-
-pub placed_last : (ts : Table) (j : ℕ) (is : List ℕ) (k : ℕ) → k ≤ length is → length is ≤ k → insert ts j is ≡ take k is ++ insert ts j (drop k is) →
-    Placed ts j is k
-placed_last ts j is k low high so_far = record { within = low; inserted = so_far ∙ ap (λ (r : List ℕ). take k is ++ r) (place_over ts j is k high) }
+pub placed_last : (ts : Table) (j : ℕ) (is : List ℕ) (k n : ℕ) → k ≡ n → k ≤ length is → length is ≤ k → insert ts j is ≡ take k is ++ insert ts j (drop k is) →
+    Placed ts j is n
+placed_last ts j is k n e low high so_far =
+    subst (Placed ts j is) e (record { within = low; inserted = so_far ∙ ap (λ (r : List ℕ). take k is ++ r) (place_over ts j is k high) })
 
 -- ── the children gathered from the last slot down ──
 

@@ -61,7 +61,7 @@ names_longer t is k h a =
     ∙ ap (λ (m : ℕ). m + 1) (sym (name-length t (get_or is k 0) a)))
 
 -- fewer names are not longer
-pub names_mono : (ts : Table) (is : List ℕ) (j n : ℕ) → j ≤ n → length (name_list ts (take j is)) ≤ length (name_list ts (take n is))
+names_mono : (ts : Table) (is : List ℕ) (j n : ℕ) → j ≤ n → length (name_list ts (take j is)) ≤ length (name_list ts (take n is))
 unfolding name_list
 names_mono ts is j n h =
     let f : ℕ → Octets = λ i. (node_at ts i).name ++ nul in
@@ -72,13 +72,15 @@ names_mono ts is j n h =
     ∙ ap length (flat_append f (take j is) (take d (drop j is))) ∙ length-append (flat_map f (take j is)) (flat_map f (take d (drop j is))) in
     omega (arith, l)
 
--- where all n names have room, one more than the first k has
-pub room_for : (ts : Table) (is : List ℕ) (k n : ℕ) → k < length is → k < n → (at size : ℕ) → at + length (name_list ts (take n is)) ≤ size →
+-- where all names have room, one more than the first k has
+pub room_for : (ts : Table) (is : List ℕ) (k : ℕ) → k < length is → (at size : ℕ) → at + length (name_list ts is) ≤ size →
     at + (length (name_list ts (take k is)) + (length (node_at ts (get_or is k 0)).name + 1)) ≤ size
-room_for ts is k n h less at size room =
+room_for ts is k h at size room =
     let xs = name_list ts (take k is) in
     let ys = (node_at ts (get_or is k 0)).name in
-    omega (arith, names_mono ts is (k + 1) n (omega arith), ap length (names_next ts is k h), length-append xs (ys ++ nul), length-append ys nul)
+    let all : length (name_list ts (take (length is) is)) ≡ length (name_list ts is) =
+    ap (λ (r : List ℕ). length (name_list ts r)) (Seq.take-length is) in
+    omega (arith, names_mono ts is (k + 1) (length is) (omega arith), ap length (names_next ts is k h), length-append xs (ys ++ nul), length-append ys nul)
 
 -- ── a text and a nul written behind what is there ──
 

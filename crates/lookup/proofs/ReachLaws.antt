@@ -1,6 +1,6 @@
 -- Looking up, slot by slot and name by name.
 use mathlib.Core.Path.{◌≡◌, refl, sym, ap, ap₂, ◌∙◌}
-use mathlib.Core.Bool.{true, false, ◌&&◌, true≢false}
+use mathlib.Core.Bool.{true, false, true≢false}
 use mathlib.Core.Option.{Option, none, some}
 use mathlib.Core.List.{[], ◌∷◌}
 use Prim.Native.Nat.{ℕ, ◌+◌, ◌-◌, ◌≤◌, ◌<◌}
@@ -9,12 +9,10 @@ use native.Mathlib.Decide.{dec_lt}
 use native.Mathlib.Omega.{arith}
 use lib.ListN.{length, get_or, take, drop, drop_of_length-le, length-drop}
 use lib.Seq.{drop-cons, take_all}
-use lib.Dec.{eqb}
-use borrow.Author.Tests.{eq-eqb, ne_eqb}
 use Rattle.rules.specs.Size.{slots}
 use Rattle.rules.specs.Octets.{Octets, same}
 use Rattle.rules.specs.Path.{Name, Names, split, is_name, all_names, is_full, names_in}
-use Rattle.rules.specs.Node.{Node, Table, node_at, is_child, child_from, child, Reached, reach, reach_from}
+use Rattle.rules.specs.Node.{Node, Table, node_at, is_child, has_parent, child_from, child, Reached, reach, reach_from}
 use Rattle.rules.specs.Layout.{table_of}
 use Rattle.rules.proofs.Slots.{length-table_of}
 use Rattle.rules.proofs.Places.{at_below}
@@ -30,25 +28,18 @@ use Rattle.slots.proofs.LeftLaws.{left_over, left_below}
 
 -- ── one slot ──
 
-pub unused_child : (p : ℕ) (n : Name) (x : Option Node) → is_used x ≡ false → is_child p n x ≡ false
-unfolding is_child
-unused_child p n none u = refl
-unused_child p n (some m) u = absurd (true≢false u)
+pub other_parent : (p : ℕ) (n : Name) (x : Option Node) → has_parent p x ≡ false → is_child p n x ≡ false
+unfolding is_child has_parent
+other_parent p n none h = refl
+other_parent p n (some m) h = rw h
 
-module _ (ts : Table) (i p : ℕ) (n : Name) where
-  used_at : (x : Option Node) → get_or ts i none ≡ x → is_used x ≡ true → is_child p n x ≡ eqb (node_at ts i).parent p && same (node_at ts i).name n
-  unfolding is_child node_at
-  used_at none e u = absurd (true≢false (sym u))
-  used_at (some m) e u = ap (λ (x : Node). eqb x.parent p && same x.name n) (sym (node-some ts i m e))
-
-  pub used-child : is_used (get_or ts i none) ≡ true → is_child p n (get_or ts i none) ≡ eqb (node_at ts i).parent p && same (node_at ts i).name n
-  used-child = used_at (get_or ts i none) refl
-
-  pub other_parent : is_used (get_or ts i none) ≡ true → ((node_at ts i).parent ≡ p → ⊥) → is_child p n (get_or ts i none) ≡ false
-  other_parent u h = used-child u ∙ rw (ne_eqb (node_at ts i).parent p h)
-
-  pub same-parent : is_used (get_or ts i none) ≡ true → (node_at ts i).parent ≡ p → is_child p n (get_or ts i none) ≡ same (node_at ts i).name n
-  same-parent u h = used-child u ∙ rw (eq-eqb (node_at ts i).parent p h)
+pub same-parent : (ts : Table) (i p : ℕ) (n : Name) → has_parent p (get_or ts i none) ≡ true → is_child p n (get_or ts i none) ≡ same (node_at ts i).name n
+unfolding is_child has_parent
+same-parent ts i p n h = go (get_or ts i none) refl h
+  where
+    go : (x : Option Node) → get_or ts i none ≡ x → has_parent p x ≡ true → is_child p n x ≡ same (node_at ts i).name n
+    go none e c = absurd (true≢false (sym c))
+    go (some m) e c = rw c (ap (λ (x : Node). same x.name n) (sym (node-some ts i m e)))
 
 -- ── slot after slot ──
 

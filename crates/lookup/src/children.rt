@@ -14,14 +14,11 @@ use octets::sizes::SLOTS;
 use slots::fields::{name, parent, used};
 
 // Whether slot i is used and has the parent p.
-fn has_parent(t: &[u8], i: usize, p: usize) -> bool
+pub fn has_parent(t: &[u8], i: usize, p: usize) -> bool
     requires { (i < slots) × (sound_table t.now ≡ true) }
     ensures { result ≡ has_parent p (slot_at t.now i) }
 {
-    if !used(t, i) {
-        return false;
-    }
-    parent(t, i) == p
+    used(t, i) && parent(t, i) == p
 }
 
 // Where slot j goes among the first n slots of a list in the order of names.
@@ -29,9 +26,8 @@ fn place(t: &[u8], list: &[u8], n: usize, j: usize) -> usize
     requires { (n ≤ length list.now) × AllAsked t.now (take n list.now) × Asked t.now j }
     ensures { Placed (table_of t.now) j (take n list.now) result }
 {
-    for k in 0..n {
-        let other = list[k] as usize;
-        if less(name(t, j), name(t, other)) {
+    for (k, other) in list[..n].iter().enumerate() {
+        if less(name(t, j), name(t, *other as usize)) {
             return k;
         }
     }

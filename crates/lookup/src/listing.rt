@@ -19,8 +19,8 @@ pub fn names_length(t: &[u8], list: &[u8], n: usize) -> usize
     ensures { result ≡ length (name_list (table_of t.now) (take n list.now)) }
 {
     let mut sum = 0;
-    for k in 0..n {
-        sum += name_length(t, list[k] as usize) + 1;
+    for i in &list[..n] {
+        sum += name_length(t, *i as usize) + 1;
     }
     sum
 }
@@ -32,8 +32,8 @@ pub fn put_names(t: &[u8], list: &[u8], n: usize, into: &mut [u8], at: usize) ->
     ensures { Put at (name_list (table_of t.now) (take n list.now)) into.old into.new result }
 {
     let mut to = at;
-    for k in 0..n {
-        let text = name(t, list[k] as usize);
+    for i in &list[..n] {
+        let text = name(t, *i as usize);
         copy(into, to, text);
         to += text.len();
         into[to] = 0;

@@ -9,10 +9,11 @@ ghost use Rattle.octets.specs.Options.{meant};
 ghost use Rattle.slots.specs.Slot.{slot_at};
 ghost use Rattle.lookup.specs.Reach.{Reaches};
 
+use crate::children::has_parent;
 use octets::compare::same;
 use octets::sizes::SLOTS;
 use paths::names::name_end;
-use slots::fields::{name, parent, used};
+use slots::fields::name;
 
 #[derive(Drop)]
 pub struct Reached {
@@ -25,13 +26,7 @@ fn is_child(t: &[u8], i: usize, p: usize, n: &[u8]) -> bool
     requires { (i < slots) × (sound_table t.now ≡ true) }
     ensures { result ≡ is_child p n.now (slot_at t.now i) }
 {
-    if !used(t, i) {
-        return false;
-    }
-    if parent(t, i) != p {
-        return false;
-    }
-    same(name(t, i), n)
+    has_parent(t, i, p) && same(name(t, i), n)
 }
 
 // The child of slot p with a name.

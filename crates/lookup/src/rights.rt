@@ -19,6 +19,7 @@ pub enum Ground {
 
 #[derive(Drop)]
 pub struct Access {
+    // A set of two bits, 1 to read and 2 to write, which the rule book has as a number too.
     pub access: u32,
     pub ground: Ground,
 }
@@ -84,8 +85,5 @@ pub fn may_own(t: &[u8], i: usize, domain: u32) -> bool
     requires { Asked t.now i }
     ensures { result ≡ may_own domain (node_at (table_of t.now) i) }
 {
-    if is_control(domain) {
-        return true;
-    }
-    domain == entry_at(t, i, 0).domain
+    is_control(domain) || domain == entry_at(t, i, 0).domain
 }

@@ -9,7 +9,8 @@ use crate::classes::CLASSES;
 use octets::compare::same;
 use octets::sizes::{LONGEST_ABSOLUTE, LONGEST_RELATIVE};
 
-// A row for each state, a column for each class: letter, digit, slash, `@`, other.
+// A row for each state, a column for each class: letter, digit, slash, `@`, other. States and classes are numbers, as the
+// review sheet prints them.
 const STEPS: [[u8; 5]; 8] = [
     // 0: nothing read
     [4, 4, 1, 6, 7],

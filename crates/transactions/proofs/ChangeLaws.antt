@@ -127,7 +127,8 @@ module _ (s : Octets) (k j : ℕ) (h : HasChange s k j) where
   length-read r w =
       let e = first_two in
       let b : get_or s (at + 1) 0 ≡ length (path_text c.names) % 256 = cc in
-      ap (λ (n : ℕ). n % 512) (w.value ∙ field_two s at (omega (arith, place-within))) ∙ number_back _ _ _ _ _ first_is b (bit_small c.removal) change-fits.parents change-fits.short
+      ap (λ (n : ℕ). n % 512) (w.value ∙ field_two s at (omega (arith, place-within)))
+      ∙ number_back _ _ _ _ _ first_is b (bit_small c.removal) change-fits.parents change-fits.short
 
   pub path-read : (n : ℕ) → n ≡ length (path_text c.names)
       → part_at s (at + change_fields_size) n ≡ path_text c.names

@@ -2,21 +2,13 @@
 use native.Mathlib.Nat.{add-sub_cancel}
 use native.Mathlib.Omega.{arith}
 use Rattle.rules.specs.Size.{longest_path}
-use Rattle.paths.proofs.AboveLaws.{above_long, above_short, above_full}
+use Rattle.paths.proofs.AboveLaws.{above_short, above_full}
 use Rattle.events.proofs.Levels.{told_none, told-room, told_next, told-all}
 use Rattle.events.proofs.changes.change.Goals as goal
 
 pub loop-levels-init : goal.loop-levels-init
 loop-levels-init c =
     rw (add-sub_cancel c.args.parents 1) (told_none _ _ _ _ _ _ _ _ c.requires.4.whole)
-
-pub above-end-requires : goal.above-end-requires
-above-end-requires c =
-    (c.requires.1, omega (arith, c.requires.3, c.loop-levels.invariant.few, c.loop-levels-test.true))
-
-pub slice_bounds-parent-end : goal.slice_bounds-parent-end
-slice_bounds-parent-end c =
-    above_long _ c.requires.1 _ _ c.above-end.ensures
 
 pub event-count-requires : goal.event-count-requires
 event-count-requires c =
@@ -29,15 +21,6 @@ loop-levels-preserved c =
     let room = c.requires.4.few in
     told_next _ _ _ _ _ _ _ _ _ _ _ c.loop-levels.invariant c.requires.1 (omega (arith, c.loop-levels-test.true)) (omega arith) _
     c.above-end.ensures _ _ c.event-count.ensures
-
-pub event-requires : goal.event-requires
-event-requires c =
-    let room = told-room _ _ _ _ _ _ _ _ _ _ _ c.loop-levels.invariant (omega (arith, c.requires.4.few)) in
-    (c.requires.0, c.requires.1, c.requires.2, room)
-
-pub shape_of-events : goal.shape_of-events
-shape_of-events c =
-    omega (arith, c.loop-levels.invariant.entered.long, c.requires.4.whole)
 
 pub returns : goal.returns
 returns c =

@@ -8,9 +8,6 @@ use Rattle.events.proofs.ChangeLaws.{given-few, has-change, change-parents, chan
 use Rattle.events.proofs.changes.changes.Goals as goal
 use Rattle.events.proofs.changes.changes.Goals.{In-loop-j}
 
-pub changes-count-requires : goal.changes-count-requires
-changes-count-requires c = c.requires.1
-
 pub loop-j-init : goal.loop-j-init
 loop-j-init c =
     (c.changes-count.ensures.0, c.changes-count.ensures.1, entered_none _ _ _ _ _ c.requires.3)
@@ -18,15 +15,6 @@ loop-j-init c =
 there : (c : In-loop-j) → HasChange c.args.transactions.now c.args.k c.loop-j.j
 there c =
     has-change c.requires.1 c.loop-j.invariant.0 c.loop-j-test.true
-
-pub path-changed-requires : goal.path-changed-requires
-path-changed-requires c = there c
-
-pub removed-gone-requires : goal.removed-gone-requires
-removed-gone-requires c = there (goal.at.removed-gone-requires c).In-loop-j
-
-pub parents-new-requires : goal.parents-new-requires
-parents-new-requires c = there (goal.at.parents-new-requires c).In-loop-j
 
 pub change-n-requires : goal.change-n-requires
 change-n-requires c =
@@ -46,10 +34,6 @@ loop-j-preserved c =
     let this = change-given _ _ _ h _ c.path-changed.ensures _ _ c.removed-gone.ensures new in
     let few = given-few _ _ _ _ _ _ deepest (change-parents _ _ _ h _ new) in
     (inv.0, inv.1, entered_next _ _ _ _ _ _ _ _ inv.2 h.there (omega arith) no_change _ this few _ _ c.change-n.ensures)
-
-pub shape_of-events : goal.shape_of-events
-shape_of-events c =
-    omega (arith, c.loop-j.invariant.2.long, c.requires.3)
 
 pub returns : goal.returns
 unfolding heard

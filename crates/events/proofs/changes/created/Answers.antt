@@ -2,35 +2,20 @@
 use mathlib.Core.Path.{sym}
 use native.Mathlib.Nat.{add-sub_cancel}
 use native.Mathlib.Omega.{arith}
-use Rattle.rules.specs.Size.{longest_path}
-use Rattle.paths.proofs.AboveLaws.{above_long, above_short, above_full}
+use Rattle.paths.proofs.AboveLaws.{above_full}
 use Rattle.events.specs.Stores.{heard_parents}
 use Rattle.events.proofs.ChangeLaws.{heard-given}
 use Rattle.events.proofs.RecordLaws.{recorded_as}
-use Rattle.events.proofs.Levels.{told_none, told-room, told_next, told-parents}
+use Rattle.events.proofs.Levels.{told_none, told_next, told-parents}
 use Rattle.events.proofs.changes.created.Goals as goal
 
 pub loop-levels-init : goal.loop-levels-init
 loop-levels-init c =
     rw (add-sub_cancel c.args.parents 1) (told_none _ _ _ _ _ _ _ _ c.requires.4.whole)
 
-pub above-end-requires : goal.above-end-requires
-above-end-requires c =
-    (c.requires.1, omega (arith, c.requires.3, c.loop-levels.invariant.few, c.loop-levels-test.true))
-
-pub slice_bounds-parent-end : goal.slice_bounds-parent-end
-slice_bounds-parent-end c =
-    above_long _ c.requires.1 _ _ c.above-end.ensures
-
 pub in_store-requires : goal.in_store-requires
 in_store-requires c =
     (c.requires.0, above_full _ c.requires.1 _ _ c.above-end.ensures)
-
-pub keep-n-requires : goal.keep-n-requires
-keep-n-requires c =
-    let room =
-    told-room _ _ _ _ _ _ _ _ _ _ _ c.loop-levels.invariant (omega (arith, c.requires.4.few, c.loop-levels.invariant.few, c.loop-levels-test.true)) in
-    (room, above_short _ c.requires.1 _ _ c.above-end.ensures longest_path c.requires.2)
 
 pub loop-levels-preserved : goal.loop-levels-preserved
 loop-levels-preserved c =
@@ -40,10 +25,6 @@ loop-levels-preserved c =
     told_next _ _ _ _ _ _ _ _ _ _ _ c.loop-levels.invariant full (omega (arith, c.loop-levels-test.true))
     (omega (arith, c.requires.4.few, c.loop-levels.invariant.few, c.loop-levels-test.true)) _ up _ _
     (recorded_as _ _ record_is (c.keep-n.ensures _ c.in_store.ensures))
-
-pub shape_of-events : goal.shape_of-events
-shape_of-events c =
-    omega (arith, c.loop-levels.invariant.entered.long, c.requires.4.whole)
 
 pub returns : goal.returns
 unfolding heard_parents

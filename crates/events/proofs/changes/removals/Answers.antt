@@ -23,10 +23,6 @@ loop-slot-preserved c =
     entered_next _ 1 _ _ _ _ _ _ c.loop-slot.invariant (omega (arith, long, few)) (omega (arith, few)) _ _
     (removal_at _ _ _ c.requires.1 _ _ c.from.ensures) (removal-few _ _ _ _ _) _ _ c.removal-n.ensures
 
-pub shape_of-events : goal.shape_of-events
-shape_of-events c =
-    omega (arith, c.loop-slot.invariant.long, c.requires.4)
-
 pub returns : goal.returns
 unfolding heard
 returns c =

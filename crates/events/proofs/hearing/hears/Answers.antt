@@ -12,9 +12,6 @@ returns-then-not-used c = sym (passes_free _ _ (sym c.used.ensures ∙ c.if-not-
 abbrev taken : (c : Else-not-used) → TakenWatch c.args.watches.now c.args.k
 taken c = taken_here c.requires.0 c.requires.1.kept c.used.ensures c.if-not-used.false
 
-pub path-own-requires : goal.path-own-requires
-path-own-requires c = taken c
-
 pub returns-then-not-begins : goal.returns-then-not-begins
 returns-then-not-begins c =
     let places = goal.at.returns-then-not-begins c in
@@ -24,12 +21,6 @@ on : (c : Else-not-begins)
     → OnPath c.args.watches.now c.args.k (taken_here c.requires.0 c.requires.1.kept c.used.ensures c.if-not-used.false) c.path-own.result.now
     c.path-own.ensures
 on c = on_path _ _ _ _ _ (sym c.begins.ensures ∙ c.if-not-begins.false)
-
-pub domain-requires : goal.domain-requires
-domain-requires c = taken (goal.at.domain-requires c).Else-not-used
-
-pub depth-requires : goal.depth-requires
-depth-requires c = taken (goal.at.depth-requires c).Else-not-used
 
 pub hears_on-requires : goal.hears_on-requires
 hears_on-requires c =

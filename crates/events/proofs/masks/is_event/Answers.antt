@@ -16,9 +16,6 @@ returns-then-not-used c = sym (passes_free _ _ (sym c.used.ensures ∙ c.if-not-
 taken : (c : Else-not-used) → TakenWatch c.args.watches.now c.args.k
 taken c = taken_here c.requires.0 c.requires.1 c.used.ensures c.if-not-used.false
 
-pub path-own-requires : goal.path-own-requires
-path-own-requires c = taken c
-
 pub returns-then-released : goal.returns-then-released
 unfolding event_name release_name introduce_name text
 returns-then-released c =

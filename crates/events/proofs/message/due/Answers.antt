@@ -41,10 +41,6 @@ returns-then-n-gt-LONGEST_PATH c =
     let length-is = c.path_length-n.ensures in
     due-long _ _ _ _ (in_use places.Else-not-used) (is-heard places.Else-not-heard) _ length-is c.if-n-lt-SHORTEST_PATH.false c.if-n-gt-LONGEST_PATH.true
 
-pub concerns-requires : goal.concerns-requires
-concerns-requires c =
-    record { below = c.requires.1; watches = c.requires.2; used = in_use (goal.at.concerns-requires c).Else-not-used }
-
 pub returns : goal.returns
 returns c =
     let places = goal.at.returns c in

@@ -6,5 +6,5 @@ use Rattle.rules.specs.Answer.{name_list}
 use Rattle.rules.specs.Layout.{table_of}
 use Rattle.lookup.proofs.listing.names_length.Given as goal
 
-abbrev pub invariant-loop-k : goal.invariant-loop-k
-invariant-loop-k l = (l.sum ≤ 33 * l.k) × (l.sum ≡ length (name_list (table_of l.t) (take l.k l.list)))
+abbrev pub invariant-loop-i : goal.invariant-loop-i
+invariant-loop-i l = (l.sum ≤ 33 * l.i-index) × (l.sum ≡ length (name_list (table_of l.t) (take l.i-index l.i-items)))

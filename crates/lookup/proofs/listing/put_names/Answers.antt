@@ -1,135 +1,92 @@
 -- After k turns the first k names with their nuls stand one behind the other, and the rest of the list has the room that is left.
 use mathlib.Core.Path.{◌≡◌, sym, ap, ◌∙◌}
-use mathlib.Core.List.{◌++◌, flat_map}
+use mathlib.Core.List.{List, ◌++◌, flat_map}
 use Prim.Native.Nat.{ℕ, ◌+◌, ◌≤◌}
 use native.Mathlib.Omega.{arith}
 use native.Mathlib.Nat.{add-zero}
 use lib.ListN.{length, get_or, take, set, length-append}
+use lib.Seq.{take_all}
 use Rattle.rules.specs.Octets.{Octets, nul, paste}
 use Rattle.rules.specs.Node.{node_at}
 use Rattle.rules.specs.Answer.{name_list}
 use Rattle.rules.specs.Layout.{table_of}
 use Rattle.rules.proofs.Paste.{paste_nil, length-paste}
-use Rattle.lookup.proofs.ChildrenLaws.{listed, has-name}
-use Rattle.lookup.proofs.ListingLaws.{names_next, room_for, same-room, room_after, nul-behind}
+use Rattle.octets.specs.Numbers.{Put}
+use Rattle.lookup.proofs.ChildrenLaws.{asked_at, has-name}
+use Rattle.lookup.proofs.ListingLaws.{names_next, room_for, same-room, nul-behind}
 use Rattle.lookup.proofs.listing.put_names.Goals as goal
+use Rattle.lookup.proofs.listing.put_names.Goals.{In-loop-i, After-loop-i}
 
-pub loop-k-init : goal.loop-k-init
+pub loop-i-init : goal.loop-i-init
 unfolding name_list flat_map
-loop-k-init c =
-    let args = c.args in
-    (sym (paste_nil args.at args.into.now), sym (add-zero args.at))
+loop-i-init c = (sym (paste_nil c.args.at c.args.into.now), sym (add-zero c.args.at))
 
 pub name-text-requires : goal.name-text-requires
-name-text-requires c =
-    let args = c.args in
-    let q = listed args.t.now args.list.now args.n c.loop-k.k c.requires.1 (omega arith) c.requires.0 in
-    has-name _ _ q
+name-text-requires c = has-name _ _ (asked_at c.args.t.now (take c.args.n c.args.list.now) c.loop-i.i-index c.requires.1 c.loop-i-test.true)
+
+-- the names before the one in turn, and that one
+written : (c : In-loop-i) → Octets
+written c = name_list (table_of c.args.t.now) (take c.loop-i.i-index (take c.args.n c.args.list.now))
+
+next : (c : In-loop-i) → Octets
+next c = (node_at (table_of c.args.t.now) (get_or (take c.args.n c.args.list.now) c.loop-i.i-index 0)).name
+
+room : (c : In-loop-i) → c.args.at + (length (written c) + (length (next c) + 1)) ≤ length c.args.into.now
+unfolding written next
+room c =
+    room_for (table_of c.args.t.now) (take c.args.n c.args.list.now) c.loop-i.i-index c.loop-i-test.true c.args.at (length c.args.into.now) c.requires.2
+
+same : (c : In-loop-i) → length c.loop-i.into ≡ length c.args.into.now
+unfolding written
+same c = same-room c.args.at (written c) c.args.into.now c.loop-i.into c.loop-i.to c.loop-i.invariant.0 c.loop-i.invariant.1 (next c) (room c)
+
+enough : (c : In-loop-i) → c.loop-i.to + length (next c) + 1 ≤ length c.loop-i.into
+unfolding written
+enough c = omega (arith, room c, same c)
 
 pub copy-requires : goal.copy-requires
-copy-requires c =
-    let args = c.args in
-    let loop = c.loop-k in
-    let q = listed args.t.now args.list.now args.n loop.k c.requires.1 (omega arith) c.requires.0 in
-    let ts = table_of args.t.now in
-    let is = args.list.now in
-    let xs = name_list ts (take loop.k is) in
-    let ys = (node_at ts (get_or is loop.k 0)).name in
-    let long : length c.name-text.result.now ≡ length ys = ap length c.name-text.ensures in
-    let room : args.at + (length xs + (length ys + 1)) ≤ length args.into.now =
-    room_for ts is loop.k args.n (omega arith) (omega arith) args.at (length args.into.now) c.requires.2 in
-    let same = same-room args.at xs args.into.now loop.into loop.to loop.invariant.0 loop.invariant.1 ys room in
-    omega arith
+unfolding next
+copy-requires c = omega (arith, enough (goal.at.copy-requires c).In-loop-i, ap length c.name-text.ensures)
 
 pub overflow_add-to : goal.overflow_add-to
-overflow_add-to c =
-    let args = c.args in
-    let loop = c.loop-k in
-    let q = listed args.t.now args.list.now args.n loop.k c.requires.1 (omega arith) c.requires.0 in
-    let ts = table_of args.t.now in
-    let is = args.list.now in
-    let xs = name_list ts (take loop.k is) in
-    let ys = (node_at ts (get_or is loop.k 0)).name in
-    let long : length c.name-text.result.now ≡ length ys = ap length c.name-text.ensures in
-    let room : args.at + (length xs + (length ys + 1)) ≤ length args.into.now =
-    room_for ts is loop.k args.n (omega arith) (omega arith) args.at (length args.into.now) c.requires.2 in
-    let same = same-room args.at xs args.into.now loop.into loop.to loop.invariant.0 loop.invariant.1 ys room in
-    omega arith
+unfolding next
+overflow_add-to c = omega (arith, enough (goal.at.overflow_add-to c).In-loop-i, ap length c.name-text.ensures)
 
 pub bounds-into-to : goal.bounds-into-to
-bounds-into-to c =
-    let args = c.args in
-    let loop = c.loop-k in
-    let q = listed args.t.now args.list.now args.n loop.k c.requires.1 (omega arith) c.requires.0 in
-    let ts = table_of args.t.now in
-    let is = args.list.now in
-    let xs = name_list ts (take loop.k is) in
-    let ys = (node_at ts (get_or is loop.k 0)).name in
-    let long : length c.name-text.result.now ≡ length ys = ap length c.name-text.ensures in
-    let room : args.at + (length xs + (length ys + 1)) ≤ length args.into.now =
-    room_for ts is loop.k args.n (omega arith) (omega arith) args.at (length args.into.now) c.requires.2 in
-    let same = same-room args.at xs args.into.now loop.into loop.to loop.invariant.0 loop.invariant.1 ys room in
-    let copied : c.copy.new.into ≡ paste loop.to ys loop.into = c.copy.ensures
-    ∙ ap (λ (l : Octets). paste loop.to l loop.into) c.name-text.ensures in
-    let after = room_after args.at xs args.into.now loop.into loop.to loop.invariant.0 loop.invariant.1 ys room
-    c.copy.new.into copied in
-    omega arith
+unfolding next
+bounds-into-to c = omega (arith, enough (goal.at.bounds-into-to c).In-loop-i, ap length c.name-text.ensures)
 
-pub overflow_add-to-in-loop-k : goal.overflow_add-to-in-loop-k
-overflow_add-to-in-loop-k c =
-    let args = c.args in
-    let loop = c.loop-k in
-    let q = listed args.t.now args.list.now args.n loop.k c.requires.1 (omega arith) c.requires.0 in
-    let ts = table_of args.t.now in
-    let is = args.list.now in
-    let xs = name_list ts (take loop.k is) in
-    let ys = (node_at ts (get_or is loop.k 0)).name in
-    let long : length c.name-text.result.now ≡ length ys = ap length c.name-text.ensures in
-    let room : args.at + (length xs + (length ys + 1)) ≤ length args.into.now =
-    room_for ts is loop.k args.n (omega arith) (omega arith) args.at (length args.into.now) c.requires.2 in
-    let same = same-room args.at xs args.into.now loop.into loop.to loop.invariant.0 loop.invariant.1 ys room in
-    omega arith
+pub overflow_add-to-in-loop-i : goal.overflow_add-to-in-loop-i
+unfolding next
+overflow_add-to-in-loop-i c = omega (arith, enough (goal.at.overflow_add-to-in-loop-i c).In-loop-i, ap length c.name-text.ensures)
 
-pub loop-k-preserved : goal.loop-k-preserved
-loop-k-preserved c =
-    let args = c.args in
-    let loop = c.loop-k in
-    let q = listed args.t.now args.list.now args.n loop.k c.requires.1 (omega arith) c.requires.0 in
-    let ts = table_of args.t.now in
-    let is = args.list.now in
-    let xs = name_list ts (take loop.k is) in
-    let ys = (node_at ts (get_or is loop.k 0)).name in
-    let long : length c.name-text.result.now ≡ length ys = ap length c.name-text.ensures in
-    let room : args.at + (length xs + (length ys + 1)) ≤ length args.into.now =
-    room_for ts is loop.k args.n (omega arith) (omega arith) args.at (length args.into.now) c.requires.2 in
-    let same = same-room args.at xs args.into.now loop.into loop.to loop.invariant.0 loop.invariant.1 ys room in
-    let copied : c.copy.new.into ≡ paste loop.to ys loop.into = c.copy.ensures
+pub loop-i-preserved : goal.loop-i-preserved
+unfolding written next
+loop-i-preserved c =
+    let turn = (goal.at.loop-i-preserved c).In-loop-i in
+    let loop = c.loop-i in
+    let before = c.args.into.now in
+    let copied : c.copy.new.into ≡ paste loop.to (next turn) loop.into = c.copy.ensures
     ∙ ap (λ (l : Octets). paste loop.to l loop.into) c.name-text.ensures in
-    let after = room_after args.at xs args.into.now loop.into loop.to loop.invariant.0 loop.invariant.1 ys room
-    c.copy.new.into copied in
-    let e = names_next ts is loop.k (omega arith) in (
-      ap (λ (i : ℕ). set c.copy.new.into (loop.to + i) 0) long
-          ∙ nul-behind args.at xs args.into.now loop.into loop.to loop.invariant.0 loop.invariant.1 ys room c.copy.new.into copied
-          ∙ ap (λ (l : Octets). paste args.at l args.into.now) (sym e),
-      omega (arith, ap length e, length-append xs (ys ++ nul), length-append ys nul),
+    let e = names_next (table_of c.args.t.now) (take c.args.n c.args.list.now) loop.i-index c.loop-i-test.true in (
+      ap (λ (i : ℕ). set c.copy.new.into (loop.to + i) 0) (ap length c.name-text.ensures)
+          ∙ nul-behind c.args.at (written turn) before loop.into loop.to loop.invariant.0 loop.invariant.1 (next turn) (room turn) c.copy.new.into copied
+          ∙ ap (λ (l : Octets). paste c.args.at l before) (sym e),
+      omega (arith, ap length e, length-append (written turn) (next turn ++ nul), length-append (next turn) nul, ap length c.name-text.ensures),
     )
 
-pub shape_of-into : goal.shape_of-into
-shape_of-into c =
+all : (c : After-loop-i) → Put c.args.at (name_list (table_of c.args.t.now) (take c.args.n c.args.list.now)) c.args.into.now c.loop-i.into c.loop-i.to
+all c =
     let args = c.args in
-    let loop = c.loop-k in
     let ns = name_list (table_of args.t.now) in
-    let e : loop.k ≡ args.n = omega arith in
-    let w : loop.into ≡ paste args.at (ns (take args.n args.list.now)) args.into.now =
-    loop.invariant.0 ∙ ap (λ (k : ℕ). paste args.at (ns (take k args.list.now)) args.into.now) e in
-    ap length w ∙ length-paste args.at (ns (take args.n args.list.now)) args.into.now c.requires.2
+    let e = take_all c.loop-i.i-index (take args.n args.list.now) c.loop-i-test.false in
+    record {
+      bytes = c.loop-i.invariant.0 ∙ ap (λ (is : List ℕ). paste args.at (ns is) args.into.now) e;
+      behind = c.loop-i.invariant.1 ∙ ap (λ (is : List ℕ). args.at + length (ns is)) e;
+    }
+
+pub shape_of-into : goal.shape_of-into
+shape_of-into c = ap length (all (goal.at.shape_of-into c).After-loop-i).bytes ∙ length-paste c.args.at _ c.args.into.now c.requires.2
 
 pub returns : goal.returns
-returns c =
-    let args = c.args in
-    let loop = c.loop-k in
-    let ns = name_list (table_of args.t.now) in
-    let e : loop.k ≡ args.n = omega arith in
-    let w : loop.into ≡ paste args.at (ns (take args.n args.list.now)) args.into.now =
-    loop.invariant.0 ∙ ap (λ (k : ℕ). paste args.at (ns (take k args.list.now)) args.into.now) e in
-    record { bytes = w; behind = loop.invariant.1 ∙ ap (λ (k : ℕ). args.at + length (ns (take k args.list.now))) e }
+returns c = all (goal.at.returns c).After-loop-i

@@ -7,6 +7,6 @@ use Rattle.rules.specs.Answer.{name_list}
 use Rattle.rules.specs.Layout.{table_of}
 use Rattle.lookup.proofs.listing.put_names.Given as goal
 
-abbrev pub invariant-loop-k : goal.invariant-loop-k
-invariant-loop-k l = (l.into ≡ paste l.at (name_list (table_of l.t) (take l.k l.list)) l.initial.into)
-    × (l.to ≡ l.at + length (name_list (table_of l.t) (take l.k l.list)))
+abbrev pub invariant-loop-i : goal.invariant-loop-i
+invariant-loop-i l = (l.into ≡ paste l.at (name_list (table_of l.t) (take l.i-index l.i-items)) l.initial.into)
+    × (l.to ≡ l.at + length (name_list (table_of l.t) (take l.i-index l.i-items)))

@@ -6,9 +6,6 @@ use Rattle.payload.proofs.EntryLaws.{with_count, entries_end, entries_left, entr
 use Rattle.payload.proofs.entries.permissions.Goals as goal
 use Rattle.payload.proofs.entries.permissions.Goals.{In-String}
 
-pub loop-start-init : goal.loop-start-init
-loop-start-init c = (rw c.none-entries.ensures (omega arith), c.requires, rw c.none-entries.ensures)
-
 pub returns-in-End : goal.returns-in-End
 returns-in-End c =
     sym (c.loop-start.invariant.2 ∙ entries_end _ _ _ (sym c.next.ensures ∙ c.in-End.is))
@@ -36,11 +33,6 @@ returns-in_err-e-in-String c =
     c.from_residual.ensures
     ∙ sym (c.loop-start.invariant.2
     ∙ entries_not _ _ _ _ _ _ (sym c.next.ensures ∙ c.in-String.is) c.in_err-e-in-String.ensures)
-
-pub with-entries-requires : goal.with-entries-requires
-with-entries-requires c =
-    let i = c.loop-start.invariant in
-    omega (arith, c.well_formed)
 
 pub loop-start-smaller : goal.loop-start-smaller
 loop-start-smaller c = let t = told (goal.at.loop-start-smaller c).In-String in omega arith

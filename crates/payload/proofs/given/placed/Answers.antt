@@ -1,12 +1,8 @@
 -- A place is a path or an event's name.
 use mathlib.Core.Path.{ap, sym, ◌∙◌}
-use lib.Seq.{length-take-le}
 use Rattle.payload.specs.Answers.{placed_of}
 use Rattle.payload.proofs.Forms.{placed-form}
 use Rattle.payload.proofs.given.placed.Goals as goal
-
-pub slice_bounds-form-end : goal.slice_bounds-form-end
-slice_bounds-form-end c = sym (length-take-le _ _ c.requires)
 
 pub returns-then-eq : goal.returns-then-eq
 returns-then-eq c = sym (placed-form _ _ ∙ rw (sym c.eq.ensures ∙ c.if-eq.true)) ∙ ap (placed_of _) c.form-form.ensures

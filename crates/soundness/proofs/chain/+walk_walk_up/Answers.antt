@@ -18,21 +18,10 @@ walk-returns-then-steps-eq0 t c =
     let args = c.args in
     walked_none _ _ args.steps args.i c.if-i-eq0.false c.if-steps-eq0.true
 
-pub walk-used-requires : goal.walk-used-requires
-walk-used-requires t c =
-    (c.requires.0, c.requires.2.table.whole)
-
 pub walk-returns-then-not-used : goal.walk-returns-then-not-used
 walk-returns-then-not-used t c =
     let args = c.args in
     walked_unused _ _ args.steps args.i c.if-i-eq0.false (sym c.used.ensures ∙ c.if-not-used.true)
-
-pub walk-parent-requires : goal.walk-parent-requires
-walk-parent-requires t c =
-    (c.requires.0, c.requires.2.table.whole, sym c.used.ensures ∙ c.if-not-used.false)
-
-pub walk-bounds-known-parent : goal.walk-bounds-known-parent
-walk-bounds-known-parent t c = c.parent.ensures.0
 
 walk_step : {t : ℕ} (c : walk-After-parent t) → Step c.args.t.now c.args.steps c.args.i c.parent.result
 walk_step c =
@@ -43,17 +32,6 @@ walk_step c =
       parent = c.parent.ensures.1;
     }
 
-pub walk-walk_up-requires : goal.walk-walk_up-requires
-walk-walk_up-requires t c =
-    let s = walk_step (goal.at.walk-walk_up-requires t c).After-parent in
-    (omega (arith, c.decreases), (s.below, c.requires.0, s.used, s.left, c.requires.1, c.requires.2))
-
-pub walk-shape_of-into-then-above-eq0 : goal.walk-shape_of-into-then-above-eq0
-walk-shape_of-into-then-above-eq0 t c = c.walk_up.auto.into
-
-pub walk-returns-then-above-eq0 : goal.walk-returns-then-above-eq0
-walk-returns-then-above-eq0 t c = c.walk_up.ensures
-
 pub walk-returns-then-steps-above : goal.walk-returns-then-steps-above
 walk-returns-then-steps-above t c =
     walked_far _ _ c.args.steps c.args.i _ (walk_step (goal.at.walk-returns-then-steps-above t c).After-parent) c.requires.1 _ c.requires.2
@@ -63,10 +41,6 @@ pub walk-returns : goal.walk-returns
 walk-returns t c =
     walked_near _ _ c.args.steps c.args.i _ (walk_step (goal.at.walk-returns t c).After-parent) c.requires.1 _ c.requires.2
     c.if-above-eq0.false (omega (arith, c.if-steps-above.false))
-
-pub walk_up-walk-requires : goal.walk_up-walk-requires
-walk_up-walk-requires t c =
-    (omega (arith, c.decreases, c.requires.3), (c.parent.ensures.0, omega (arith, c.requires.4), c.requires.5))
 
 pub walk_up-returns-in_err-up : goal.walk_up-returns-in_err-up
 walk_up-returns-in_err-up t c =
@@ -99,11 +73,6 @@ room c =
       omega (arith, c.walk.auto.into, p.5.room n),
     )
 
-pub walk_up-name-s-requires : goal.walk_up-name-s-requires
-walk_up-name-s-requires t c =
-    let p = c.requires in
-    (p.1, p.5.table.whole, p.2, p.5.table.short _ p.1 p.2)
-
 pub walk_up-bounds-into-at : goal.walk_up-bounds-into-at
 walk_up-bounds-into-at t c = omega (arith, room (goal.at.walk_up-bounds-into-at t c).Else-into-eq0)
 
@@ -125,11 +94,6 @@ walk_up-overflow_add-length-2 t c =
     record {
       fits = omega (arith, (room places.Else-into-eq0).0, ap length c.name-s.ensures, name-short args.t.now args.i);
     }
-
-pub walk_up-shape_of-into : goal.walk_up-shape_of-into
-walk_up-shape_of-into t c =
-    let e : length c.copy.new.into ≡ length c.walk.new.into = c.copy.auto.into ∙ simp length-set in
-    e ∙ c.walk.auto.into
 
 pub walk_up-returns : goal.walk_up-returns
 walk_up-returns t c =

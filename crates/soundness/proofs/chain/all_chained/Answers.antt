@@ -4,19 +4,12 @@ use native.Mathlib.Omega.{arith}
 use Rattle.rules.specs.Size.{slots}
 use Rattle.soundness.specs.Walks.{chained}
 use Rattle.soundness.proofs.TableLaws.{every_further, every_stop, every-ended, lost_chained, root-chained, root_level, root-count}
-use Rattle.soundness.proofs.TableLaws.{unused_chained, levels-set, levels-lent, none_levelled}
+use Rattle.soundness.proofs.TableLaws.{unused_chained, levels-set, none_levelled}
 use Rattle.soundness.proofs.chain.all_chained.Goals as goal
 use Rattle.soundness.proofs.chain.all_chained.Goals.{then-used+in-Some, else-used}
 
 pub loop-i-init : goal.loop-i-init
 loop-i-init c = (refl, none_levelled _)
-
-pub used-requires : goal.used-requires
-used-requires c = (omega arith, c.requires.whole)
-
-pub walk-requires : goal.walk-requires
-walk-requires c =
-    (omega arith, omega arith, levels-lent _ c.loop-i.known _ c.requires c.loop-i.invariant.1 refl)
 
 pub returns-in_default : goal.returns-in_default
 returns-in_default c =

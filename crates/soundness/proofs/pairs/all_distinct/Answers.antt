@@ -1,32 +1,12 @@
 -- Of two siblings with one name the later finds the earlier's key among those met, so no pair that is passed over has one name.
 use Rattle.slots.specs.Slot.{slot_at}
 use Rattle.soundness.proofs.KeyLaws.{key_used}
-use mathlib.Core.Path.{refl, sym, ◌∙◌}
+use mathlib.Core.Path.{sym, ◌∙◌}
 use native.Mathlib.Omega.{arith}
 use Rattle.soundness.proofs.PairLaws.{row_whole, taken_next, met_key, keyed_next, apart_next, row_differ, row_names}
 use Rattle.soundness.proofs.PairLaws.{row_new, all_apart, pair_found}
 use Rattle.soundness.proofs.pairs.all_distinct.Goals as goal
 use Rattle.soundness.proofs.pairs.all_distinct.Goals.{then-keys-j+else-same_names, else-keys-j, then-may_clash+else-loop-j-test, else-may_clash}
-
-pub pairs-init : goal.pairs-init
-pairs-init c = (
-  refl,
-  record { long = refl; each = λ j l. absurd (omega arith) },
-  λ a b n m l h p q. absurd (omega arith),
-  record { long = refl; each = λ j l. absurd (omega arith) },
-)
-
-pub key_of-key-requires : goal.key_of-key-requires
-key_of-key-requires c = (omega arith, c.requires)
-
-pub place_of-place-requires : goal.place_of-place-requires
-place_of-place-requires c = tt
-
-pub may_clash-requires : goal.may_clash-requires
-may_clash-requires c = (c.place_of-place.ensures.1, c.pairs.invariant.1.long)
-
-pub loop-j-init : goal.loop-j-init
-loop-j-init c = (c.pairs.invariant.0, λ a n m l p q. absurd (omega arith))
 
 pub same_names-requires : goal.same_names-requires
 same_names-requires c =
@@ -51,9 +31,6 @@ loop-j-preserved c =
             c.key_of-key.ensures c.loop-j-test.true w.if-keys-j.false loop.invariant.1
       ],
     )
-
-pub bounds-taken-place : goal.bounds-taken-place
-bounds-taken-place c = c.place_of-place.ensures.1
 
 pub pairs-preserved : goal.pairs-preserved
 pairs-preserved c =

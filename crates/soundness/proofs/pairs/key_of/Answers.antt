@@ -9,19 +9,6 @@ use Rattle.soundness.proofs.pairs.key_of.Goals as goal
 pub returns-then-not-used : goal.returns-then-not-used
 returns-then-not-used c = key_none _ (sym c.used.ensures ∙ c.if-not-used.true)
 
-pub parent-p-requires : goal.parent-p-requires
-parent-p-requires c = (
-  c.requires.0,
-  c.requires.1.whole,
-  sym c.used.ensures
-      ∙ c.if-not-used.false,
-)
-
-pub name-requires : goal.name-requires
-name-requires c =
-    let u = sym c.used.ensures ∙ c.if-not-used.false in
-    (c.requires.0, c.requires.1.whole, u, c.requires.1.short _ c.requires.0 u)
-
 pub digest-requires : goal.digest-requires
 digest-requires c =
     let args = c.args in

@@ -4,14 +4,6 @@ use Rattle.octets.proofs.Bytes.{bytes-known}
 use Rattle.soundness.proofs.SlotLaws.{unused_root, unused_other}
 use Rattle.soundness.proofs.slot.good_slot.Goals as goal
 
-pub good_used-requires : goal.good_used-requires
-good_used-requires c = record {
-  below = c.requires.0;
-  whole = c.requires.1;
-  used = sym c.used.ensures
-      ∙ c.if-used.true;
-}
-
 pub returns-then-i-eq0 : goal.returns-then-i-eq0
 returns-then-i-eq0 c =
     let args = c.args in

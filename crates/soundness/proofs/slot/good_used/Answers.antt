@@ -11,19 +11,12 @@ returns-then-not-within c =
     unsized args.t.now (bytes-known args.t.now c.type_inv.t) c.requires.whole args.i c.requires.below c.requires.used
     (sym c.within.ensures ∙ c.if-not-within.true)
 
-pub kept_entries-requires : goal.kept_entries-requires
-kept_entries-requires c = (c.requires, (sym c.within.ensures ∙ c.if-not-within.false))
-
 pub returns-then-not-kept_entries : goal.returns-then-not-kept_entries
 returns-then-not-kept_entries c =
     let args = c.args in
     stop _ (sym c.kept_entries.ensures ∙ c.if-not-kept_entries.true)
     ∙ sym (within_sizes args.t.now (bytes-known args.t.now c.type_inv.t) c.requires.whole args.i c.requires.below
     c.requires.used (sym c.within.ensures ∙ c.if-not-within.false))
-
-pub zero_behind-requires : goal.zero_behind-requires
-zero_behind-requires c =
-    (c.requires.below, c.requires.whole, (sym c.within.ensures ∙ c.if-not-within.false))
 
 pub returns-then-not-zero_behind : goal.returns-then-not-zero_behind
 returns-then-not-zero_behind c =
@@ -32,10 +25,6 @@ returns-then-not-zero_behind c =
     (stop _ (sym c.zero_behind.ensures ∙ c.if-not-zero_behind.true))
     ∙ sym (within_sizes args.t.now (bytes-known args.t.now c.type_inv.t) c.requires.whole args.i c.requires.below
     c.requires.used (sym c.within.ensures ∙ c.if-not-within.false))
-
-pub good_name-requires : goal.good_name-requires
-good_name-requires c =
-    (c.requires, (sym c.within.ensures ∙ c.if-not-within.false))
 
 pub returns : goal.returns
 returns c =

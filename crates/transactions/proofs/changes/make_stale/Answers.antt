@@ -1,17 +1,7 @@
 -- An open transaction keeps its changes and its holder; a closed place stays as it is.
 use mathlib.Core.Path.{sym, ◌∙◌}
-use native.Mathlib.Omega.{arith}
 use Rattle.transactions.proofs.Written.{put_stale, left-stale}
 use Rattle.transactions.proofs.changes.make_stale.Goals as goal
-
-pub is_open-requires : goal.is_open-requires
-is_open-requires c = let pre = c.requires in (pre.0, pre.1.whole)
-
-pub bounds-s-at : goal.bounds-s-at
-bounds-s-at c = let w = c.requires.1.whole in omega arith
-
-pub bounds-s-at-then-is_open : goal.bounds-s-at-then-is_open
-bounds-s-at-then-is_open c = let w = c.requires.1.whole in omega arith
 
 pub returns-then-is_open : goal.returns-then-is_open
 returns-then-is_open c =

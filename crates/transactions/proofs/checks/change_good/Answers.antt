@@ -5,9 +5,6 @@ use Rattle.transactions.proofs.ChangeLaws.{change-fits}
 use Rattle.transactions.proofs.Good.{path-full, change_unfit, given_is}
 use Rattle.transactions.proofs.checks.change_good.Goals as goal
 
-pub path-p-requires : goal.path-p-requires
-path-p-requires c = c.requires
-
 pub fits-requires : goal.fits-requires
 fits-requires c =
     let args = c.args in
@@ -18,12 +15,6 @@ returns-else-fits c =
     let args = c.args in
     let fits = change-fits args.s.now args.k args.j c.requires in
     c.if-fits.false ∙ sym (change_unfit _ fits _ c.path-p.ensures (sym c.fits.ensures ∙ c.if-fits.false))
-
-pub removed-requires : goal.removed-requires
-removed-requires c = c.requires
-
-pub parents-requires : goal.parents-requires
-parents-requires c = c.requires
 
 pub parents_good-requires : goal.parents_good-requires
 parents_good-requires c =

@@ -5,27 +5,17 @@ use Rattle.rules.proofs.Fields.{field_two}
 use Rattle.transactions.proofs.ChangesKept.{change-marked, change_over, change_unfull, change-rest}
 use Rattle.transactions.proofs.checks.change_kept.Goals as goal
 
-pub number-fields-requires : goal.number-fields-requires
-number-fields-requires c = omega (arith, c.requires)
-
 pub returns-then-fields-ne0 : goal.returns-then-fields-ne0
 returns-then-fields-ne0 c =
     let fields = c.number-fields.ensures.read in
-    sym (change-marked c.args.s.now c.args.at fields.bytes c.requires (rw (fields.value ∙ field_two c.args.s.now c.args.at (omega (arith, c.requires))) at c.if-fields-ne0.true))
+    let v = fields.value ∙ field_two c.args.s.now c.args.at (omega (arith, c.requires)) in
+    sym (change-marked c.args.s.now c.args.at fields.bytes c.requires (rw v at c.if-fields-ne0.true))
 
 pub returns-then-n-gt-LONGEST_PATH : goal.returns-then-n-gt-LONGEST_PATH
 returns-then-n-gt-LONGEST_PATH c =
     let fields = c.number-fields.ensures.read in
-    sym (change_over c.args.s.now c.args.at fields.bytes c.requires (rw (fields.value ∙ field_two c.args.s.now c.args.at (omega (arith, c.requires))) at c.if-n-gt-LONGEST_PATH.true))
-
-pub overflow_add-from : goal.overflow_add-from
-overflow_add-from c = omega (arith, c.requires)
-
-pub overflow_add-from-2 : goal.overflow_add-from-2
-overflow_add-from-2 c = omega (arith, c.requires)
-
-pub slice_bounds-is_full-end : goal.slice_bounds-is_full-end
-slice_bounds-is_full-end c = omega (arith, c.requires)
+    let v = fields.value ∙ field_two c.args.s.now c.args.at (omega (arith, c.requires)) in
+    sym (change_over c.args.s.now c.args.at fields.bytes c.requires (rw v at c.if-n-gt-LONGEST_PATH.true))
 
 pub returns-else-is_full : goal.returns-else-is_full
 returns-else-is_full c =
@@ -33,10 +23,6 @@ returns-else-is_full c =
     let v = fields.value ∙ field_two c.args.s.now c.args.at (omega (arith, c.requires)) in
     let full = sym c.is_full.ensures ∙ c.if-is_full.false in
     c.if-is_full.false ∙ sym (change_unfull c.args.s.now c.args.at fields.bytes c.requires (rw v at c.if-n-gt-LONGEST_PATH.false) (rw v at full))
-
-pub rest_zero-requires : goal.rest_zero-requires
-rest_zero-requires c =
-    (c.if-n-gt-LONGEST_PATH.false, omega (arith, c.requires))
 
 pub returns-then-is_full : goal.returns-then-is_full
 returns-then-is_full c =

@@ -4,9 +4,6 @@ use borrow.Author.Tests.{eq-eqb, ne_eqb}
 use Rattle.transactions.proofs.Good.{removed-made, removed-none, written_none, written-made}
 use Rattle.transactions.proofs.checks.parents_good.Goals as goal
 
-pub depth-requires : goal.depth-requires
-depth-requires c = c.requires.0
-
 pub returns-then-parents-eq0 : goal.returns-then-parents-eq0
 returns-then-parents-eq0 c =
     sym (removed-none _ _ _ c.requires.1 c.if-removed.true c.if-parents-eq0.true _ c.depth.ensures)
@@ -18,9 +15,6 @@ returns-else-parents-eq0 c =
 pub returns-then-parents-eq0-2 : goal.returns-then-parents-eq0-2
 returns-then-parents-eq0-2 c =
     eq-eqb _ _ c.if-parents-eq0-2.true ∙ sym (written_none _ _ _ c.requires.1 c.if-removed.false c.if-parents-eq0-2.true)
-
-pub depth-requires-else-parents-eq0-2 : goal.depth-requires-else-parents-eq0-2
-depth-requires-else-parents-eq0-2 c = c.requires.0
 
 pub returns-else-parents-eq0-2 : goal.returns-else-parents-eq0-2
 returns-else-parents-eq0-2 c =

@@ -6,19 +6,8 @@ use Rattle.rules.specs.Sound.{known}
 use Rattle.transactions.proofs.Good.{open_free, open_unknown, open_known}
 use Rattle.transactions.proofs.checks.place_good.Goals as goal
 
-pub is_open-requires : goal.is_open-requires
-is_open-requires c = let pre = c.requires in (pre.0, pre.1.whole)
-
 pub returns-then-not-is_open : goal.returns-then-not-is_open
 returns-then-not-is_open c = sym (open_free _ _ (sym c.is_open.ensures ∙ c.if-not-is_open.true))
-
-pub holder-requires : goal.holder-requires
-holder-requires c =
-    let pre = c.requires in
-    record { below = pre.0; kept = pre.1; used = sym c.is_open.ensures ∙ c.if-not-is_open.false }
-
-pub known_sender-requires : goal.known_sender-requires
-known_sender-requires c = c.requires.2
 
 pub returns-else-known_sender : goal.returns-else-known_sender
 returns-else-known_sender c =
@@ -26,11 +15,6 @@ returns-else-known_sender c =
     let is_open_lem = sym c.is_open.ensures ∙ c.if-not-is_open.false in
     let whose = ap (λ (o : Connection). known (domain_of o) ds) (sym c.holder.ensures) in
     c.if-known_sender.false ∙ sym (open_unknown _ _ is_open_lem (whose ∙ sym c.known_sender.ensures ∙ c.if-known_sender.false))
-
-pub changes_good-requires : goal.changes_good-requires
-changes_good-requires c =
-    let pre = c.requires in
-    record { below = pre.0; kept = pre.1; used = sym c.is_open.ensures ∙ c.if-not-is_open.false }
 
 pub returns-then-known_sender : goal.returns-then-known_sender
 returns-then-known_sender c =

@@ -1,6 +1,5 @@
 -- A closed place is zero; an open one is its fields and its changes, and zero behind these.
 use mathlib.Core.Path.{sym, ◌∙◌}
-use native.Mathlib.Omega.{arith}
 use Rattle.octets.proofs.Bytes.{bytes-known}
 use Rattle.domains.proofs.Tests.{and_first, and_rest}
 use Rattle.transactions.proofs.Kept.{free_same, kept-marked, kept_many, kept-parts}
@@ -24,31 +23,12 @@ returns-then-n-gt-MOST_CHANGES c =
     let bytes = bytes-known s c.type_inv.s in
     sym (kept_many s _ c.requires.0 bytes c.requires.1 c.if-s-at-lt128.false c.if-n-gt-MOST_CHANGES.true)
 
-pub changes_kept-requires : goal.changes_kept-requires
-changes_kept-requires c =
-    let few = c.if-n-gt-MOST_CHANGES.false in
-    let pre = c.requires in
-    (few, omega (arith, pre.0, pre.1, few))
-
 pub returns-else-changes_kept : goal.returns-else-changes_kept
 returns-else-changes_kept c =
     let s = c.args.s.now in
     let bytes = bytes-known s c.type_inv.s in
     let parts = kept-parts s _ c.requires.0 bytes c.requires.1 c.if-s-at-lt128.false c.if-s-at-ne0.false c.if-n-gt-MOST_CHANGES.false in
     c.if-changes_kept.false ∙ sym (parts ∙ and_first _ _ (sym c.changes_kept.ensures ∙ c.if-changes_kept.false))
-
-pub overflow_add-at-then-changes_kept : goal.overflow_add-at-then-changes_kept
-overflow_add-at-then-changes_kept c =
-    let pre = c.requires in
-    omega (arith, pre.0)
-
-pub overflow_mul-n : goal.overflow_mul-n
-overflow_mul-n c = omega (arith, c.if-n-gt-MOST_CHANGES.false)
-
-pub rest_zero-requires : goal.rest_zero-requires
-rest_zero-requires c =
-    let pre = c.requires in
-    (omega (arith, c.if-n-gt-MOST_CHANGES.false), omega (arith, pre.0, pre.1))
 
 pub returns-then-changes_kept : goal.returns-then-changes_kept
 returns-then-changes_kept c =

@@ -1,13 +1,6 @@
 -- The last four bits of the first byte say how many.
-use native.Mathlib.Omega.{arith}
 use Rattle.transactions.proofs.Laws.{changes-read, open_fits}
 use Rattle.transactions.proofs.places.changes.Goals as goal
-
-pub overflow_mul-result : goal.overflow_mul-result
-overflow_mul-result c = omega (arith, c.requires.below)
-
-pub bounds-s-k : goal.bounds-s-k
-bounds-s-k c = omega (arith, c.requires.below, c.requires.kept.whole)
 
 pub returns : goal.returns
 returns c =

@@ -6,16 +6,8 @@ use Rattle.transactions.specs.Transaction.{held_by}
 use Rattle.domains.proofs.Search.{passes_free, passes-taken}
 use Rattle.transactions.proofs.places.held.Goals as goal
 
-pub is_open-requires : goal.is_open-requires
-is_open-requires c = let pre = c.requires in (pre.0, pre.1.whole)
-
 pub returns-else-is_open : goal.returns-else-is_open
 returns-else-is_open c = c.if-is_open.false ∙ sym (passes_free _ _ (sym c.is_open.ensures ∙ c.if-is_open.false))
-
-pub holder-requires : goal.holder-requires
-holder-requires c =
-    let pre = c.requires in
-    record { below = pre.0; kept = pre.1; used = sym c.is_open.ensures ∙ c.if-is_open.true }
 
 pub returns-then-is_open : goal.returns-then-is_open
 unfolding held_by

@@ -1,10 +1,6 @@
 -- The holder is the number of the second and third byte.
-use native.Mathlib.Omega.{arith}
 use Rattle.transactions.proofs.Laws.{holder-read}
 use Rattle.transactions.proofs.places.holder.Goals as goal
-
-pub number-requires : goal.number-requires
-number-requires c = let pre = c.requires in omega (arith, pre.below, pre.kept.whole)
 
 pub returns : goal.returns
 returns c =

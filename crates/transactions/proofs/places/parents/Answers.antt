@@ -3,12 +3,6 @@ use native.Mathlib.Omega.{arith}
 use Rattle.transactions.proofs.ChangeLaws.{place-within, parents-read}
 use Rattle.transactions.proofs.places.parents.Goals as goal
 
-pub overflow_mul-result : goal.overflow_mul-result
-overflow_mul-result c = omega (arith, c.requires.place.below)
-
-pub overflow_add-result : goal.overflow_add-result
-overflow_add-result c = omega (arith, c.requires.place.below)
-
 pub overflow_mul-result-2 : goal.overflow_mul-result-2
 overflow_mul-result-2 c = let args = c.args in omega (arith, place-within args.s.now args.k args.j c.requires)
 

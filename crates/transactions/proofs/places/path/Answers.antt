@@ -3,12 +3,6 @@ use native.Mathlib.Omega.{arith}
 use Rattle.transactions.proofs.ChangeLaws.{place-within, length-read, path-read, change-fits}
 use Rattle.transactions.proofs.places.path.Goals as goal
 
-pub overflow_mul-at : goal.overflow_mul-at
-overflow_mul-at c = omega (arith, c.requires.place.below)
-
-pub overflow_add-at : goal.overflow_add-at
-overflow_add-at c = omega (arith, c.requires.place.below)
-
 pub overflow_mul-at-2 : goal.overflow_mul-at-2
 overflow_mul-at-2 c = let args = c.args in omega (arith, place-within args.s.now args.k args.j c.requires)
 

@@ -1,24 +1,10 @@
 -- A place is its fields, the path's field and the token's.
 use mathlib.Core.Path.{ap, ◌∙◌}
 use Prim.Native.Nat.{◌+◌, ◌*◌}
-use native.Mathlib.Omega.{arith}
 use Rattle.rules.specs.Size.{watch_fields_size, watch_size}
 use Rattle.rules.specs.Octets.{paste}
 use Rattle.watches.proofs.Written.{given-levels, put_watch}
 use Rattle.watches.proofs.changes.add.Goals as goal
-
-pub put_text-requires : goal.put_text-requires
-put_text-requires c = let pre = c.requires in (omega (arith, pre.1.whole, pre.0), pre.2.few)
-
-pub put_text-requires-2 : goal.put_text-requires-2
-put_text-requires-2 c =
-    let pre = c.requires in
-    (omega (arith, pre.1.whole, pre.0), pre.2.path)
-
-pub put_fields-requires : goal.put_fields-requires
-put_fields-requires c =
-    let pre = c.requires in
-    (omega (arith, pre.1.whole, pre.0), pre.2.few)
 
 pub returns : goal.returns
 returns c =

@@ -1,26 +1,6 @@
 -- Six stores in a row put six bytes in.
-use native.Mathlib.Omega.{arith}
-use lib.ListN.{length-set}
 use Rattle.watches.proofs.Written.{paste_six}
 use Rattle.watches.proofs.changes.put_fields.Goals as goal
-
-pub bounds-s-at-2 : goal.bounds-s-at-2
-bounds-s-at-2 c = simp length-set (omega arith)
-
-pub bounds-s-at-3 : goal.bounds-s-at-3
-bounds-s-at-3 c = simp length-set (omega arith)
-
-pub bounds-s-at-4 : goal.bounds-s-at-4
-bounds-s-at-4 c = simp length-set (omega arith)
-
-pub bounds-s-at-5 : goal.bounds-s-at-5
-bounds-s-at-5 c = simp length-set (omega arith)
-
-pub bounds-s-at-6 : goal.bounds-s-at-6
-bounds-s-at-6 c = simp length-set (omega arith)
-
-pub shape_of-s : goal.shape_of-s
-shape_of-s c = simp length-set
 
 pub returns : goal.returns
 returns c = paste_six _ _ _ _ _ _ _ _ c.requires.0

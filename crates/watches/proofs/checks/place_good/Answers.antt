@@ -1,7 +1,6 @@
 -- The tests are those of a good watch, in its order, on the fields as they were read.
 use mathlib.Core.Path.{◌≡◌, sym, ap, ◌∙◌}
 use mathlib.Core.Bool.{not}
-use native.Mathlib.Omega.{arith}
 use Rattle.rules.specs.Domain.{Connection, domain_of}
 use Rattle.rules.specs.Layout.{domains_of}
 use Rattle.rules.specs.Sound.{known, no_nul, good_place}
@@ -47,37 +46,16 @@ place-good c =
 pub returns-then-not-used : goal.returns-then-not-used
 returns-then-not-used c = sym (good_free _ _ _ (sym c.used.ensures ∙ c.if-not-used.true))
 
-pub used-requires : goal.used-requires
-used-requires c = let pre = c.requires in (pre.0, pre.1.whole)
-
-pub owner-c-requires : goal.owner-c-requires
-owner-c-requires c = a-watch c
-
-pub known_sender-requires : goal.known_sender-requires
-known_sender-requires c = c.requires.2
-
 pub returns-then-not-known_sender : goal.returns-then-not-known_sender
 returns-then-not-known_sender c =
     let places = goal.at.returns-then-not-known_sender c in
     sym (good-unknown _ _ _ (a-watch places.Else-not-used).used (owner-known places.After-known_sender ∙ c.if-not-known_sender.true))
-
-pub token-t-requires : goal.token-t-requires
-token-t-requires c = a-watch (goal.at.token-t-requires c).Else-not-used
 
 pub returns-then-not-no_nul : goal.returns-then-not-no_nul
 returns-then-not-no_nul c =
     let places = goal.at.returns-then-not-no_nul c in
     let is_Known = owner-known places.After-known_sender ∙ c.if-not-known_sender.false in
     sym (good-nul _ _ _ (a-watch places.Else-not-used).used is_Known (token-clean places.After-no_nul ∙ c.if-not-no_nul.true))
-
-pub path-p-requires : goal.path-p-requires
-path-p-requires c = a-watch (goal.at.path-p-requires c).Else-not-used
-
-pub depth-requires : goal.depth-requires
-depth-requires c = a-watch (goal.at.depth-requires c).Else-not-used
-
-pub relative-requires : goal.relative-requires
-relative-requires c = a-watch (goal.at.relative-requires c).Else-not-used
 
 pub good_place-requires : goal.good_place-requires
 good_place-requires c =
@@ -92,11 +70,6 @@ returns-then-not-good_place c =
     let is_Known = owner-known places.After-known_sender ∙ c.if-not-known_sender.false in
     let is-clean = token-clean places.After-no_nul ∙ c.if-not-no_nul.false in
     sym (good_misplaced _ _ _ watch.used is_Known is-clean (place-good places.After-good_place ∙ c.if-not-good_place.true))
-
-pub watched_from-requires : goal.watched_from-requires
-watched_from-requires c =
-    let watch = a-watch (goal.at.watched_from-requires c).Else-not-used in
-    (omega (arith, watch.below), watch.kept)
 
 pub returns : goal.returns
 returns c =

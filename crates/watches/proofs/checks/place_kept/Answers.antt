@@ -57,11 +57,6 @@ returns-then-not-fields_same c =
     let fields = sym c.fields_same.ensures ∙ c.if-not-fields_same.true in
     sym (kept_fields _ _ pre.0 (bytes (goal.at.returns-then-not-fields_same c).Else-s-at-lt128) pre.1 c.if-s-at-lt128.false fields)
 
-pub rest_zero-requires : goal.rest_zero-requires
-rest_zero-requires c =
-    let pre = c.requires in
-    (omega arith, omega (arith, pre.1, pre.0))
-
 pub returns-else-rest_zero : goal.returns-else-rest_zero
 returns-else-rest_zero c =
     let rest = sym c.rest_zero.ensures ∙ c.if-rest_zero.false in
@@ -77,4 +72,5 @@ pub returns-then-rest_zero : goal.returns-then-rest_zero
 returns-then-rest_zero c =
     let rest = sym c.rest_zero.ensures ∙ c.if-rest_zero.true in
     let token = c.rest_zero-then-rest_zero.ensures in
-    (rw c.token_length.ensures at token) ∙ sym (rests-decide (goal.at.returns-then-rest_zero c).Else-not-fields_same ∙ and_rest _ _ (rw c.path_length-n.ensures at rest))
+    (rw c.token_length.ensures at token)
+    ∙ sym (rests-decide (goal.at.returns-then-rest_zero c).Else-not-fields_same ∙ and_rest _ _ (rw c.path_length-n.ensures at rest))

@@ -4,9 +4,6 @@ use Rattle.rules.specs.Octets.{same}
 use Rattle.watches.proofs.Laws.{owned_taken, twin_other, twin-path, twin-token}
 use Rattle.watches.proofs.places.is_twin.Goals as goal
 
-pub owned-requires : goal.owned-requires
-owned-requires c = let pre = c.requires in (pre.0, pre.1)
-
 pub returns-then-not-owned : goal.returns-then-not-owned
 returns-then-not-owned c = sym (twin_other _ _ _ _ (sym c.owned.ensures ∙ c.if-not-owned.true))
 

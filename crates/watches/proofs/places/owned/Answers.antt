@@ -5,14 +5,6 @@ use Rattle.watches.specs.Watch.{owned_by, nobody}
 use Rattle.domains.proofs.Search.{passes_free, passes-taken}
 use Rattle.watches.proofs.places.owned.Goals as goal
 
-pub used-requires : goal.used-requires
-used-requires c = let pre = c.requires in (pre.0, pre.1.whole)
-
-pub owner-requires : goal.owner-requires
-owner-requires c =
-    let pre = c.requires in
-    record { below = pre.0; kept = pre.1; used = sym c.used.ensures ∙ c.if-used.true }
-
 pub returns-then-used : goal.returns-then-used
 unfolding owned_by
 returns-then-used c =

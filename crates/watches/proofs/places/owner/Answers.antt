@@ -1,10 +1,6 @@
 -- The owner is the number of the third and fourth byte.
-use native.Mathlib.Omega.{arith}
 use Rattle.watches.proofs.Laws.{owner-read}
 use Rattle.watches.proofs.places.owner.Goals as goal
-
-pub number-requires : goal.number-requires
-number-requires c = let pre = c.requires in omega (arith, pre.below, pre.kept.whole)
 
 pub returns : goal.returns
 returns c =

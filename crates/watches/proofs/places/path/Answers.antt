@@ -4,9 +4,6 @@ use Rattle.octets.proofs.Bytes.{bytes-known}
 use Rattle.watches.proofs.Laws.{path-length-within, path-part}
 use Rattle.watches.proofs.places.path.Goals as goal
 
-pub path_length-n-requires : goal.path_length-n-requires
-path_length-n-requires c = let pre = c.requires in (pre.below, pre.kept.whole)
-
 pub overflow_add-result : goal.overflow_add-result
 overflow_add-result c =
     let pre = c.requires in

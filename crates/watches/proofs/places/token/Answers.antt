@@ -4,9 +4,6 @@ use Rattle.octets.proofs.Bytes.{bytes-known}
 use Rattle.watches.proofs.Laws.{token-length-within, token-part}
 use Rattle.watches.proofs.places.token.Goals as goal
 
-pub token_length-n-requires : goal.token_length-n-requires
-token_length-n-requires c = let pre = c.requires in (pre.below, pre.kept.whole)
-
 pub overflow_add-result : goal.overflow_add-result
 overflow_add-result c =
     let pre = c.requires in
