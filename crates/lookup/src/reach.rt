@@ -49,6 +49,7 @@ pub fn reach(t: &[u8], path: &[u8]) -> Reached
 {
     let mut slot = 0;
     let mut at = 1;
+    // A turn goes on behind the name that it found, so the place moves by that name's length.
     while at < path.len() {
         let end = name_end(path, at);
         let Some(i) = child(t, slot, &path[at..end]) else {

@@ -40,6 +40,7 @@ pub fn make(t: &mut [u8], slot: usize, path: &[u8], at: usize, domain: u32, valu
     if path.len() <= at {
         return;
     }
+    // A turn goes on behind the name that it made, so the place moves by that name's length.
     loop {
         let end = name_end(path, from);
         if path.len() <= end {

@@ -34,6 +34,7 @@ fn read_some(rt: &impl Eprint, from: &mut impl Read, buf: &mut [u8], at: usize) 
 // Fills buf, and answers whether the input had that much.
 fn fill(rt: &impl Eprint, from: &mut impl Read, buf: &mut [u8]) -> bool {
     let mut at = 0;
+    // The place moves by as many bytes as a read gives.
     while at < buf.len() {
         let n = read_some(rt, from, buf, at);
         if n == 0 {

@@ -40,6 +40,7 @@ fn read_full(from: &mut impl Read, buf: &mut [u8]) -> usize
     ensures { result ≤ length buf.new }
 {
     let mut done = 0;
+    // The place moves by as many bytes as a read gives.
     while done < buf.len() {
         match from.read(&mut buf[done..]) {
             Ok(0) => break,

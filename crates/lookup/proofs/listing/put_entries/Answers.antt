@@ -1,11 +1,9 @@
 -- After k turns the texts of the first k entries stand one behind the other; there are four at most and each is short, so there is room.
-use mathlib.Core.Path.{ap, ◌∙◌}
+use mathlib.Core.Path.{◌∙◌}
 use native.Mathlib.Omega.{arith}
-use lib.ListN.{length}
-use Rattle.rules.proofs.Paste.{length-paste}
 use Rattle.slots.proofs.Canonical.{sound_canonical}
 use Rattle.lookup.proofs.RightsLaws.{count_is, few}
-use Rattle.lookup.proofs.ListingLaws.{none_written, entry-fits, written-room, one_more, all-written}
+use Rattle.lookup.proofs.ListingLaws.{none_written, entry-fits, written-room, one_more}
 use Rattle.lookup.proofs.listing.put_entries.Goals as goal
 
 pub entry_count-count-requires : goal.entry_count-count-requires
@@ -44,21 +42,3 @@ loop-k-preserved c =
           loop.into loop.to loop.invariant.1 (omega arith) e.result.access e.result.domain e.ensures.0 e.ensures.1
           c.put_entry-to.new.into c.put_entry-to.result c.put_entry-to.ensures,
     )
-
-pub shape_of-into : goal.shape_of-into
-shape_of-into c =
-    let args = c.args in
-    let loop = c.loop-k in
-    let n = few args.t.now args.i c.requires.0 in
-    let w = all-written args.t.now args.i c.requires.0 args.at args.into.now c.requires.1 loop.k loop.into loop.to
-    loop.invariant.1 (omega arith) in
-    ap length w.bytes ∙ length-paste args.at _ args.into.now (omega (arith, w.behind, loop.invariant.1.short))
-
-pub returns : goal.returns
-returns c =
-    let args = c.args in
-    let loop = c.loop-k in
-    let n = few args.t.now args.i c.requires.0 in
-    let w = all-written args.t.now args.i c.requires.0 args.at args.into.now c.requires.1 loop.k loop.into loop.to
-    loop.invariant.1 (omega arith) in
-    w

@@ -1,7 +1,7 @@
 -- The names before the one in turn are made; the rest is still to be, below the one that was made last.
 use mathlib.Core.Path.{◌∙◌, refl}
 use native.Mathlib.Omega.{arith}
-use Rattle.paths.proofs.PieceLaws.{end_low, end-high}
+use Rattle.paths.proofs.PieceLaws.{end_low}
 use Rattle.making.proofs.MadeLaws.{made_none, to_make, free_one, last_short, made_last, next_short, made_next}
 use Rattle.making.proofs.making.make.Goals as goal
 
@@ -17,25 +17,12 @@ loop-t-init c =
     let all = to_make args.path.now args.value.now args.t.now args.domain args.slot args.at c.if-path-at.false in
     (all pre.used.1 pre.used.0 pre.used.2 pre.short pre.room, refl)
 
-pub name_end-end-requires : goal.name_end-end-requires
-name_end-end-requires c = c.loop-t.invariant.0.inside
-
-pub slice_bounds-make_one-count : goal.slice_bounds-make_one-count
-slice_bounds-make_one-count c = c.loop-t.invariant.0.inside
-
-pub slice_bounds-make_one-start : goal.slice_bounds-make_one-start
-slice_bounds-make_one-start c = c.loop-t.invariant.0.inside
-
 pub make_one-requires : goal.make_one-requires
 make_one-requires c =
     let rest = c.loop-t.invariant.0 in
     let fit = c.requires.sizes in
     let short = last_short _ _ _ _ _ _ _ rest fit.1 (rw c.name_end-end.ensures at c.if-path-end.true) in
     (rest.slot, rest.canonical, rest.used, record { name = short; value = fit.0; domain = fit.1 }, free_one _ _ _ _ _ _ _ rest fit.1)
-
-pub shape_of-t-then-path-end : goal.shape_of-t-then-path-end
-shape_of-t-then-path-end c =
-    c.make_one.auto.t ∙ c.loop-t.invariant.1
 
 pub returns-then-path-end : goal.returns-then-path-end
 returns-then-path-end c =
@@ -50,11 +37,6 @@ slice_bounds-make_one-count-in-loop-t c =
 
 pub slice_bounds-make_one-start-in-loop-t : goal.slice_bounds-make_one-start-in-loop-t
 slice_bounds-make_one-start-in-loop-t c = slice_bounds-make_one-count-in-loop-t c
-
-pub slice_bounds-make_one-end-in-loop-t : goal.slice_bounds-make_one-end-in-loop-t
-slice_bounds-make_one-end-in-loop-t c =
-    let turn = c.loop-t in
-    rw c.name_end-end.ensures (end-high _ turn.from turn.invariant.0.inside)
 
 pub make_one-parent-requires : goal.make_one-parent-requires
 make_one-parent-requires c =

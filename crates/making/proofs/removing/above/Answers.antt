@@ -4,9 +4,6 @@ use native.Mathlib.Omega.{arith}
 use Rattle.making.proofs.WithinLaws.{free_parent}
 use Rattle.making.proofs.removing.above.Goals as goal
 
-pub parent-requires : goal.parent-requires
-parent-requires c = let pre = c.requires in (pre.0, pre.1, sym c.used.ensures ∙ c.if-used.true)
-
 pub returns : goal.returns
 returns c =
     (omega arith, free_parent _ c.args.i (sym c.used.ensures ∙ c.if-used.false))

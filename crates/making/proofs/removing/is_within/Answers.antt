@@ -1,5 +1,5 @@
 -- A slot lies below another where it is met on the way up, which is as long as a path at most.
-use mathlib.Core.Path.{◌≡◌, ap, sym, ◌∙◌, refl}
+use mathlib.Core.Path.{◌≡◌, ap, sym, ◌∙◌}
 use Prim.Native.Nat.{ℕ, ◌-◌, ◌+◌}
 use native.Mathlib.Omega.{arith}
 use Rattle.rules.specs.Layout.{table_of}
@@ -7,9 +7,6 @@ use Rattle.rules.specs.Node.{within}
 use Rattle.rules.specs.Size.{deepest}
 use Rattle.making.proofs.WithinLaws.{within_here, within-root, within_up, within_end}
 use Rattle.making.proofs.removing.is_within.Goals as goal
-
-pub loop-init : goal.loop-init
-loop-init c = (omega arith, refl)
 
 pub returns-then-i-at : goal.returns-then-i-at
 returns-then-i-at c = let turn = c.loop in within_here _ _ (deepest - turn.counter) turn.at c.if-i-at.true ∙ sym turn.invariant.1

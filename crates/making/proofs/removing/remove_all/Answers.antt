@@ -1,22 +1,13 @@
 -- The slots before the one in turn are removed; the rest of the list is still to be.
-use mathlib.Core.Path.{refl, ◌∙◌}
+use mathlib.Core.Path.{◌∙◌}
 use native.Mathlib.Omega.{arith}
-use Rattle.making.proofs.SweptLaws.{to_remove, removed_next, removed-all}
+use Rattle.making.proofs.SweptLaws.{removed_next, removed-all}
 use Rattle.making.proofs.removing.remove_all.Goals as goal
-
-pub loop-i-init : goal.loop-i-init
-loop-i-init c = (refl, to_remove _ _ c.requires.0)
-
-pub remove-requires : goal.remove-requires
-remove-requires c = c.loop-i.invariant.1.canonical
 
 pub loop-i-preserved : goal.loop-i-preserved
 loop-i-preserved c =
     let turn = c.loop-i in
     (c.remove.auto.t ∙ turn.invariant.0, removed_next _ _ turn.i-index _ turn.invariant.1 (omega arith) c.remove.ensures)
-
-pub shape_of-t : goal.shape_of-t
-shape_of-t c = c.loop-i.invariant.0
 
 pub returns : goal.returns
 returns c =

@@ -3,7 +3,7 @@ use mathlib.Core.Path.{◌∙◌, refl}
 use Prim.Native.Nat.{◌<◌}
 use native.Mathlib.Omega.{arith}
 use lib.ListN.{length}
-use Rattle.making.proofs.SweptLaws.{swept_canonical, swept_none, swept_here, swept_further, swept_all}
+use Rattle.making.proofs.SweptLaws.{swept_canonical, swept_none, swept_here, swept_further}
 use Rattle.making.proofs.removing.sweep.Goals as goal
 use Rattle.making.proofs.removing.sweep.Goals.{then-marked, else-marked}
 
@@ -26,9 +26,3 @@ loop-j-preserved c =
       | then-marked w ↦ (long, w.t-is ∙ swept_here marks s j h w.if-marked.true inv.1 w.clear_slot.ensures)
       | else-marked w ↦ (long, w.t-is ∙ swept_further marks s j h w.if-marked.false inv.1)
     ]
-
-pub shape_of-t : goal.shape_of-t
-shape_of-t c = c.loop-j.invariant.0
-
-pub returns : goal.returns
-returns c = let turn = c.loop-j in swept_all _ _ turn.j (omega arith) turn.invariant.1

@@ -1,5 +1,4 @@
 -- The base's text, the domain's decimal, a slash and the path stand one behind the other; a decimal has 20 digits at most, so there is room.
-use mathlib.Core.Path.{◌∙◌}
 use Prim.Native.Nat.{◌≤◌}
 use native.Mathlib.Omega.{arith}
 use lib.ListN.{length-set}
@@ -27,10 +26,6 @@ overflow_add-result c = omega (arith, short (goal.at.overflow_add-result c).Afte
 
 pub overflow_add-result-2 : goal.overflow_add-result-2
 overflow_add-result-2 c = omega (arith, short (goal.at.overflow_add-result-2 c).After-put_decimal-at)
-
-pub shape_of-into : goal.shape_of-into
-shape_of-into c =
-    c.copy-2.auto.into ∙ (length-set c.put_decimal-at.new.into _ _ ∙ (c.put_decimal-at.auto.into ∙ c.copy.auto.into))
 
 pub returns : goal.returns
 unfolding front text

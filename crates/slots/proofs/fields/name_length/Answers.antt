@@ -1,13 +1,7 @@
 -- The length is the six bits above the value's, and these are the high bits of the second byte.
-use Prim.Native.Nat.{◌+◌, ◌*◌}
-use Rattle.rules.specs.Size.{slot_size}
 use Rattle.octets.proofs.Bytes.{bytes-known}
 use Rattle.slots.proofs.Reading.{name-length_byte}
-use native.Mathlib.Omega.{arith}
 use Rattle.slots.proofs.fields.name_length.Goals as goal
-
-pub overflow_cast-result : goal.overflow_cast-result
-overflow_cast-result c = omega (arith, c.type_inv.t (c.args.i * slot_size + 1))
 
 pub returns : goal.returns
 returns c = name-length_byte c.args.t.now (bytes-known c.args.t.now c.type_inv.t) c.requires.1 _

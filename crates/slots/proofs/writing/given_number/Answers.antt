@@ -3,13 +3,6 @@ use native.Mathlib.Omega.{arith}
 use Rattle.slots.proofs.Numbers.{given_at_lem, given_past}
 use Rattle.slots.proofs.writing.given_number.Goals as goal
 
-pub overflow_mul-result : goal.overflow_mul-result
-overflow_mul-result c =
-    omega (arith, c.requires.0.kinds c.args.k c.if-k-count.true)
-
-pub overflow_add-result : goal.overflow_add-result
-overflow_add-result c = omega (arith, given_at_lem _ _ _ c.requires.0 c.args.k c.if-k-count.true)
-
 pub returns-then-k-count : goal.returns-then-k-count
 returns-then-k-count c = given_at_lem _ _ _ c.requires.0 c.args.k c.if-k-count.true
 

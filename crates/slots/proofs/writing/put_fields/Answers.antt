@@ -1,14 +1,6 @@
 -- Each field is within its bits, so the three stores are the bytes of the packed number.
-use native.Mathlib.Omega.{arith}
-use lib.ListN.{length-set}
 use Rattle.slots.proofs.Put.{fields_put}
 use Rattle.slots.proofs.writing.put_fields.Goals as goal
-
-pub bounds-t-at-2 : goal.bounds-t-at-2
-bounds-t-at-2 c = simp length-set (omega arith)
-
-pub bounds-t-at-3 : goal.bounds-t-at-3
-bounds-t-at-3 c = simp length-set (omega arith)
 
 pub returns : goal.returns
 returns c = fields_put _ _ _ _ _ _ c.requires.0 c.requires.1 c.requires.2 c.requires.3 c.requires.4
