@@ -12,7 +12,7 @@ use octets::numbers::number;
 use octets::sizes::{DOMAIN_SIZE, DOMAINS};
 use senders::{domain_of, is_control};
 
-// Whether place k is taken.
+// Whether place k is taken. Each table has a test of its own, one line, since each contract speaks of that table's list.
 pub fn used(s: &[u8], k: usize) -> bool
     requires { (k < most_domains) × (length s.now ≡ domains_size) }
     ensures { result ≡ taken (get_or (domains_of s.now) k none) }

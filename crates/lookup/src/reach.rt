@@ -15,7 +15,7 @@ use octets::sizes::SLOTS;
 use paths::names::name_end;
 use slots::fields::name;
 
-#[derive(Drop)]
+#[derive(Clone, Copy, Debug, PartialEq, Eq)]
 pub struct Reached {
     pub slot: usize,
     pub at: usize,

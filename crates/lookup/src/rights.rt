@@ -9,7 +9,7 @@ use senders::is_control;
 use slots::fields::{entry_at, entry_count};
 
 // Why the access is what it is: the control domain, the owner, the later entry of that place, or none of these.
-#[derive(Drop)]
+#[derive(Clone, Copy, Debug, PartialEq, Eq)]
 pub enum Ground {
     Control,
     Owner,
@@ -17,7 +17,7 @@ pub enum Ground {
     Default,
 }
 
-#[derive(Drop)]
+#[derive(Clone, Copy, Debug, PartialEq, Eq)]
 pub struct Access {
     // A set of two bits, 1 to read and 2 to write, which the rule book has as a number too.
     pub access: u32,

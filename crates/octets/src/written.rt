@@ -9,6 +9,7 @@ pub fn digits(n: u64) -> usize
 {
     let mut count: usize = 1;
     let mut left = n;
+    // The turns go by what is left of n, which no range tells.
     while 10 <= left {
         left = left / 10;
         count += 1;

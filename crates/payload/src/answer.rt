@@ -9,7 +9,7 @@ pub struct Path {
     pub form: Form,
 }
 
-// A permission entry: the access (none 0, read 1, write 2, both 3) of a domain.
+// A permission entry: the access (none 0, read 1, write 2, both 3) of a domain. The access is two bits in the rule book too, so it stays a number.
 #[derive(Clone, Copy, Debug, PartialEq, Eq)]
 pub struct Entry {
     pub access: u32,

@@ -59,6 +59,7 @@ fn permissions(s: &[u8], from: Cursor) -> Option<Entries>
 {
     let mut entries = Entries::none();
     let mut cursor = from;
+    // A turn goes to the cursor behind a string, which is passed on by value.
     loop {
         match cursor.next(s) {
             Taken::End => return Some(entries),

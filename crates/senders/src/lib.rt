@@ -6,7 +6,7 @@ ghost use Rattle.rules.specs.Domain.{domain_of, is_control};
 ghost use Rattle.senders.specs.Speaks.{Speaks};
 
 // Rights and owners go by the domain; watches and transactions by the connection.
-#[derive(Drop)]
+#[derive(Clone, Copy, Debug, PartialEq, Eq)]
 pub struct Sender {
     pub connection: u32,
     pub domain: u32,

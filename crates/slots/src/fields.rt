@@ -65,7 +65,7 @@ pub fn value(t: &[u8], i: usize) -> &[u8]
     &t[from..from + n]
 }
 
-#[derive(Drop)]
+#[derive(Clone, Copy, Debug, PartialEq, Eq)]
 pub struct Entry {
     // A set of two bits, 1 to read and 2 to write, which the rule book has as a number too.
     pub access: u32,

@@ -11,7 +11,7 @@ ghost use Rattle.transactions.specs.Transaction.{KeptTransactions, transaction_o
 use octets::numbers::number;
 use octets::sizes::{CHANGE_FIELDS_SIZE, CHANGE_SIZE, CHANGES_AT, TRANSACTION_SIZE, TRANSACTIONS};
 
-// Whether place k is open.
+// Whether place k is open. Each table has a test of its own, one line, since each contract speaks of that table's list.
 pub fn is_open(s: &[u8], k: usize) -> bool
     requires { (k < most_transactions) × (length s.now ≡ transactions_size) }
     ensures { result ≡ taken (get_or (transactions_of s.now) k none) }

@@ -16,7 +16,7 @@ use octets::numbers::number;
 use octets::sizes::{TOKEN_AT, WATCH_FIELDS_SIZE, WATCH_SIZE, WATCHES};
 use senders::domain_of;
 
-// Whether place k is taken.
+// Whether place k is taken. Each table has a test of its own, one line, since each contract speaks of that table's list.
 pub fn used(s: &[u8], k: usize) -> bool
     requires { (k < most_watches) × (length s.now ≡ watches_size) }
     ensures { result ≡ taken (get_or (watches_of s.now) k none) }
