@@ -1,22 +1,17 @@
 -- The library's words on slices of bytes, as the rule book's.
-use mathlib.Core.Path.{◌≡◌, refl, sym, ap, ◌∙◌}
+use mathlib.Core.Path.{◌≡◌, refl, ap}
 use mathlib.Core.Bool.{Bool, ◌&&◌}
-use mathlib.Core.List.{[], ◌∷◌, append_assoc}
-use Prim.Native.Nat.{ℕ}
+use mathlib.Core.List.{[], ◌∷◌}
 use native.Mathlib.Omega.{arith}
 use lib.Dec.{eqb}
-use lib.ListN.{length}
-use lib.Seq.{take_all}
 use lib.Pointwise.{pointwise}
-use borrow.Rule.Slice.PartMut.{put_mid}
 use Rattle.std.specs.Prelude.{nat_eq, Some}
 use Rattle.std.specs.List.{starts_with}
 use Rattle.std.specs.Ordering.{nat_cmp, is_lt, is_some_and}
 use Rattle.std.specs.Cmp.Lexicographic.{slice_partial_cmp}
 use Rattle.std.proofs.lemmas.Cmp.{same_from_slice_cmp_tested}
-use Rattle.std.proofs.lemmas.Slice.{put_mid-paste}
 use Rattle.std.proofs.lemmas.Bool.Decides.{nat_tests}
-use Rattle.rules.specs.Octets.{Octets, same, less, begins, paste}
+use Rattle.rules.specs.Octets.{Octets, same, less, begins}
 
 pub same_bytes : (a b : Octets) → pointwise nat_eq a b ≡ same a b
 unfolding same
@@ -34,8 +29,3 @@ begins_with (x ∷ xs) (y ∷ ys) = ap (λ (t : Bool). nat_eq x y && t) (begins_
 pub comes_before : (a b : Octets) (r : Bool) → r ≡ is_some_and is_lt (slice_partial_cmp (λ x y. Some (nat_cmp x y)) a b) → r ≡ less a b
 unfolding less
 comes_before = same_from_slice_cmp_tested nat_cmp is_lt less refl (λ _ _. refl) (λ _ _. refl) (λ x y xs ys o h. grind (arith, nat_tests))
-
--- what is written over a part of a buffer
-pub pasted : (i k : ℕ) (ys xs : Octets) → k ≡ length ys → put_mid i k xs ys ≡ paste i ys xs
-unfolding paste
-pasted i k ys xs e = put_mid-paste i k xs ys ys (length ys) refl (sym e) refl ∙ rw (take_all (length ys) ys (omega arith), append_assoc) refl

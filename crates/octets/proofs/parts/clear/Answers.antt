@@ -1,16 +1,15 @@
-use mathlib.Core.Path.{◌≡◌, ap, ◌∙◌}
-use Prim.Native.Nat.{ℕ, ◌+◌, ◌-◌}
+-- After i turns the first i of the zeros are in place.
+use mathlib.Core.Path.{sym}
 use native.Mathlib.Omega.{arith}
-use lib.ListN.{drop, length-drop, length-replicate, replicate}
-use lib.Seq.{length-take-le}
-use Rattle.octets.proofs.Library.{pasted}
+use lib.ListN.{length-replicate}
+use Rattle.rules.proofs.Paste.{paste_nil, paste-zero, paste_all}
 use Rattle.octets.proofs.parts.clear.Goals as goal
 
+pub loop-i-init : goal.loop-i-init
+loop-i-init c = sym (paste_nil _ _)
+
+pub loop-i-preserved : goal.loop-i-preserved
+loop-i-preserved c = paste-zero _ c.args.n _ c.loop-i.i c.loop-i.invariant (omega arith) (omega arith)
+
 pub returns : goal.returns
-returns c =
-    let at = c.args.at in
-    let n = c.args.n in
-    let into = c.args.into.now in
-    let long = length-take-le (at + n - at) (drop at into) (rw length-drop (omega arith)) in
-    let zeros = c.fill.ensures.after (λ y h. h) ∙ ap (λ (k : ℕ). replicate k 0) (let e : at + n - at ≡ n = omega arith in long ∙ e) in
-    rw zeros (pasted at (at + n - at) (replicate n 0) into (rw length-replicate (omega arith)))
+returns c = paste_all _ _ _ c.loop-i.i (rw length-replicate c.loop-i-test.false) c.loop-i.invariant
