@@ -22,10 +22,10 @@ const TYPES: [&[u8]; 14] = [
 ];
 
 // What stands behind the first k blanks, which is nothing where there are fewer.
-pub fn behind(s: &[u8], k: usize) -> &[u8]
-    requires { k < 8 }
-{
-    s.splitn(k + 1, |b| *b == b' ').nth(k).unwrap_or(b"")
+pub fn behind(s: &[u8], k: usize) -> &[u8] {
+    s.splitn(k.saturating_add(1), |b| *b == b' ')
+        .nth(k)
+        .unwrap_or(b"")
 }
 
 // The word behind the first k blanks.
