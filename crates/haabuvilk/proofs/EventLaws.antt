@@ -43,7 +43,8 @@ module _ (watches domains events message : Octets) where
       unsound-domains d = rw (z, d) refl
 
       module _ (d : sound_domains domains ≡ true) where
-        pub unsound-watches : sound_watches (domains_of domains) watches ≡ false → MessageMeets watches domains events message count i k (messaged (call_number unsound) 0 message)
+        pub unsound-watches : sound_watches (domains_of domains) watches ≡ false
+            → MessageMeets watches domains events message count i k (messaged (call_number unsound) 0 message)
         unfolding event_call refused_with
         unsound-watches w = rw (z, d, w) refl
 

@@ -24,7 +24,7 @@ use Rattle.rules.specs.Call.{sound, world_of, type_of, tx_of, len_of, payload_of
 use Rattle.rules.specs.Call.{request_by, request_call}
 use Rattle.rules.proofs.Compare.{both_true}
 use Rattle.rules.proofs.Fields.{length_big}
-use Rattle.std.specs.Prelude.{⊤, Ok, Err}
+use Rattle.std.specs.Prelude.{Ok, Err}
 use Rattle.replies.proofs.Payloads.{payload-fits}
 use Rattle.replies.specs.Meant.{Reply}
 use Rattle.replies.specs.Framed.{Told, Held, Framed}
@@ -113,9 +113,9 @@ module _ (t : Tables) (reply events : Octets) (c : Connection) (m : Octets) wher
   unfolding request_call
   turned_away_lem n v x e h k = rw (k, ← e, h) (by_refusal x)
 
-  pub is_to_be : (v : Checked) (x : ⊤) → verdict_meant v ≡ request_verdict t reply events c m → v ≡ Ok x → call_number (request_verdict t reply events c m) ≡ 0
+  pub handled-number : request_verdict t reply events c m ≡ handled → call_number (request_verdict t reply events c m) ≡ 0
   unfolding call_number
-  is_to_be v x e h = rw (← e, h) refl
+  handled-number e = rw e refl
 
   handled_only : (v : Verdict) → call_number v ≡ 0 → request_by t reply events v c m ≡ delivered t reply events m (outcome (world_of t) c m)
   unfolding request_by call_number is_handled

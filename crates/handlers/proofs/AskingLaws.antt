@@ -161,7 +161,8 @@ module _ (cs xs : Octets) (k : ℕ) (reply : Octets) (s : InCopy cs xs k reply) 
       events events o
   full-handled a many events reply' o t p =
       let here = ap table_of (copy-part cs k) ∙ sym (copy_of_lem w cs k cw s.place.below) in
-      done_so w _ reply o events (ninth_reply (a (copy_of w k))) w reply' (reply_of o) _ (in_transaction_full w k (transaction_of xs k) (a (copy_of w k)) many) p
+      done_so w _ reply o events (ninth_reply (a (copy_of w k))) w reply' (reply_of o) _
+      (in_transaction_full w k (transaction_of xs k) (a (copy_of w k)) many) p
       (subst (λ (y : N.Table). Told (ninth_reply (a y)) (reply_of o) reply reply') here t)
       (same_tables_lem refl (copies-alone w cs s.whole cw) refl (transactions-alone w xs s.place.kept xw) refl)
 

@@ -109,7 +109,8 @@ module _ {d : Domain} {ask : Ask} {path v : Octets} (q : Asking d ask path v) (t
         done_so w _ reply o events z.reply w reply' (told r) _ (plain_still w z k) p answered.reply
         (same_tables_lem (answered.table ∙ ap table_bytes still) refl refl (transactions-alone w xs s.kept xw) refl)
 
-    pub change-done : (g : Given) → r ≡ Ok g → (m : ℕ) → Hearing ask (table_of t) (watches_of ws) path m → (removed : Bool) (parents : ℕ) → Makes r path removed parents →
+    pub change-done : (g : Given) → r ≡ Ok g → (m : ℕ) → Hearing ask (table_of t) (watches_of ws) path m →
+        (removed : Bool) (parents : ℕ) → Makes r path removed parents →
         (xs' events' : Octets) (n : ℕ) →
         ((before : Table) → Mask (mask_of (hears before before (happened removed path)) (watches_of ws)) m → NewAbove before removed parents path →
         Changed before t' ws xs (change_given removed parents path) events xs' events' n) → o ≡ with_events (Ok g.length) n →
@@ -125,5 +126,6 @@ module _ {d : Domain} {ask : Ask} {path v : Octets} (q : Asking d ask path v) (t
         let same : heard_change (table_of t) (table_of t') (watches_of ws) c ≡ heard_change w.nodes z.table w.watches c =
         rw (back, nw, ww) refl in
         heard_so w _ reply o z.reply _ _ reply' events events' g.length n _ (plain_done w z c (sym answered.change ∙ e)) out
-        (subst (λ (y : Answer). Told z.reply (told y) reply reply') is answered.reply) (p.0 ∙ ap (λ (rs : List Record). paste 0 (flat_map record_bytes rs) events) same) (p.1 ∙ ap length same)
+        (subst (λ (y : Answer). Told z.reply (told y) reply reply') is answered.reply)
+        (p.0 ∙ ap (λ (rs : List Record). paste 0 (flat_map record_bytes rs) events) same) (p.1 ∙ ap length same)
         (same_tables_lem answered.table refl refl (h.stale ∙ ap (λ (y : Transactions). transactions_bytes (staled y)) (sym xw)) refl)

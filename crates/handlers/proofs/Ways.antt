@@ -67,7 +67,9 @@ module _ (w : World) (o : W.Outcome) (reply : Octets) where
 
   -- done, with event records from the first on
   pub heard_so : (r : Outcome) (a : A.Reply) (after : World) (rs : List Record) (reply' events events' : Octets) (x n : ℕ) (t : Tables) →
-      o ≡ to w a after rs → r ≡ with_events (Ok x) n → Told a (Ok x) reply reply' → events' ≡ paste 0 (flat_map record_bytes rs) events → n ≡ length rs → t ≡ its_tables after →
+      o ≡ to w a after rs → r ≡ with_events (Ok x) n → Told a (Ok x) reply reply' →
+      events' ≡ paste 0 (flat_map record_bytes rs) events → n ≡ length rs → t ≡ its_tables after →
       Handled o t reply reply' events events' r
   unfolding to tables_of
-  heard_so r a after rs reply' events events' x n t q p h b l k = rw (q, p) (record { tables = k; reply = h; events = b; count = l; page = refl; channel = refl })
+  heard_so r a after rs reply' events events' x n t q p h b l k =
+      rw (q, p) (record { tables = k; reply = h; events = b; count = l; page = refl; channel = refl })

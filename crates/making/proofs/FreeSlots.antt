@@ -40,7 +40,8 @@ counted ts (suc n) i e = go (is_used (get_or ts i none)) refl (counted ts n (i +
     h : i < length ts
     h = omega arith
 
-    go : (b : Bool) → is_used (get_or ts i none) ≡ b → length (filter (λ j. not (is_used (get_or ts j none))) (range_with_len (i + 1) n)) ≡ free_count (drop (i + 1) ts) →
+    go : (b : Bool) → is_used (get_or ts i none) ≡ b →
+        length (filter (λ j. not (is_used (get_or ts j none))) (range_with_len (i + 1) n)) ≡ free_count (drop (i + 1) ts) →
         length (filter (λ j. not (is_used (get_or ts j none))) (range_with_len i (suc n))) ≡ free_count (drop i ts)
     go true u rest = rw u (rest ∙ sym (count_further ts i h u))
     go false u rest = rw u (ap suc rest ∙ sym (count_here ts i h u))

@@ -7,7 +7,7 @@ pub fn copy(into: &mut [u8], at: usize, from: &[u8])
     requires { at + length from.now ≤ length into.old }
     ensures { into.new ≡ paste at from.now into.old }
 {
-    // A loop over places compiles to one block copy; with `copy_from_slice` a transaction took 12 % more instructions.
+    // With `copy_from_slice` here and `fill` below a transaction takes a tenth more instructions than with loops.
     for i in 0..from.len() {
         into[at + i] = from[i];
     }
@@ -18,7 +18,6 @@ pub fn clear(into: &mut [u8], at: usize, n: usize)
     requires { at + n ≤ length into.old }
     ensures { into.new ≡ paste at (replicate n 0) into.old }
 {
-    // A loop for the same reason as above, in place of `fill`.
     for i in 0..n {
         into[at + i] = 0;
     }

@@ -19,14 +19,16 @@ pub returns-then-introduced : goal.returns-then-introduced
 returns-then-introduced c =
     let pre = c.requires in
     λ w l events. refused_so w _ _ _ _ _
-    (introduce_twice w _ _ _ _ l.domains (length-domains_of _) (sym c.introduced.ensures ∙ c.if-introduced.true)) (same_tables_lem refl refl refl refl (domains-alone w _ pre.1 l.domains))
+    (introduce_twice w _ _ _ _ l.domains (length-domains_of _) (sym c.introduced.ensures ∙ c.if-introduced.true))
+    (same_tables_lem refl refl refl refl (domains-alone w _ pre.1 l.domains))
 
 pub returns-in_default : goal.returns-in_default
 returns-in_default c =
     let pre = c.requires in
     let fresh = sym c.introduced.ensures ∙ c.if-introduced.false in
     λ w l events. refused_so w _ _ _ _ _
-    (introduce-full w _ _ _ _ l.domains (length-domains_of _) fresh _ (none-free _ _ _ c.lowest_free.ensures.found c.in_default.not-Some) (omega arith)) (same_tables_lem refl refl refl refl (domains-alone w _ pre.1 l.domains))
+    (introduce-full w _ _ _ _ l.domains (length-domains_of _) fresh _ (none-free _ _ _ c.lowest_free.ensures.found c.in_default.not-Some) (omega arith))
+    (same_tables_lem refl refl refl refl (domains-alone w _ pre.1 l.domains))
 
 pub returns : goal.returns
 unfolding event_name

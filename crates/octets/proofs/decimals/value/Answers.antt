@@ -22,8 +22,10 @@ overflow_add-n c = omega (arith, read_digit _ _ _ c.requires.0 c.loop-c-test.tru
 
 pub loop-c-preserved : goal.loop-c-preserved
 loop-c-preserved c =
-    let p = c.loop-c in
-    (ten_more p.c-index p.invariant.0 (omega (arith, read_digit _ _ _ c.requires.0 c.loop-c-test.true c.requires.1 c.loop-c.invariant.0)), p.invariant.1 ∙ value_next _ _ p.c-index c.loop-c-test.true)
+    let p = c.loop-c in (
+      ten_more p.c-index p.invariant.0 (omega (arith, read_digit _ _ _ c.requires.0 c.loop-c-test.true c.requires.1 c.loop-c.invariant.0)),
+      p.invariant.1 ∙ value_next _ _ p.c-index c.loop-c-test.true,
+    )
 
 pub returns : goal.returns
 returns c = value-end _ _ _ _ c.loop-c-test.false c.loop-c.invariant.1

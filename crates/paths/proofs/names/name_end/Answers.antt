@@ -11,7 +11,8 @@ use Rattle.paths.proofs.names.name_end.Goals.{After-position}
 
 found : (c : After-position) → c.position.result ≡ position (λ b. eqb b 47) (drop c.args.at c.args.s.now)
 found c =
-    let rest = c.iter.ensures.rest ∙ take_all (length c.args.s.now - c.args.at) (drop c.args.at c.args.s.now) (omega (arith, length-drop c.args.at c.args.s.now)) in
+    let rest = c.iter.ensures.rest
+    ∙ take_all (length c.args.s.now - c.args.at) (drop c.args.at c.args.s.now) (omega (arith, length-drop c.args.at c.args.s.now)) in
     position_from_yields_List (λ b. eqb b 47) _ _ c.position.result c.position.ensures.ran (YieldsList-from_slice _ rest) (λ x b q k. search (rules, tests))
 
 pub returns-in-Some : goal.returns-in-Some

@@ -16,7 +16,9 @@ returns-then-is_foreign c =
     let special = c.is_special-special.ensures in
     let foreign = c.is_foreign.ensures in
     λ w l e.
-    refused_so w _ _ _ _ _ (foreign_place _ a.path a.sender.domain c.requires.3.path _ c.requires.0 _ _ special foreign w _ c.if-is_foreign.true) (same_tables_lem refl refl (watches-alone w _ c.requires.2 l.watches) refl refl)
+    refused_so w _ _ _ _ _
+    (foreign_place _ a.path a.sender.domain c.requires.3.path _ c.requires.0 _ _ special foreign w _ c.if-is_foreign.true)
+    (same_tables_lem refl refl (watches-alone w _ c.requires.2 l.watches) refl refl)
 
 pub slice_bounds-text-end : goal.slice_bounds-text-end
 slice_bounds-text-end c =
