@@ -2,6 +2,7 @@
 use mathlib.Core.Path.{◌≡◌, refl, sym, ap, ◌∙◌}
 use mathlib.Core.Bool.{Bool, true, false}
 use Prim.Native.Nat.{ℕ, zero, suc, ◌+◌, ◌-◌, ◌*◌, ◌/◌, ◌%◌, ◌^◌, ◌≤◌, ◌<◌}
+use native.Mathlib.Nat.{add_assoc}
 use native.Mathlib.Omega.{arith}
 use lib.Dec.{eqb}
 use mathlib.Core.List.{[], ◌∷◌, ◌++◌}
@@ -13,7 +14,7 @@ use mir.Val.{Fits}
 use mir.Syntax.{w8, w64}
 use Rattle.std.specs.Int.{from_be_bytes}
 use Rattle.rules.specs.Octets.{Octets, bit, big_from, field, paste}
-use Rattle.rules.proofs.Fields.{field_bound}
+use Rattle.rules.proofs.Fields.{field-split, field_two, field_bound}
 use Rattle.octets.specs.Read.{Bytes, Read}
 
 pub bytes-known : (s : Octets) → ((j : ℕ) → Fits w8 (get_or s j 0)) → Bytes s
@@ -22,6 +23,16 @@ bytes-known s f j = omega (arith, f j)
 -- a number that was read is below the bound of its bytes
 pub read_bound : {s : Octets} {at n r : ℕ} → Read s at n r → at + n ≤ length s → r < 256 ^ n
 read_bound {s} {at} {n} got h = rw got.value (field_bound s got.bytes n at h)
+
+-- a field of four bytes, and one of eight by two of four
+pub field_four : (s : Octets) (at : ℕ) → at + 4 ≤ length s →
+    field s at 4 ≡ get_or s at 0 * 16777216 + get_or s (at + 1) 0 * 65536 + get_or s (at + 2) 0 * 256 + get_or s (at + 3) 0
+field_four s at h =
+    field-split s at 2 2 (omega arith)
+    ∙ rw (field_two s at (omega arith), field_two s (at + 2) (omega arith), add_assoc at 2 1) (omega arith)
+
+pub field_eight : (s : Octets) (at : ℕ) → at + 8 ≤ length s → field s at 8 ≡ field s at 4 * 4294967296 + field s (at + 4) 4
+field_eight s at h = field-split s at 4 4 (omega arith)
 
 pub bit_of : (x : ℕ) → x < 2 → bit (eqb x 1) ≡ x
 bit_of zero h = refl

@@ -1,4 +1,5 @@
 pub mod Gather
+pub mod Order
 pub mod Digits
 pub mod Ranges
 pub mod Padding

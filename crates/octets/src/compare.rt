@@ -3,12 +3,18 @@ ghost use Rattle.std.specs.Prelude.{◌≡◌, ◌+◌, ◌≤◌, length};
 ghost use Rattle.rules.specs.Octets.{same, less, begins, all_zero};
 ghost use Rattle.octets.specs.Numbers.{rest_zero};
 
-// Whether a and b are the same bytes.
-#[tactic(auto, using(crate::proofs::Library::same_bytes))]
+// Whether a and b are the same bytes. Every byte is looked at, with one test at the end.
 pub fn same(a: &[u8], b: &[u8]) -> bool
     ensures { result ≡ same a.now b.now }
 {
-    a == b
+    if a.len() != b.len() {
+        return false;
+    }
+    let mut differ: u8 = 0;
+    for i in 0..a.len() {
+        differ = differ | (a[i] ^ b[i]);
+    }
+    differ == 0
 }
 
 // Whether every byte of s is 0. Every byte is looked at, with one test at the end.
@@ -42,7 +48,12 @@ pub fn rest_zero(s: &[u8], at: usize, n: usize, size: usize) -> bool
 pub fn less(a: &[u8], b: &[u8]) -> bool
     ensures { result ≡ less a.now b.now }
 {
-    a < b
+    for (x, y) in a.iter().zip(b) {
+        if *x != *y {
+            return *x < *y;
+        }
+    }
+    a.len() < b.len()
 }
 
 // Whether a begins b.
