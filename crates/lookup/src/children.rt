@@ -49,8 +49,9 @@ pub fn children(t: &[u8], p: usize, list: &mut [u8]) -> usize
     ensures { Listed t.now p list.new result }
 {
     let mut n = 0;
+    // A free slot costs one test: `used` goes first, though has_parent asks it again.
     for i in (1..SLOTS).rev() {
-        if has_parent(t, i, p) {
+        if used(t, i) && has_parent(t, i, p) {
             let k = place(t, &list[..], n, i);
             put_in(list, n, k, (i % 256) as u8);
             n += 1;

@@ -13,7 +13,7 @@ use crate::children::has_parent;
 use octets::compare::same;
 use octets::sizes::SLOTS;
 use paths::names::name_end;
-use slots::fields::name;
+use slots::fields::{name, used};
 
 #[derive(Clone, Copy, Debug, PartialEq, Eq)]
 pub struct Reached {
@@ -21,11 +21,14 @@ pub struct Reached {
     pub at: usize,
 }
 
-// Whether slot i is the child of slot p with a name.
+// Whether slot i is the child of slot p with a name. A free slot costs one test: `used` goes first, though has_parent asks it again.
 fn is_child(t: &[u8], i: usize, p: usize, n: &[u8]) -> bool
     requires { (i < slots) × (sound_table t.now ≡ true) }
     ensures { result ≡ is_child p n.now (slot_at t.now i) }
 {
+    if !used(t, i) {
+        return false;
+    }
     has_parent(t, i, p) && same(name(t, i), n)
 }
 

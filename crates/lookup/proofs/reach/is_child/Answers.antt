@@ -1,11 +1,18 @@
--- Parent and name decide.
+-- A free slot is nobody's child; of a used one parent and name decide.
 use mathlib.Core.Path.{sym, ap, ◌∙◌}
 use Rattle.rules.specs.Octets.{Octets, same}
 use Rattle.rules.specs.Layout.{table_of}
 use Rattle.slots.proofs.Canonical.{sound_canonical, name-short}
-use Rattle.lookup.proofs.ChildrenLaws.{parent-used}
+use Rattle.lookup.proofs.ChildrenLaws.{unused_parent, parent-used}
 use Rattle.lookup.proofs.ReachLaws.{other_parent, same-parent}
 use Rattle.lookup.proofs.reach.is_child.Goals as goal
+
+pub used-requires : goal.used-requires
+used-requires c = (c.requires.0, (sound_canonical _ c.requires.1).whole)
+
+pub returns-then-not-used : goal.returns-then-not-used
+returns-then-not-used c =
+    sym (other_parent c.args.p c.args.n.now _ (unused_parent _ _ (sym c.used.ensures ∙ c.if-not-used.true)))
 
 pub name-requires : goal.name-requires
 name-requires c =
