@@ -15,9 +15,10 @@ for crate in ${*:-$(sh tests/order.sh)}; do
         line=$(grep -m 1 -F "must-fail $name: " "$said" || true)
         case $line in
         '') why='was not tried' ;;
-        *': refused, as it must be: '*) why= ;;
         *': refused, as it must be (only because a proof file names '*) why='refused for its shape: its proof names what the edited code has not' ;;
         *': refused, as it must be (only by a limit '*) why='refused for a limit, and not at a fact' ;;
+        *': refused, as it must be: '*'gave up at one of its limits'*) why='refused where a search gave up, and not at a fact' ;;
+        *': refused, as it must be: '*) why= ;;
         *': refused, as it must be'*) why='refused with no error' ;;
         *) why='no refusal' ;;
         esac

@@ -1,6 +1,6 @@
 -- What the request call answers: where the number is not 0, where it is, and what a handled request leaves.
 use mathlib.Core.Path.{◌≡◌, refl, sym, ap, subst, ◌∙◌}
-use mathlib.Core.Bool.{Bool, true, false, cond, ◌&&◌}
+use mathlib.Core.Bool.{Bool, true, false, cond, not, false≢true, ◌&&◌}
 use mathlib.Core.List.{List, [], ◌∷◌, flat_map}
 use mathlib.Core.Option.{none-ne-some}
 use Prim.Native.Nat.{ℕ, ◌+◌, ◌-◌, ◌≤◌}
@@ -25,6 +25,7 @@ use Rattle.rules.specs.Call.{request_by, request_call}
 use Rattle.rules.proofs.Compare.{both_true}
 use Rattle.rules.proofs.Fields.{length_big}
 use Rattle.std.specs.Prelude.{Ok, Err}
+use Rattle.std.specs.Result.{result_eq}
 use Rattle.replies.proofs.Payloads.{payload-fits}
 use Rattle.replies.specs.Meant.{Reply}
 use Rattle.replies.specs.Framed.{Told, Held, Framed}
@@ -112,6 +113,17 @@ module _ (t : Tables) (reply events : Octets) (c : Connection) (m : Octets) wher
       n ≡ call_number (refusal_meant x) → RequestMeets t reply events c m (requested n 0 0 0 0 t reply events)
   unfolding request_call
   turned_away_lem n v x e h k = rw (k, ← e, h) (by_refusal x)
+
+  pub turned_by_verdict : (n : ℕ) (v : Checked) (eq : Refusal → Refusal → Bool) → verdict_meant v ≡ request_verdict t reply events c m →
+      not (result_eq (λ _ _. true) eq v (Ok tt)) ≡ true → n ≡ call_number (verdict_meant v) →
+      RequestMeets t reply events c m (requested n 0 0 0 0 t reply events)
+  turned_by_verdict n (Ok x) eq h z k = absurd (false≢true z)
+  turned_by_verdict n (Err x) eq h z k = turned_away_lem n (Err x) x h refl k
+
+  pub to_handle : (v : Checked) (eq : Refusal → Refusal → Bool) → verdict_meant v ≡ request_verdict t reply events c m →
+      not (result_eq (λ _ _. true) eq v (Ok tt)) ≡ false → request_verdict t reply events c m ≡ handled
+  to_handle (Ok x) eq h z = sym h
+  to_handle (Err x) eq h z = absurd (false≢true (sym z))
 
   pub handled-number : request_verdict t reply events c m ≡ handled → call_number (request_verdict t reply events c m) ≡ 0
   unfolding call_number

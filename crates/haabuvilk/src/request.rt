@@ -1,16 +1,30 @@
 // One message from one sender.
 ghost use Rattle.std.specs.Prelude.{◌≡◌};
-ghost use Rattle.rules.specs.Call.{handled, request_verdict};
+ghost use Rattle.rules.specs.Call.{call_number, handled, request_verdict};
 ghost use Rattle.replies.specs.Does.{tables};
+ghost use Rattle.haabuvilk.specs.Checks.{verdict_meant};
 ghost use Rattle.haabuvilk.specs.Lent.{requested, RequestMeets};
 
 use crate::checks::verdict;
-use crate::refusal::HANDLED;
+use crate::refusal::{HANDLED, Refusal};
 use octets::numbers::number32;
 use octets::sizes::{HEADER_SIZE, TX_AT};
 use replies::frame::framed;
 use requests::handle::handle;
 use senders::Sender;
+
+// The verdict on a message that is to be handled.
+const TO_HANDLE: Result<(), Refusal> = Ok(());
+
+// The call number of a verdict.
+fn number_of(verdict: Result<(), Refusal>) -> u32
+    ensures { result ≡ call_number (verdict_meant verdict) }
+{
+    match verdict {
+        Ok(()) => HANDLED,
+        Err(refusal) => refusal.number(),
+    }
+}
 
 // Handles a message that is not turned away, and leaves its results, which are 0 before.
 fn handle_message(
@@ -102,8 +116,8 @@ pub fn haabuvilk_request(
         reply,
         events,
     );
-    if let Err(refusal) = verdict {
-        return refusal.number();
+    if verdict != TO_HANDLE {
+        return number_of(verdict);
     }
     handle_message(
         nodes,

@@ -1,8 +1,12 @@
 -- The verdict turns away before anything but the results is written.
-use mathlib.Core.Path.{sym, ap, ◌∙◌}
-use Rattle.haabuvilk.specs.Checks.{verdict_meant}
-use Rattle.haabuvilk.proofs.RequestLaws.{turned_away_lem}
+use mathlib.Core.Path.{sym, ◌∙◌}
+use Rattle.haabuvilk.proofs.RequestLaws.{turned_by_verdict, to_handle}
 use Rattle.haabuvilk.proofs.request.haabuvilk_request.Goals as goal
 
-pub returns-in-Err : goal.returns-in-Err
-returns-in-Err c = turned_away_lem _ _ _ _ _ _ _ _ c.verdict-verdict.ensures c.in-Err.is c.number.ensures
+pub returns-then-ne : goal.returns-then-ne
+returns-then-ne c =
+    turned_by_verdict _ _ _ _ _ _ c.verdict-verdict.result _ c.verdict-verdict.ensures (sym c.ne.ensures ∙ c.if-ne.true) c.number_of.ensures
+
+pub handle_message-requires-clause-verdict : goal.handle_message-requires-clause-verdict
+handle_message-requires-clause-verdict c =
+    to_handle _ _ _ _ _ c.verdict-verdict.result _ c.verdict-verdict.ensures (sym c.ne.ensures ∙ c.if-ne.false)
