@@ -5,12 +5,13 @@ use mathlib.Core.List.{[], ◌∷◌}
 use mathlib.Core.Logic.{◌⊎◌, inl, inr, ⊎_elim}
 use Prim.Native.Nat.{ℕ, suc, ◌+◌, ◌-◌, ◌<◌, ◌≤◌}
 use native.Mathlib.Numerals.{add-one}
+use native.Mathlib.Nat.{add-zero}
 use native.Mathlib.Omega.{arith}
 use lib.Dec.{eqb, leb, ltb}
 use lib.ListN.{length, get_or, take, drop, drop_of_length-le, length-drop}
-use lib.Seq.{drop-drop}
-use borrow.Author.Tests.{le-leb, lt-leb, ltb-false, eqb-true, eqb-false}
-use Rattle.std.specs.Prelude.{Option, Some, None, position, count_by, not}
+use lib.Seq.{drop-cons, drop-drop}
+use borrow.Author.Tests.{le-leb, lt-leb, ltb-false, eqb-true, eqb-false, eq-eqb, ne_eqb}
+use Rattle.std.specs.Prelude.{Option, Some, None, position, count_by, fold, not}
 use Rattle.std.specs.List.{list_all, position_or_len, slice_split, onto_first}
 use Rattle.std.proofs.lemmas.List.Recursion.{is_position_or_len}
 use Rattle.std.proofs.lemmas.List.Splits.{length-slice_split}
@@ -191,6 +192,25 @@ all_short [] = refl
 all_short (n ∷ ns) = rw (all_short ns)
 
 -- ── how many names ──
+
+-- the slashes of a text that come to those counted so far
+abbrev pub slashes : ℕ → Octets → ℕ
+slashes n s = fold (λ a x. a + cond (eqb x 47) 1 0) n s
+
+module _ (s : Octets) (i n : ℕ) (h : i < length s) where
+  pub slash_here : get_or s i 0 ≡ 47 → slashes n (drop i s) ≡ slashes (n + 1) (drop (i + 1) s)
+  slash_here e =
+      let next : suc i ≡ i + 1 = omega arith in
+      ap (slashes n) (drop-cons s i 0 h)
+      ∙ (ap (λ (t : Bool). slashes (n + cond t 1 0) (drop (suc i) s)) (eq-eqb _ _ e) ∙ ap (λ (j : ℕ). slashes (n + 1) (drop j s)) next)
+
+  pub no_slash_here : (get_or s i 0 ≡ 47 → ⊥) → slashes n (drop i s) ≡ slashes n (drop (i + 1) s)
+  no_slash_here e =
+      ap (slashes n) (drop-cons s i 0 h)
+      ∙ (ap (λ (t : Bool). slashes (n + cond t 1 0) (drop (suc i) s)) (ne_eqb _ _ e) ∙ rw (add-zero n, add-one) refl)
+
+pub slashes_over : (s : Octets) (i n : ℕ) → length s ≤ i → slashes n (drop i s) ≡ n
+slashes_over s i n h = rw (drop_of_length-le s h) refl
 
 split_slashes : (s : Octets) → length (split s) ≡ count_by (λ b. eqb b 47) s + 1
 split_slashes s = ap length (sym (pieces_split s)) ∙ length-slice_split (λ b. eqb b 47) s
