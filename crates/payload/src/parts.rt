@@ -44,7 +44,8 @@ fn after_one(s: &[u8], a: usize, rest: Cursor) -> Parts
     }
 }
 
-// The strings of a payload, if they are one, two or three.
+// The strings of a payload, if they are one, two or three. Not inlined, so that the loops over a long payload have the registers to themselves.
+#[inline(never)]
 pub fn apart(s: &[u8]) -> Parts
     ensures { result ≡ parts_of (strings s.now) }
 {
