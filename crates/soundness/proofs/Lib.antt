@@ -1,5 +1,6 @@
 pub mod Tests
 pub mod EntryLaws
+pub mod LoneEntry
 pub mod NameLaws
 pub mod SlotLaws
 pub mod KeptNames
